@@ -1,0 +1,116 @@
+-- Job A of document 01 and its neighbours: checks of the definitions.
+-- Assumes nothing.
+use Prim.Native.Nat.{ℕ}
+use mathlib.Core.Path.{_≡_, refl}
+use mathlib.Core.Option.{none, some}
+use mathlib.Core.List.{List, [], _∷_}
+use lib.IntN.{pos, negsuc}
+use Rattle.model.specs.Job.{Coding, Levels, Job, Entry}
+use Rattle.model.specs.Levels.{effectiveBuffers}
+use Rattle.model.specs.Pins.{PinMap, no-pins, Call, pin, lift, pins-after, answers, pin-totals}
+use Rattle.model.specs.Admissible.{decoder-underflow, decoder-overflow, Ending, ending}
+use Rattle.model.specs.Replay.{totals, clean, stopped, Replay, replay}
+use Rattle.model.specs.Best.{late, least-total, best-plan}
+use Rattle.model.specs.Table.{words}
+use Rattle.model.specs.Evaluate.{evaluate}
+
+abbrev codes : ℕ → ℕ → Coding
+codes g d = record { size = g; distortion = d }
+
+abbrev filled : ℕ → ℕ → Levels
+filled b l = record { decoder = b; buckets = l ∷ [] }
+
+abbrev job-a : Job
+job-a = record {
+  delay = 1;
+  line = record { decoder = 4; buckets = record { size = 3; drain = 2 } ∷ []; rates = 0 ∷ 2 ∷ 4 ∷ [] };
+  start = filled 0 0;
+  choices = 2;
+  units = (codes 4 10 ∷ codes 2 30 ∷ []) ∷ (codes 5 12 ∷ codes 2 40 ∷ []) ∷ [];
+}
+
+-- three entries, of which the first decodes nothing
+abbrev plan : ℕ → ℕ → ℕ → ℕ → ℕ → List Entry
+plan a b x c y = record { rate = a; choice = none } ∷ record { rate = b; choice = some x } ∷ record { rate = c; choice = some y } ∷ []
+
+abbrev replayed : List Entry → Replay
+replayed p = replay job-a (no-pins 2) 0 (job-a .start) p
+
+abbrev ends-with : List Entry → ℕ → Ending
+ends-with p n = ending job-a (no-pins 2) 0 (job-a .start) p n
+
+abbrev pins : List Call → PinMap
+pins calls = pins-after 2 (no-pins 2) calls
+
+abbrev best : PinMap → List Entry
+best m = best-plan job-a m 0 (job-a .start) late
+
+-- the plan that document 01 prints
+printed-best : best (no-pins 2) ≡ plan 1 1 1 2 0
+unfolding evaluate
+printed-best = refl
+
+printed-replayed : replayed (plan 1 1 1 2 0) ≡ record { levels = filled 2 0 ∷ filled 2 0 ∷ filled 1 2 ∷ []; result = clean }
+unfolding evaluate
+printed-replayed = refl
+
+printed-totals : totals job-a 0 (plan 1 1 1 2 0) ≡ record { distortion = 42; source = 7; channel = 8 }
+unfolding evaluate
+printed-totals = refl
+
+-- (6): what one interval sends, since the delay is 1
+printed-buffers : effectiveBuffers job-a (plan 1 1 1 2 0) ≡ 2 ∷ 2 ∷ 4 ∷ []
+unfolding evaluate
+printed-buffers = refl
+
+printed-words : words job-a ≡ 80
+unfolding evaluate
+printed-words = refl
+
+-- unit 1 pinned at 0, then lifted
+pinned-best : best (pins (pin 1 0 ∷ [])) ≡ plan 0 2 0 1 1
+unfolding evaluate
+pinned-best = refl
+
+pinned-totals : totals job-a 0 (plan 0 2 0 1 1) ≡ record { distortion = 50; source = 6; channel = 6 }
+unfolding evaluate
+pinned-totals = refl
+
+lifted-best : best (pins (pin 1 0 ∷ lift 1 ∷ [])) ≡ plan 1 1 1 2 0
+unfolding evaluate
+lifted-best = refl
+
+pinned-sums : pin-totals job-a (pins (pin 1 0 ∷ pin 2 1 ∷ [])) ≡ record { count = 2; size = 6; distortion = 50 }
+unfolding evaluate
+pinned-sums = refl
+
+lifted-sums : pin-totals job-a (pins (pin 1 0 ∷ lift 1 ∷ [])) ≡ record { count = 0; size = 0; distortion = 0 }
+unfolding evaluate
+lifted-sums = refl
+
+-- both units pinned at 0
+none-left : least-total job-a (pins (pin 1 0 ∷ pin 2 0 ∷ [])) 0 (job-a .start) ≡ none
+unfolding evaluate
+none-left = refl
+
+refusals : answers 2 (no-pins 2) (lift 1 ∷ pin 0 0 ∷ pin 3 0 ∷ pin 3 2 ∷ pin 1 2 ∷ pin 1 1 ∷ pin 1 0 ∷ []) ≡ some 10 ∷ some 7 ∷ some 7 ∷ some 7 ∷ some 8 ∷ none ∷ some 9 ∷ []
+unfolding evaluate
+refusals = refl
+
+-- interval 2: decoder over (6), though the bucket is over too (4)
+over-replayed : replayed (plan 2 2 1 0 0) ≡ record { levels = filled 4 2 ∷ []; result = stopped 2 decoder-overflow }
+unfolding evaluate
+over-replayed = refl
+
+over-levels : ends-with (plan 2 2 1 0 0) 2 ≡ record { decoder = pos 6; buckets = 4 ∷ []; pinned = none; choice = some 1 }
+unfolding evaluate
+over-levels = refl
+
+-- interval 2: decoder short, by 2
+short-replayed : replayed (plan 0 0 1 0 1) ≡ record { levels = filled 0 0 ∷ []; result = stopped 2 decoder-underflow }
+unfolding evaluate
+short-replayed = refl
+
+short-levels : ends-with (plan 0 0 1 0 1) 2 ≡ record { decoder = negsuc 1; buckets = 0 ∷ []; pinned = none; choice = some 1 }
+unfolding evaluate
+short-levels = refl

@@ -1,0 +1,40 @@
+-- A step without a violation leads from a state of a layer to a state of the next: `layer-closed`.
+-- Assumes nothing.
+use Prim.Native.Nat.{ℕ, suc, _≤_}
+use mathlib.Core.Path.{_≡_, refl, ap}
+use mathlib.Core.List.{List, [], _∷_, zipWith}
+use native.Mathlib.Omega.{arith}
+use lib.ListN.{length}
+use lib.IntN.{ℤ, pos}
+use Rattle.trellis.specs.Table.{Closed}
+use Rattle.model.specs.Job.{Bucket, Line, Levels, Job, sends, takes, intervals}
+use Rattle.model.specs.Pins.{PinMap, pinAt}
+use Rattle.model.specs.Admissible.{InRange, in-range, Ending, Sound, Shows}
+use Rattle.model.specs.Step.{reaches, poured, outcome}
+use Rattle.model.specs.Best.{Order, trellis-of}
+use Rattle.model.specs.Table.{InLayer}
+use Rattle.model.proofs.Outcome.{Judged, good, outcome-judged}
+use Rattle.model.proofs.Walks.{reached-some}
+
+judged-good : {line : Line} {x : Ending} {u : Levels} → Judged line x (reaches u) → Sound line x × Shows x u
+judged-good (good s h) = (s, h)
+
+shown-within : {top b : ℕ} {z : ℤ} → InRange top z → pos b ≡ z → b ≤ top
+shown-within {top} {b} (in-range {b = a} h) e = let q : b ≡ a = cc in omega arith
+
+poured-count : (c : ℕ) (ks : List Bucket) (ls : List ℕ) → length ls ≡ length ks → length (poured c ks ls) ≡ length ks
+unfolding poured zipWith
+poured-count c [] ls h = refl
+poured-count c (k ∷ ks) [] h = absurd (omega arith)
+poured-count c (k ∷ ks) (l ∷ ls) h = ap suc (poured-count c ks ls (omega arith))
+
+pub layer-closed : (j : Job) (m : PinMap) (o : Order) → Closed (trellis-of j m o) (intervals j) (λ t s. InLayer (j .line) s)
+unfolding trellis-of outcome
+layer-closed j m o t s u e h a l k =
+    let f = outcome-judged (j .line) (pinAt j m (suc t)) (e .choice) (s .decoder) (s .buckets) (sends j e) (takes j (suc t) e) in
+    let r = judged-good (rw (reached-some (outcome j m (suc t) s e) u k) at f) in
+    record {
+      decoder = shown-within (r .0 .decoder) (r .1 .decoder);
+      count = rw (r .1 .buckets) (poured-count (sends j e) (j .line .buckets) (s .buckets) (a .count));
+      buckets = rw (r .1 .buckets) (r .0 .buckets);
+    }

@@ -1,0 +1,83 @@
+-- What is asked of a plan: the levels of the equations in range and the pins held, and which limit is violated first. Nothing here knows replay or search.
+-- Assumes nothing.
+use Prim.Native.Nat.{ℕ, suc, _+_, _<_, _≤_}
+use mathlib.Core.Path.{_≡_}
+use mathlib.Core.Option.{Option}
+use mathlib.Core.List.{List, []}
+use lib.ListN.{length, getD}
+use lib.IntN.{ℤ, pos, negsuc}
+use Rattle.model.specs.Job.{Bucket, Line, bucketAt, Levels, Job, Entry, PlanFits}
+use Rattle.model.specs.Levels.{entryOf, decoderLevel, bucketLevels}
+use Rattle.model.specs.Pins.{PinMap, pinAt, PinHeld}
+
+-- document 01's breaches, in the order in which it tests them: decoder short, decoder over, bucket over (which one, from 0), pin not held
+pub data Violation : Type 0 where
+  decoder-underflow decoder-overflow : Violation
+  bucket-overflow : ℕ → Violation
+  pin-not-held : Violation
+
+-- a decoder level, with its sign and after the unit has left as in (9), lies in 0 to top
+pub data InRange (top : ℕ) : ℤ → Type 0 where
+  in-range : {b : ℕ} → b ≤ top → InRange top (pos b)
+
+-- the i-th bucket holds at most its size
+abbrev pub Within : List Bucket → List ℕ → ℕ → Type 0
+Within ks ls i = getD ls i 0 ≤ bucketAt ks i .size
+
+abbrev pub AllWithin : List Bucket → List ℕ → Type 0
+AllWithin ks ls = (i : ℕ) → i < length ks → Within ks ls i
+
+-- what an interval ends with: the levels, the pin that bears on it and the choice that it makes
+pub record Ending : Type 0 where
+  pub decoder : ℤ
+  pub buckets : List ℕ
+  pub pinned : Option ℕ
+  pub choice : Option ℕ
+
+module _ (line : Line) (x : Ending) where
+  -- the levels are in range and the pin is held
+  pub record Sound : Type 0 where
+    pub decoder : InRange (line .decoder) (x .decoder)
+    pub buckets : AllWithin (line .buckets) (x .buckets)
+    pub pin : PinHeld (x .pinned) (x .choice)
+
+  -- what is violated first, in document 01's order
+  pub data Violates : Violation → Type 0 where
+    short : {b : ℕ} → x .decoder ≡ negsuc b → Violates decoder-underflow
+    over : {b : ℕ} → x .decoder ≡ pos b → line .decoder < b → Violates decoder-overflow
+    bucket : {i : ℕ} → InRange (line .decoder) (x .decoder) → i < length (line .buckets) → ((k : ℕ) → k < i → Within (line .buckets) (x .buckets) k) → (Within (line .buckets) (x .buckets) i → ⊥) → Violates (bucket-overflow i)
+    unpinned : InRange (line .decoder) (x .decoder) → AllWithin (line .buckets) (x .buckets) → (PinHeld (x .pinned) (x .choice) → ⊥) → Violates pin-not-held
+
+-- written levels are those of an interval's end
+pub record Shows (x : Ending) (l : Levels) : Type 0 where
+  pub decoder : pos (l .decoder) ≡ x .decoder
+  pub buckets : l .buckets ≡ x .buckets
+
+module _ (j : Job) (m : PinMap) (s : ℕ) (start : Levels) (p : List Entry) where
+  -- what the n-th interval ends with, by the equations
+  unfoldable pub ending : ℕ → Ending
+  ending n = record {
+    decoder = decoderLevel j s p (start .decoder) n;
+    buckets = bucketLevels j s p (j .line .buckets) (start .buckets) n;
+    pinned = pinAt j m (s + n);
+    choice = entryOf p n .choice;
+  }
+
+  -- the first n intervals are sound
+  abbrev pub SoundFor : ℕ → Type 0
+  SoundFor n = (k : ℕ) → k < n → Sound (j .line) (ending (suc k))
+
+  -- a plan in shape of which every interval is sound (document 01: no interval has a breach, and every pinned unit has its pinned choice)
+  pub record Admissible : Type 0 where
+    pub shaped : PlanFits j s p
+    pub sound : SoundFor (length p)
+
+  -- n intervals violate nothing, and v is the first limit that the next violates
+  pub record FirstViolation (n : ℕ) (v : Violation) : Type 0 where
+    pub counted : n < length p
+    pub before : SoundFor n
+    pub here : Violates (j .line) (ending (suc n)) v
+
+  -- the levels written, interval after interval, are those of the equations
+  abbrev pub LevelsOf : List Levels → Type 0
+  LevelsOf ls = (n : ℕ) → n < length ls → Shows (ending (suc n)) (getD ls n (record { decoder = 0; buckets = [] }))

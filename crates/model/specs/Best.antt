@@ -1,0 +1,67 @@
+-- The best plan: the trellis of a job with its pins, for the theory of the crate `trellis` (document 01, "The best plan").
+-- Assumes nothing.
+use Prim.Native.Nat.{ℕ, _+_, _-_, _<_}
+use mathlib.Core.Path.{_≡_}
+use mathlib.Core.Logic.{_⊎_}
+use mathlib.Core.Option.{Option, none, some}
+use mathlib.Core.List.{List, map}
+use lib.Dec.{leb}
+use lib.ListN.{length}
+use Rattle.trellis.specs.Trellis.{Trellis, least, best}
+use Rattle.trellis.specs.Pairs.{Pair, rising}
+use Rattle.model.specs.If.{if_then_else_}
+use Rattle.model.specs.Job.{Levels, Job, Entry, distorts, intervals}
+use Rattle.model.specs.Pins.{PinMap}
+use Rattle.model.specs.Step.{Outcome, violates, reaches, outcome}
+
+-- which of two plans of equal distortion is preferred at their first difference. `late` is document 01's: the smaller rate index, so that grains go out late
+pub data Order : Type 0 where
+  late : Order
+
+abbrev pub RateBefore : Order → ℕ → ℕ → Type 0
+RateBefore late a b = a < b
+
+pub data ChoiceBefore : Option ℕ → Option ℕ → Type 0 where
+  smaller : {x y : ℕ} → x < y → ChoiceBefore (some x) (some y)
+
+-- a's rate index wins, or the rates are one and a's choice index is the smaller
+abbrev pub Before : Order → Entry → Entry → Type 0
+Before o a b = RateBefore o (a .rate) (b .rate) ⊎ ((a .rate ≡ b .rate) × ChoiceBefore (a .choice) (b .choice))
+
+-- the pairs of a rate index and a choice index, in the order
+unfoldable pub pairs : Order → ℕ → ℕ → List Pair
+pairs late rates choices = rising rates choices
+
+-- the entry of a pair in interval t
+unfoldable pub entry : Job → ℕ → Pair → Entry
+entry j t a = record { rate = a .outer; choice = if leb t (j .delay) then none else some (a .inner) }
+
+-- how many choices interval t has: one, of no unit, up to the delay
+unfoldable pub width : Job → ℕ → ℕ
+width j t = if leb t (j .delay) then 1 else j .choices
+
+-- the entries in range of interval t, in the order
+unfoldable pub entries : Order → Job → ℕ → List Entry
+entries o j t = map (entry j t) (pairs o (length (j .line .rates)) (width j t))
+
+unfoldable pub reached : Outcome → Option Levels
+reached (violates v) = none
+reached (reaches s) = some s
+
+-- states are levels, moves are entries, a step is an interval without a violation, costs are distortions
+unfoldable pub trellis-of : Job → PinMap → Order → Trellis Levels Entry
+trellis-of j m o = record {
+  moves = entries o j;
+  step = λ t s e. reached (outcome j m t s e);
+  cost = λ t e. distorts j t e;
+}
+
+-- of the plans for the intervals after s, from the levels there
+module _ (j : Job) (m : PinMap) (s : ℕ) (start : Levels) where
+  -- the least total distortion, or none
+  unfoldable pub least-total : Option ℕ
+  least-total = least (trellis-of j m late) _+_ (intervals j - s) s start
+
+  -- the plan with the least total distortion that is first in the order
+  unfoldable pub best-plan : Order → List Entry
+  best-plan o = best (trellis-of j m o) _+_ (intervals j - s) s start

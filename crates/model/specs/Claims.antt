@@ -1,0 +1,81 @@
+-- What is claimed of the definitions: each claim is a type, which a theorem of proofs/ inhabits. `Admissible` knows neither replay nor search.
+-- A plan here is the entries of the intervals after interval s, from the levels `start` there; s is 0 for a whole job.
+-- Assumes nothing.
+use Prim.Native.Nat.{ℕ, suc, _+_, _*_, _<_, _≤_}
+use mathlib.Core.Path.{_≡_}
+use mathlib.Core.Logic.{_↔_}
+use mathlib.Core.Option.{Option, none, some}
+use mathlib.Core.List.{List, [], _∷_}
+use lib.ListN.{length, getD}
+use Rattle.trellis.specs.Table.{first-at, marked-offer}
+use Rattle.trellis.specs.Trellis.{NoLater}
+use Rattle.model.specs.Job.{Bucket, Levels, Job, Entry, distorts, intervals, PlanFits}
+use Rattle.model.specs.Pins.{PinMap}
+use Rattle.model.specs.Admissible.{Violation, SoundFor, Admissible, FirstViolation, LevelsOf}
+use Rattle.model.specs.Step.{reaches, outcome}
+use Rattle.model.specs.Replay.{Replay, clean, stopped, replay, totals}
+use Rattle.model.specs.Best.{Order, Before, entries, trellis-of, least-total, best-plan}
+use Rattle.model.specs.Table.{mark, bound, InLayer, words, wordAt, IsTable, FollowsRule, Bounded}
+
+-- of the plans in a set, p has the least total distortion, and of those with as little none comes before it
+pub record BestOf (j : Job) (s : ℕ) (o : Order) (Among : List Entry → Type 0) (p : List Entry) : Type 0 where
+  pub among : Among p
+  pub least-of-all : (q : List Entry) → Among q → totals j s p .distortion ≤ totals j s q .distortion
+  pub first-of-these : (q : List Entry) → Among q → totals j s q .distortion ≡ totals j s p .distortion → NoLater (Before o) p q
+
+module _ (j : Job) (m : PinMap) (s : ℕ) (start : Levels) where
+  -- r is the replay of p: the levels that it writes are those of (16) and (17)
+  pub record ReplayClaim (p : List Entry) (r : Replay) : Type 0 where
+    pub levels : LevelsOf j m s start p (r .levels)
+    -- it is clean exactly where every level is in range and every pin held, and then it has written every interval's levels
+    pub clean-iff : (r .result ≡ clean) ↔ SoundFor j m s start p (length p)
+    pub clean-whole : r .result ≡ clean → length (r .levels) ≡ length p
+    -- of the plans in shape, it is clean exactly for the admissible ones
+    pub admissible-iff : PlanFits j s p → (r .result ≡ clean) ↔ Admissible j m s start p
+    -- it stops and names an interval and a violation exactly where these are the first, and has written the levels of the intervals before
+    pub stopped-iff : (n : ℕ) (v : Violation) → (r .result ≡ stopped (s + suc n) v) ↔ FirstViolation j m s start p n v
+    pub stopped-after : (t : ℕ) (v : Violation) → r .result ≡ stopped t v → t ≡ s + suc (length (r .levels))
+
+  -- the least total is none exactly where no plan is admissible; else it is the distortion of `best-plan`, which is the best of the admissible plans
+  pub record PlanningClaim (o : Order) : Type 0 where
+    pub none-iff : (least-total j m s start ≡ none) ↔ ((p : List Entry) → Admissible j m s start p → ⊥)
+    pub best-is : (v : ℕ) → least-total j m s start ≡ some v → BestOf j s o (Admissible j m s start) (best-plan j m s start o)
+    pub its-distortion : (v : ℕ) → least-total j m s start ≡ some v → totals j s (best-plan j m s start o) .distortion ≡ v
+
+-- a plan is read off the table: its first entry is the first that offers the state's word v by way of the next layer, and the rest is the best plan from the levels which that entry reaches
+pub record ReadOffClaim (j : Job) (m : PinMap) (o : Order) (table : List ℕ) (t : ℕ) (s : Levels) (v : ℕ) : Type 0 where
+  pub entry : Entry
+  pub end : Levels
+  pub first : first-at (marked-offer (trellis-of j m o) _+_ mark bound t (wordAt j table (suc t)) s) v (entries o j (suc t)) ≡ some entry
+  pub reached : outcome j m (suc t) s entry ≡ reaches end
+  pub adds : (w : ℕ) × (least-total j m (suc t) end ≡ some w) × (distorts j (suc t) entry + w ≡ v)
+  pub rest : best-plan j m t s o ≡ entry ∷ best-plan j m (suc t) end o
+
+-- how many words the table has and where a state's word stands, with one bucket, as document 01 writes it
+pub record OneBucket (j : Job) (k : Bucket) : Type 0 where
+  pub count : words j ≡ (intervals j + 1) * (j .line .decoder + 1) * (k .size + 1)
+  pub word : (table : List ℕ) (t b l : ℕ) → wordAt j table t (record { decoder = b; buckets = l ∷ [] }) ≡ getD table ((t * (j .line .decoder + 1) + b) * (k .size + 1) + l) 0
+
+-- The claims.
+
+-- demand 2
+abbrev pub DemandTwo : Type 0
+DemandTwo = (j : Job) (m : PinMap) (s : ℕ) (start : Levels) (p : List Entry) → ReplayClaim j m s start p (replay j m s start p)
+
+-- demand 3, of the definitions
+abbrev pub Planning : Type 0
+Planning = (j : Job) (m : PinMap) (s : ℕ) (start : Levels) (o : Order) → s ≤ intervals j → PlanningClaim j m s start o
+
+-- "the" best plan: a set has at most one
+abbrev pub OneBest : (List Entry → Type 0) → Type 0
+OneBest Among = (j : Job) (s : ℕ) (o : Order) (p q : List Entry) → BestOf j s o Among p → BestOf j s o Among q → p ≡ q
+
+-- a table that follows the rule of a layer holds the least distortion of every state
+abbrev pub TableLaw : Type 0
+TableLaw = (j : Job) (m : PinMap) (table : List ℕ) → Bounded j → FollowsRule j m table → IsTable j m table
+
+abbrev pub ReadOff : Type 0
+ReadOff = (j : Job) (m : PinMap) (o : Order) (table : List ℕ) (t : ℕ) (s : Levels) (v : ℕ) → Bounded j → IsTable j m table → t < intervals j → InLayer (j .line) s → least-total j m t s ≡ some v → ReadOffClaim j m o table t s v
+
+abbrev pub WordsOfOne : Type 0
+WordsOfOne = (j : Job) (k : Bucket) → j .line .buckets ≡ k ∷ [] → OneBucket j k

@@ -1,0 +1,12 @@
+-- Document 01 as mathematics: what a reader must believe. What is claimed of it is stated in `Claims` and proved in proofs/.
+pub mod If
+pub mod Job
+pub mod Levels
+pub mod Pins
+pub mod Admissible
+pub mod Step
+pub mod Replay
+pub mod Best
+pub mod Table
+pub mod Claims
+pub mod Evaluate
