@@ -1,0 +1,67 @@
+-- What a well-formed job's values keep to, index by index: `Limited`.
+-- Assumes nothing.
+use Prim.Native.Nat.{ℕ, zero, suc, _+_, _≤_, _<_}
+use mathlib.Core.Path.{_≡_}
+use mathlib.Core.List.{List, [], _∷_}
+use native.Mathlib.Omega.{arith}
+use lib.ListN.{length, getD}
+use Rattle.model.specs.Job.{Coding, Job, nothing, codingAt}
+use Rattle.model.specs.Table.{Bounded}
+use Rattle.format.specs.Limits.{AllKept}
+use Rattle.format.specs.Parser.{Each}
+use Rattle.format.specs.Parser as P
+use Rattle.format.specs.JobBytes.{rate-limits, coding-limits, header-in, UnitKept, WellFormed}
+use Rattle.format.specs.Claims.{Limited}
+
+module _ (low : ℕ) where
+  rate-low : (rs : List ℕ) → AllKept (rate-limits low rs) → 0 < length rs → low ≤ getD rs 0 0
+  rate-low [] k h = absurd (omega arith)
+  rate-low (r ∷ rs) k h = omega arith
+
+rate-most-from : (low : ℕ) (rs : List ℕ) → AllKept (rate-limits low rs) → (y : ℕ) → y < length rs → getD rs y 0 ≤ 4095
+rate-most-from low [] k y h = absurd (omega arith)
+rate-most-from low (r ∷ rs) k zero h = omega arith
+rate-most-from low (r ∷ rs) k (suc y) h = rate-most-from (suc r) rs (k .1) y (omega arith)
+
+rising-from : (low : ℕ) (rs : List ℕ) → AllKept (rate-limits low rs) → (y : ℕ) → y + 1 < length rs → getD rs y 0 < getD rs (suc y) 0
+rising-from low [] k y h = absurd (omega arith)
+rising-from low (r ∷ rs) k zero h = rate-low (suc r) rs (k .1) (omega arith)
+rising-from low (r ∷ rs) k (suc y) h = rising-from (suc r) rs (k .1) y (omega arith)
+
+record CodingKept (c : Coding) : Type 0 where
+  size : c .size ≤ 4095
+  distortion : c .distortion ≤ 1000000
+
+coding-kept : (u : List Coding) → AllKept (coding-limits u) → (x : ℕ) → x < length u → CodingKept (getD u x nothing)
+coding-kept [] k x h = absurd (omega arith)
+coding-kept (c ∷ u) k zero h = record { size = omega arith; distortion = omega arith }
+coding-kept (c ∷ u) k (suc x) h = coding-kept u (k .1 .1) x (omega arith)
+
+each-at : {A : Type 0} {Q : A → Type 0} (l : List A) (d : A) → Each Q l → (i : ℕ) → i < length l → Q (getD l i d)
+each-at [] d t i h = absurd (omega arith)
+each-at (a ∷ l) d (P.one-more q t) zero h = q
+each-at (a ∷ l) d (P.one-more q t) (suc i) h = each-at l d t i (omega arith)
+
+pub limited : Limited
+unfolding header-in codingAt
+limited j w =
+    let k = w .header in
+    let unit : (i : ℕ) → i < length (j .units) → UnitKept (j .choices) (getD (j .units) i []) = λ i h. each-at (j .units) [] (w .units) i h in
+    let kept : (i x : ℕ) → i < length (j .units) → x < j .choices → CodingKept (getD (getD (j .units) i []) x nothing) = λ i x h l. coding-kept (getD (j .units) i []) (unit i h .limits) x (omega (arith, unit i h .count)) in
+    record {
+      units = (omega arith, omega arith);
+      delay = omega arith;
+      decoder = omega arith;
+      start = omega arith;
+      rates = (omega arith, omega arith);
+      choices = (omega arith, omega arith);
+      rate = rate-most-from 0 (j .line .rates) (w .rates);
+      rise = rising-from 0 (j .line .rates) (w .rates);
+      codings = λ i h. unit i h .count;
+      sizes = λ i x h l. kept i x h l .size;
+      distortions = λ i x h l. kept i x h l .distortion;
+    }
+
+-- what the table law asks of a job
+pub bounded : (j : Job) → WellFormed j → Bounded j
+bounded j w = let l = limited j w in record { units = l .units .1; distortions = l .distortions }

@@ -1,0 +1,40 @@
+-- Laws of little-endian fields.
+-- Assumes nothing.
+use Prim.Native.Nat.{ℕ, zero, suc, _+_, _*_, _≤_, _<_}
+use mathlib.Core.Path.{_≡_, _∙_}
+use mathlib.Core.List.{List, [], _∷_}
+use native.Mathlib.Omega.{arith}
+use native.Mathlib.Nat.{mul-zero, mul-suc, add-zero}
+use lib.ListN.{length, getD, take, drop, replicate, length-drop}
+use lib.Seq.{drop-drop, getD-drop}
+use Rattle.format.specs.Fields.{number, fields}
+
+two-of : (l : List ℕ) → 2 ≤ length l → number (take 2 l) ≡ getD l 0 0 + 256 * getD l 1 0
+unfolding number
+two-of [] h = absurd (omega arith)
+two-of (x ∷ []) h = absurd (omega arith)
+two-of (x ∷ y ∷ l) h = omega arith
+
+four-of : (l : List ℕ) → 4 ≤ length l → number (take 4 l) ≡ number (take 2 l) + 65536 * number (take 2 (drop 2 l))
+unfolding number
+four-of [] h = absurd (omega arith)
+four-of (x ∷ []) h = absurd (omega arith)
+four-of (x ∷ y ∷ []) h = absurd (omega arith)
+four-of (x ∷ y ∷ z ∷ []) h = absurd (omega arith)
+four-of (x ∷ y ∷ z ∷ w ∷ l) h = omega arith
+
+-- two bytes at a place, and four as two pairs
+pub two-at : (l : List ℕ) (at : ℕ) → at + 2 ≤ length l → number (take 2 (drop at l)) ≡ getD l at 0 + 256 * getD l (at + 1) 0
+two-at l at h = two-of (drop at l) (rw length-drop (omega arith)) ∙ simp (getD-drop, add-zero)
+
+pub four-at : (l : List ℕ) (at : ℕ) → at + 4 ≤ length l → number (take 4 (drop at l)) ≡ number (take 2 (drop at l)) + 65536 * number (take 2 (drop (at + 2) l))
+four-at l at h = four-of (drop at l) (rw length-drop (omega arith)) ∙ rw drop-drop
+
+-- the i-th of fields of one width
+pub nth-field : (n w i : ℕ) (b : List ℕ) → i < n → getD (fields (replicate n w) b) i 0 ≡ number (take w (drop (w * i) b))
+unfolding fields
+nth-field zero w i b h = absurd (omega arith)
+nth-field (suc n) w zero b h = rw mul-zero
+nth-field (suc n) w (suc i) b h =
+    let e : w + w * i ≡ w * suc i = omega (arith, mul-suc w i) in
+    nth-field n w i (drop w b) (omega arith) ∙ rw (drop-drop, e)

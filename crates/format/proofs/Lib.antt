@@ -1,0 +1,12 @@
+-- What is proved of the definitions, for the proofs of crates that name this one.
+pub mod Fields
+pub mod Limits
+pub mod Records
+pub mod Parsing
+pub mod Header
+pub mod Spelling
+pub mod Exact
+pub mod RoundTrip
+pub mod Bounds
+pub mod Places
+pub mod Examples

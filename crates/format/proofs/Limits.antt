@@ -1,0 +1,89 @@
+-- Laws of limits: the tests against the inequalities.
+-- Assumes nothing.
+use Prim.Native.Nat.{ℕ, _≤_}
+use mathlib.Core.Path.{_≡_, refl, sym, ap, _∙_}
+use mathlib.Core.Bool.{Bool, true, false}
+use mathlib.Core.Option.{Option, none, some}
+use mathlib.Core.List.{List, [], _∷_}
+use native.Mathlib.Omega.{arith}
+use borrow.Author.Tests.{leb-true, le-leb}
+use lib.Dec.{leb}
+use Rattle.model.specs.If.{if_then_else_}
+use Rattle.format.specs.Limits.{Limit, limit, kept, broken, AllKept}
+
+abbrev pub Kept : Limit → Type 0
+Kept l = (l .low ≤ l .value) × (l .value ≤ l .high)
+
+pub not-true : {A : Type 0} → false ≡ true → A
+not-true e = let z : _≡_ {A = ℕ} 0 1 = cc in absurd (omega arith)
+
+pub is-kept : (l : Limit) → Kept l → kept l ≡ true
+unfolding kept if_then_else_
+is-kept l h = simp (le-leb (l .low) (l .value) (h .0), le-leb (l .value) (l .high) (h .1))
+
+of-kept-by : (a b c : ℕ) (s t : Bool) → leb a b ≡ s → leb b c ≡ t → (if s then t else false) ≡ true → (a ≤ b) × (b ≤ c)
+unfolding if_then_else_
+of-kept-by a b c true true p q e = (leb-true a b p, leb-true b c q)
+of-kept-by a b c true false p q e = not-true e
+of-kept-by a b c false t p q e = not-true e
+
+pub of-kept : (l : Limit) → kept l ≡ true → Kept l
+unfolding kept
+of-kept l e = of-kept-by (l .low) (l .value) (l .high) (leb (l .low) (l .value)) (leb (l .value) (l .high)) refl refl e
+
+not-kept-by : (l : Limit) (s : Bool) → kept l ≡ s → (Kept l → ⊥) → kept l ≡ false
+not-kept-by l true e g = absurd (g (of-kept l e))
+not-kept-by l false e g = e
+
+pub not-kept : (l : Limit) → (Kept l → ⊥) → kept l ≡ false
+not-kept l g = not-kept-by l (kept l) refl g
+
+pub of-not-kept : (l : Limit) → kept l ≡ false → Kept l → ⊥
+of-not-kept l e h = not-true (sym e ∙ is-kept l h)
+
+-- one limit in front
+pub broken-step : (l : Limit) (ls : List Limit) → kept l ≡ true → broken (l ∷ ls) ≡ broken ls
+unfolding broken if_then_else_
+broken-step l ls e = rw e
+
+pub broken-here : (l : Limit) (ls : List Limit) → kept l ≡ false → broken (l ∷ ls) ≡ some (l .refusal)
+unfolding broken if_then_else_
+broken-here l ls e = rw e
+
+pub none-broken : (ls : List Limit) → AllKept ls → broken ls ≡ none
+none-broken [] h = unfold broken in refl
+none-broken (l ∷ ls) h = broken-step l ls (is-kept l (h .0)) ∙ none-broken ls (h .1)
+
+pub not-some : {A : Type 0} {n : ℕ} → _≡_ {A = Option ℕ} (some n) none → A
+not-some e = let z : _≡_ {A = ℕ} 0 1 = cc in absurd (omega arith)
+
+pub all-kept : (ls : List Limit) → broken ls ≡ none → AllKept ls
+all-kept [] e = tt
+all-kept (l ∷ ls) e = go (kept l) refl (λ f. all-kept ls f)
+  where
+    go : (t : Bool) → kept l ≡ t → (broken ls ≡ none → AllKept ls) → AllKept (l ∷ ls)
+    go true k r = (of-kept l k, r (sym (broken-step l ls k) ∙ e))
+    go false k r = not-some (sym (broken-here l ls k) ∙ e)
+
+-- every limit has the same refusal
+abbrev pub AllOf : ℕ → List Limit → Type 0
+AllOf k [] = Unit {0}
+AllOf k (l ∷ ls) = (l .refusal ≡ k) × AllOf k ls
+
+pub broken-one : (k : ℕ) (ls : List Limit) → AllOf k ls → (AllKept ls → ⊥) → broken ls ≡ some k
+broken-one k [] a g = absurd (g tt)
+broken-one k (l ∷ ls) a g = go (kept l) refl (λ f. broken-one k ls (a .1) f)
+  where
+    go : (t : Bool) → kept l ≡ t → ((AllKept ls → ⊥) → broken ls ≡ some k) → broken (l ∷ ls) ≡ some k
+    go true e r = broken-step l ls e ∙ r (λ h. g (of-kept l e, h))
+    go false e r = broken-here l ls e ∙ ap some (a .0)
+
+-- a value that is not too large is kept if it is large enough
+if-same : (t : Bool) → (if t then true else false) ≡ t
+unfolding if_then_else_
+if-same true = refl
+if-same false = refl
+
+pub kept-under : (l : Limit) → l .value ≤ l .high → leb (l .low) (l .value) ≡ kept l
+unfolding kept
+kept-under l h = rw (le-leb (l .value) (l .high) h) (sym (if-same (leb (l .low) (l .value))))

@@ -1,0 +1,189 @@
+-- What stands where in the bytes of a job that opens: `LooksUp`.
+-- Assumes nothing.
+use Prim.Native.Nat.{ℕ, zero, suc, _+_, _*_, _-_, _≤_, _<_}
+use mathlib.Core.Path.{_≡_, refl, sym, ap, ap₂, _∙_}
+use mathlib.Core.List.{List, []}
+use native.Mathlib.Omega.{arith}
+use native.Mathlib.Nat.{suc-mul, zero-mul}
+use borrow.Author.Tests.{le-leb}
+use lib.ListN.{length, getD, take, drop, replicate, length-drop, length-replicate}
+use lib.Seq.{drop-drop}
+use Rattle.model.specs.If.{if_then_else_}
+use Rattle.model.specs.Job.{Coding, Job, nothing, codingAt}
+use Rattle.format.specs.Fields.{number, total, fields}
+use Rattle.format.specs.Parser.{took, Parser, many}
+use Rattle.format.specs.Records.{Form, record-due}
+use Rattle.format.specs.JobBytes.{Header, header-of, codings, entry-widths, header-form, rates-form, unit-form, job-of, header-in, header-parser, unit-parser, parse}
+use Rattle.format.specs.Places.{field-at, header-size, rates-size, unit-size, rate-place, rate-at, coding-place, coding-at}
+use Rattle.format.specs.Claims.{LookedUp, LooksUp}
+use Rattle.format.proofs.Fields.{nth-field}
+use Rattle.format.proofs.Records.{total-same, total-entries}
+use Rattle.format.proofs.Parsing.{RecordTook, bound, record-is, fields-length, many-is, many-length, done-is}
+use Rattle.format.proofs.Header.{header-back}
+
+-- a field that is wholly there
+pub field-there : (w : ℕ) (b : List ℕ) (at : ℕ) → at + w ≤ length b → field-at w b at ≡ number (take w (drop at b))
+unfolding field-at if_then_else_
+field-there w b at h = rw (le-leb (at + w) (length b) h)
+
+-- the same record at a place and of a size that are shown equal
+moved : (f : Form) {a b vs : List ℕ} {m n : ℕ} → a ≡ b → m ≡ n → RecordTook f a vs m → RecordTook f b vs n
+moved f p q t = rw (← p, ← q) t
+
+record UnitTook (m : ℕ) (b : List ℕ) (cs : List Coding) (n : ℕ) : Type 0 where
+  values : List ℕ
+  taken : RecordTook (unit-form m) b values n
+  codings-are : cs ≡ codings values
+  size : n ≡ unit-size m
+
+unit-is : (m : ℕ) (b : List ℕ) (cs : List Coding) (n : ℕ) → unit-parser m b ≡ took cs n → UnitTook m b cs n
+unfolding unit-parser unit-form
+unit-is m b cs n e =
+    let h = bound (record-due (unit-form m)) _ b cs n e in
+    let z = done-is (codings (h .value)) (drop (h .size) b) cs (h .more) (h .second) in
+    let k : n ≡ h .size = omega (arith, h .sizes, z .1) in
+    let t = record-is (unit-form m) b (h .value) (h .size) (h .first) in
+    record { values = h .value; taken = moved (unit-form m) refl (sym k) t; codings-are = z .0; size = k ∙ t .size ∙ rw total-entries }
+
+-- the parts of a job that was read
+pub record ParseTook (b : List ℕ) (j : Job) (n : ℕ) : Type 0 where
+  pub values : List ℕ
+  pub header-taken : RecordTook header-form b values header-size
+  pub header : Header
+  pub header-is : header ≡ header-of values
+  pub rates : List ℕ
+  pub rates-taken : RecordTook (rates-form (header .rates)) (drop header-size b) rates (rates-size (header .rates))
+  pub units : List (List Coding)
+  pub sizes : ℕ
+  pub units-taken : many (header .units) (unit-parser (header .choices)) (drop (header-size + rates-size (header .rates)) b) ≡ took units sizes
+  pub job-is : j ≡ job-of header rates units
+  pub size : n ≡ header-size + rates-size (header .rates) + sizes
+
+pub parse-is : (b : List ℕ) (j : Job) (n : ℕ) → parse b ≡ took j n → ParseTook b j n
+unfolding parse header-parser
+parse-is b j n e =
+    let x = bound header-parser _ b j n e in
+    let h = x .value in
+    let y = bound (record-due header-form) _ b h (x .size) (x .first) in
+    let z = done-is (header-of (y .value)) (drop (y .size) b) h (y .more) (y .second) in
+    let t = record-is header-form b (y .value) (y .size) (y .first) in
+    let s : y .size ≡ header-size = t .size ∙ unfold header-form total in refl in
+    let d : x .size ≡ header-size = omega (arith, x .sizes, y .sizes, z .1) in
+    let u = bound (record-due (rates-form (h .rates))) _ (drop (x .size) b) j (x .more) (x .second) in
+    let r = record-is (rates-form (h .rates)) (drop (x .size) b) (u .value) (u .size) (u .first) in
+    let k : u .size ≡ rates-size (h .rates) = r .size ∙ unfold rates-form in (rw total-same) in
+    let w = bound (many (h .units) (unit-parser (h .choices))) _ (drop (u .size) (drop (x .size) b)) j (u .more) (u .second) in
+    let v = done-is (job-of h (u .value) (w .value)) (drop (w .size) (drop (u .size) (drop (x .size) b))) j (w .more) (w .second) in
+    let at : x .size + u .size ≡ header-size + rates-size (h .rates) = omega arith in
+    record {
+      values = y .value;
+      header-taken = moved header-form refl s t;
+      header = h;
+      header-is = z .0;
+      rates = u .value;
+      rates-taken = moved (rates-form (h .rates)) (ap (λ (i : ℕ). drop i b) d) k r;
+      units = w .value;
+      sizes = w .size;
+      units-taken = ap (many (h .units) (unit-parser (h .choices))) (sym (drop-drop (u .size) (x .size) b ∙ ap (λ (i : ℕ). drop i b) at)) ∙ w .first;
+      job-is = v .0;
+      size = omega (arith, x .sizes, u .sizes, w .sizes, v .1);
+    }
+
+-- the u-th of many readings that all take s bytes
+module _ {A : Type 0} (p : Parser A) (s : ℕ) (same : (b : List ℕ) (a : A) (k : ℕ) → p b ≡ took a k → k ≡ s) where
+  many-at : (n : ℕ) (b : List ℕ) (xs : List A) (m u : ℕ) (d : A) → many n p b ≡ took xs m → u < n → p (drop (u * s) b) ≡ took (getD xs u d) s
+  many-at zero b xs m u d e h = absurd (omega arith)
+  many-at (suc n) b xs m zero d e h =
+      let t = many-is p n b xs m e in
+      let k : t .size ≡ s = same b (t .value) (t .size) (t .first) in
+      rw (zero-mul, t .list, ← k) (t .first)
+  many-at (suc n) b xs m (suc u) d e h =
+      let t = many-is p n b xs m e in
+      let k : t .size ≡ s = same b (t .value) (t .size) (t .first) in
+      let r = many-at n (drop (t .size) b) (t .values) (t .sizes) u d (t .others) (omega arith) in
+      let a : t .size + u * s ≡ suc u * s = omega (arith, suc-mul u s) in
+      rw (t .list) (rw (drop-drop, a) at r)
+
+-- the x-th entry of a unit's fields
+entry-at : (m x : ℕ) (b : List ℕ) → x < m → getD (codings (fields (entry-widths m) b)) x nothing ≡ record { size = number (take 2 (drop (6 * x) b)); distortion = number (take 4 (drop (6 * x + 2) b)) }
+unfolding fields entry-widths codings
+entry-at zero x b h = absurd (omega arith)
+entry-at (suc m) zero b h = refl
+entry-at (suc m) (suc x) b h =
+    let p : 2 + (4 + 6 * x) ≡ 6 * suc x = omega arith in
+    let q : 2 + (4 + (6 * x + 2)) ≡ 6 * suc x + 2 = omega arith in
+    entry-at m x (drop 4 (drop 2 b)) (omega arith) ∙ rw (drop-drop, drop-drop, drop-drop, drop-drop, p, q)
+
+module _ (b : List ℕ) (j : Job) (n : ℕ) (t : ParseTook b j n) (h : Header) (e : t .header ≡ h) where
+  -- where a rate stands
+  rates-of : j .line .rates ≡ fields (replicate (h .rates) 2) (drop (header-size + 4) b)
+  unfolding job-of rates-form
+  rates-of = ap (λ (k : Job). k .line .rates) (t .job-is) ∙ t .rates-taken .values ∙ rw (drop-drop, e)
+
+  rates-room : header-size + rates-size (h .rates) ≤ length b
+  unfolding rates-form
+  rates-room =
+      let g : t .header .rates ≡ h .rates = ap (λ (k : Header). k .rates) e in
+      let d : length (drop header-size b) ≡ length b - header-size = length-drop header-size b in
+      let s : total (replicate (t .header .rates) 2) ≡ 2 * t .header .rates = total-same (t .header .rates) 2 in
+      omega (arith, t .rates-taken .there)
+
+  rate-here : (y : ℕ) → y < h .rates → rate-at b y ≡ getD (j .line .rates) y 0
+  unfolding rate-at rate-place
+  rate-here y l =
+      field-there 2 b (header-size + 4 + 2 * y) (omega (arith, rates-room))
+      ∙ sym (ap (λ (r : List ℕ). getD r y 0) rates-of ∙ nth-field (h .rates) 2 y (drop (header-size + 4) b) l ∙ rw drop-drop)
+
+  -- where a unit's record stands, and one of its entries
+  unit-place : ℕ → ℕ
+  unit-place i = header-size + rates-size (h .rates) + i * unit-size (h .choices)
+
+  unit-here : (i : ℕ) → i < h .units → unit-parser (h .choices) (drop (unit-place i) b) ≡ took (getD (j .units) i []) (unit-size (h .choices))
+  unfolding job-of unit-place
+  unit-here i l =
+      let q : j .units ≡ t .units = ap (λ (k : Job). k .units) (t .job-is) in
+      let m : many (h .units) (unit-parser (h .choices)) (drop (header-size + rates-size (h .rates)) b) ≡ took (t .units) (t .sizes) = rw (← e) (t .units-taken) in
+      rw (q, ← drop-drop) (many-at (unit-parser (h .choices)) (unit-size (h .choices)) (λ c a k z. unit-is (h .choices) c a k z .size) (h .units) (drop (header-size + rates-size (h .rates)) b) (t .units) (t .sizes) i [] m l)
+
+  module _ (i x : ℕ) (l : i < h .units) (k : x < h .choices) where
+    unit-taken : UnitTook (h .choices) (drop (unit-place i) b) (getD (j .units) i []) (unit-size (h .choices))
+    unit-taken = unit-is (h .choices) _ _ _ (unit-here i l)
+
+    coding-room : unit-place i + 4 + 6 * x + 6 ≤ length b
+    unfolding unit-form
+    coding-room =
+        let d : length (drop (unit-place i) b) ≡ length b - unit-place i = length-drop _ b in
+        omega (arith, unit-taken .taken .there, total-entries (h .choices))
+
+    coding-values : codingAt j i x ≡ record { size = number (take 2 (drop (unit-place i + 4 + 6 * x) b)); distortion = number (take 4 (drop (unit-place i + 4 + 6 * x + 2) b)) }
+    unfolding unit-form codingAt
+    coding-values =
+        let c : getD (j .units) i [] ≡ codings (fields (entry-widths (h .choices)) (drop (unit-place i + 4) b)) = unit-taken .codings-are ∙ ap codings (unit-taken .taken .values ∙ rw drop-drop) in
+        let z : unit-place i + 4 + (6 * x + 2) ≡ unit-place i + 4 + 6 * x + 2 = omega arith in
+        ap (λ (cs : List Coding). getD cs x nothing) c ∙ entry-at (h .choices) x (drop (unit-place i + 4) b) k ∙ rw (drop-drop, drop-drop, z)
+
+    coding-here : (u : ℕ) → u - 1 ≡ i → coding-at b h u x ≡ codingAt j i x
+    unfolding coding-at coding-place unit-place
+    coding-here u q =
+        rw (q, field-there 2 b (unit-place i + 4 + 6 * x) (omega (arith, coding-room)), field-there 4 b (unit-place i + 4 + 6 * x + 2) (omega (arith, coding-room)))
+        (sym coding-values)
+
+-- the header of the job that was read
+header-of-parts : (b : List ℕ) (j : Job) (n : ℕ) (t : ParseTook b j n) → t .header ≡ header-in j
+unfolding rates-form
+header-of-parts b j n t =
+    sym (
+    ap header-in (t .job-is)
+    ∙ header-back (t .header) (t .rates) (t .units) (ap length (t .rates-taken .values) ∙ fields-length _ _ ∙ length-replicate (t .header .rates) 2)
+    (many-length (unit-parser (t .header .choices)) (t .header .units) (drop (header-size + rates-size (t .header .rates)) b) (t .units) (t .sizes) (t .units-taken))
+    )
+
+pub looks-up : LooksUp
+unfolding header-in
+looks-up b j n e =
+    let t = parse-is b j n e in
+    let h = header-of-parts b j n t in
+    record {
+      rate = λ y l. rate-here b j n t (header-in j) h y l;
+      coding = λ u x o l k. coding-here b j n t (header-in j) h (u - 1) x (omega arith) k u refl;
+    }
