@@ -1,0 +1,95 @@
+-- What the reader's structs and answers mean in the terms of the crates below, case by case.
+-- Assumes nothing.
+use Prim.Native.Nat.{ℕ, _≤_}
+use mathlib.Core.Bool.{Bool, false}
+use mathlib.Core.Option.{Option, none, some}
+use mathlib.Core.List.{List}
+use lib.Dec.{eqb, ltb}
+use lib.ListN.{length, drop}
+use Rattle.model.specs.If.{if_then_else_}
+use Rattle.model.specs.Job as model
+use Rattle.format.specs.Fields.{total}
+use Rattle.format.specs.Limits.{Limit, kept}
+use Rattle.format.specs.Parser.{Result, refused, took, refusal-of}
+use Rattle.format.specs.Records.{Form, head-widths, head-limits, block}
+use Rattle.format.specs.JobBytes as format
+use Rattle.format.specs.JobBytes.{header-form, rates-form, unit-form}
+use Rattle.job.specs.declared.Header.{Header}
+use Rattle.job.specs.declared.Coding.{Coding}
+use Rattle.job.specs.declared.Verdict.{Verdict}
+use Rattle.job.specs.declared.Verdict.the-variants as v
+use Rattle.job.specs.declared.Due.{Due}
+use Rattle.job.specs.declared.Due.the-variants as d
+use Rattle.job.specs.declared.Reading.{Reading}
+use Rattle.job.specs.declared.Reading.the-variants as r
+
+-- the header that a struct holds, and the coding
+unfoldable pub plain : Header → format.Header
+plain h = record {
+  units = h .units;
+  delay = h .delay;
+  decoder = h .decoder;
+  bucket = h .bucket;
+  drain = h .drain;
+  level = h .level;
+  fill = h .fill;
+  rates = h .rates;
+  choices = h .choices;
+}
+
+unfoldable pub coding-of : Coding → model.Coding
+coding-of c = record { size = c .size; distortion = c .distortion }
+
+-- the answer of opening, in document 01's terms: the refusal's number, or the header and how many bytes the job took
+unfoldable pub reading : Reading → Result format.Header
+reading (r.Refused n) = refused n
+reading (r.Read h k) = took (plain h) k
+
+-- the refusal's number, if there is one
+unfoldable pub verdict : Verdict → Option ℕ
+verdict v.Fits = none
+verdict (v.Refused n) = some n
+
+-- whether two headers agree in every field
+unfoldable pub same-header : format.Header → format.Header → Bool
+same-header a b =
+    if eqb (a .units) (b .units) then
+    if eqb (a .delay) (b .delay) then
+    if eqb (a .decoder) (b .decoder) then
+    if eqb (a .bucket) (b .bucket) then
+    if eqb (a .drain) (b .drain) then
+    if eqb (a .level) (b .level) then
+    if eqb (a .fill) (b .fill) then
+    if eqb (a .rates) (b .rates) then
+    eqb (a .choices) (b .choices)
+    else false else false else false else false else false else false else false else false
+
+-- the record that is due
+unfoldable pub form-of : Due → Form
+form-of d.Header = header-form
+form-of (d.Rates n) = rates-form n
+form-of (d.Unit n) = unit-form n
+
+-- the record's count of fields is small enough for its length
+abbrev pub Small : Due → Type 0
+Small d.Header = Unit {0}
+Small (d.Rates n) = n ≤ 1000
+Small (d.Unit n) = n ≤ 1000
+
+-- both limits are kept
+unfoldable pub both-kept : Limit → Limit → Bool
+both-kept l m = if kept l then kept m else false
+
+-- the first refusal of two
+unfoldable pub first-of : Option ℕ → Option ℕ → Option ℕ
+first-of (some n) o = some n
+first-of none o = o
+
+-- what a record is refused for before its fields are looked at
+unfoldable pub shape : Form → List ℕ → Option ℕ
+shape f b = first-of (refusal-of (block head-widths (head-limits f) b)) (if ltb (length (drop 4 b)) (total (f .widths)) then some 1 else none)
+
+-- a result that answers this header
+unfoldable pub answering : {A : Type 0} → format.Header → Result A → Result format.Header
+answering h (refused n) = refused n
+answering h (took a k) = took h k
