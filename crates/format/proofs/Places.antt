@@ -1,8 +1,8 @@
--- What stands where in the bytes of a job that opens: `LooksUp`.
+-- What stands where in the bytes of a job that opens, and that it is within its limits: `LooksUp` and `WellRead`.
 -- Assumes nothing.
 use Prim.Native.Nat.{ℕ, zero, suc, _+_, _*_, _-_, _≤_, _<_}
 use mathlib.Core.Path.{_≡_, refl, sym, ap, ap₂, _∙_}
-use mathlib.Core.List.{List, []}
+use mathlib.Core.List.{List, [], _∷_}
 use native.Mathlib.Omega.{arith}
 use native.Mathlib.Nat.{suc-mul, zero-mul}
 use borrow.Author.Tests.{le-leb}
@@ -11,11 +11,11 @@ use lib.Seq.{drop-drop}
 use Rattle.model.specs.If.{if_then_else_}
 use Rattle.model.specs.Job.{Coding, Job, nothing, codingAt}
 use Rattle.format.specs.Fields.{number, total, fields}
-use Rattle.format.specs.Parser.{took, Parser, many}
+use Rattle.format.specs.Parser.{took, Parser, many, Each, no-more, one-more}
 use Rattle.format.specs.Records.{Form, record-due}
-use Rattle.format.specs.JobBytes.{Header, header-of, codings, entry-widths, header-form, rates-form, unit-form, job-of, header-in, header-parser, unit-parser, parse}
+use Rattle.format.specs.JobBytes.{Header, header-of, codings, entry-widths, header-form, rates-form, unit-form, job-of, header-in, header-parser, unit-parser, parse, UnitKept, WellFormed}
 use Rattle.format.specs.Places.{field-at, header-size, rates-size, unit-size, rate-place, rate-at, coding-place, coding-at}
-use Rattle.format.specs.Claims.{LookedUp, LooksUp}
+use Rattle.format.specs.Claims.{WellRead, LookedUp, LooksUp}
 use Rattle.format.proofs.Fields.{nth-field}
 use Rattle.format.proofs.Records.{total-same, total-entries}
 use Rattle.format.proofs.Parsing.{RecordTook, bound, record-is, fields-length, many-is, many-length, done-is}
@@ -177,6 +177,44 @@ header-of-parts b j n t =
     ∙ header-back (t .header) (t .rates) (t .units) (ap length (t .rates-taken .values) ∙ fields-length _ _ ∙ length-replicate (t .header .rates) 2)
     (many-length (unit-parser (t .header .choices)) (t .header .units) (drop (header-size + rates-size (t .header .rates)) b) (t .units) (t .sizes) (t .units-taken))
     )
+
+-- a unit that was read has its entries, each within its limits
+entries-count : (m : ℕ) (b : List ℕ) → length (codings (fields (entry-widths m) b)) ≡ m
+unfolding codings fields entry-widths
+entries-count zero b = refl
+entries-count (suc m) b = ap suc (entries-count m (drop 4 (drop 2 b)))
+
+unit-well : (m : ℕ) (b : List ℕ) (cs : List Coding) (n : ℕ) → unit-parser m b ≡ took cs n → UnitKept m cs
+unfolding unit-form
+unit-well m b cs n e =
+    let t = unit-is m b cs n e in
+    record {
+      count = ap length (t .codings-are ∙ ap codings (t .taken .values)) ∙ entries-count m (drop 4 b);
+      limits = rw (t .codings-are) (t .taken .kept);
+    }
+
+units-well : (m n : ℕ) (b : List ℕ) (us : List (List Coding)) (k : ℕ) → many n (unit-parser m) b ≡ took us k → Each (UnitKept m) us
+units-well m zero b us k e = let l = many-length (unit-parser m) zero b us k e in none-left us l
+  where
+    none-left : (us : List (List Coding)) → length us ≡ 0 → Each (UnitKept m) us
+    none-left [] l = no-more
+    none-left (u ∷ us) l = absurd (omega arith)
+units-well m (suc n) b us k e =
+    let t = many-is (unit-parser m) n b us k e in
+    rw (t .list) (one-more (unit-well m b (t .value) (t .size) (t .first)) (units-well m n (drop (t .size) b) (t .values) (t .sizes) (t .others)))
+
+pub well-read : WellRead
+unfolding job-of header-form rates-form
+well-read b j n e =
+    let t = parse-is b j n e in
+    let h = header-of-parts b j n t in
+    record {
+      one-bucket = ap (λ (i : Job). length (i .line .buckets)) (t .job-is);
+      one-fill = ap (λ (i : Job). length (i .start .buckets)) (t .job-is);
+      header = rw (sym h ∙ t .header-is) (t .header-taken .kept);
+      rates = rw (ap (λ (i : Job). i .line .rates) (t .job-is)) (t .rates-taken .kept);
+      units = rw (t .job-is) (units-well (t .header .choices) (t .header .units) (drop (header-size + rates-size (t .header .rates)) b) (t .units) (t .sizes) (t .units-taken));
+    }
 
 pub looks-up : LooksUp
 unfolding header-in

@@ -23,6 +23,10 @@ pub record WrittenBack (b : List ℕ) (j : Job) (n : ℕ) : Type 0 where
 abbrev pub WritesBack : Type 0
 WritesBack = (b : List ℕ) → Bytes b → (j : Job) (n : ℕ) → parse b ≡ took j n → WrittenBack b j n
 
+-- what opens is within the limits
+abbrev pub WellRead : Type 0
+WellRead = (b : List ℕ) (j : Job) (n : ℕ) → parse b ≡ took j n → WellFormed j
+
 -- a reader that looks up one field of a job that opens finds the job's value
 pub record LookedUp (b : List ℕ) (j : Job) : Type 0 where
   pub rate : (y : ℕ) → y < length (j .line .rates) → rate-at b y ≡ getD (j .line .rates) y 0

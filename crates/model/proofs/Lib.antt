@@ -8,6 +8,7 @@ pub mod Entries
 pub mod Walks
 pub mod Planning
 pub mod OneBest
+pub mod PinTotals
 pub mod Places
 pub mod Words
 pub mod Steps

@@ -21,6 +21,16 @@ unfolding if_then_else_
 branch P true f g = f refl
 branch P false f g = g refl
 
+-- a test that is true exactly where two tests are
+pub both-true : (s t : Bool) → (if s then t else false) ≡ true → (s ≡ true) × (t ≡ true)
+unfolding if_then_else_
+both-true true t e = (refl, e)
+both-true false t e = let z : _≡_ {A = ℕ} 0 1 = cc in absurd (omega arith)
+
+pub true-both : (s t : Bool) → s ≡ true → t ≡ true → (if s then t else false) ≡ true
+unfolding if_then_else_
+true-both s t p q = rw (p, q)
+
 -- a signed difference is the natural one where that is not cut off, and negative otherwise
 pub difference : (a r : ℕ) → r ≤ a → pos a -ℤ pos r ≡ pos (a - r)
 difference a zero h = ap pos (omega arith)

@@ -77,13 +77,13 @@ with-line codings (some x) s = record {
   distortion = s .distortion + codings x .distortion;
 }
 
--- of the first n lines
-unfoldable pub totals-to : Job → PinMap → ℕ → PinTotals
-totals-to j m zero = no-totals
-totals-to j m (suc n) = with-line (codingAt j n) (getD m n none) (totals-to j m n)
+-- of the first n lines, where unit i + 1 has the codings in place i
+unfoldable pub totals-to : (ℕ → ℕ → Coding) → PinMap → ℕ → PinTotals
+totals-to codings m zero = no-totals
+totals-to codings m (suc n) = with-line (codings n) (getD m n none) (totals-to codings m n)
 
 unfoldable pub pin-totals : Job → PinMap → PinTotals
-pin-totals j m = totals-to j m (length (j .units))
+pin-totals j m = totals-to (codingAt j) m (length (j .units))
 
 -- no pin, or the choice is the pinned one
 pub data PinHeld : Option ℕ → Option ℕ → Type 0 where
