@@ -4,6 +4,7 @@ pub mod Violations
 pub mod Outcome
 pub mod Levels
 pub mod DemandTwo
+pub mod Buffers
 pub mod Entries
 pub mod Walks
 pub mod Planning

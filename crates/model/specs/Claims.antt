@@ -7,9 +7,11 @@ use mathlib.Core.Logic.{_↔_}
 use mathlib.Core.Option.{Option, none, some}
 use mathlib.Core.List.{List, [], _∷_}
 use lib.ListN.{length, getD}
+use lib.IntN.{pos, _+ℤ_}
 use Rattle.trellis.specs.Table.{first-at, marked-offer}
 use Rattle.trellis.specs.Trellis.{NoLater}
 use Rattle.model.specs.Job.{Bucket, Levels, Job, Entry, distorts, intervals, PlanFits}
+use Rattle.model.specs.Levels.{decoderLevel, sentAfter, effectiveBuffer, unitsTaken}
 use Rattle.model.specs.Pins.{PinMap}
 use Rattle.model.specs.Admissible.{Violation, SoundFor, Admissible, FirstViolation, LevelsOf}
 use Rattle.model.specs.Step.{reaches, outcome}
@@ -61,6 +63,11 @@ pub record OneBucket (j : Job) (k : Bucket) : Type 0 where
 -- demand 2
 abbrev pub DemandTwo : Type 0
 DemandTwo = (j : Job) (m : PinMap) (s : ℕ) (start : Levels) (p : List Entry) → ReplayClaim j m s start p (replay j m s start p)
+
+-- (5): B(i + d) is the effective buffer size less what the encoder holds, which by (3) is what the first i units take less what the first i intervals send.
+-- Written as sums, from a starting level b: B(i + d) + R(1) + ... + R(i) = b + C(1) + ... + C(i) + the effective buffer size
+abbrev pub EffectiveBuffers : Type 0
+EffectiveBuffers = (j : Job) (p : List Entry) (b i : ℕ) → PlanFits j 0 p → decoderLevel j 0 p b (i + j .delay) +ℤ pos (unitsTaken j p i) ≡ pos (b + sentAfter j p 0 i + effectiveBuffer j p i)
 
 -- demand 3, of the definitions
 abbrev pub Planning : Type 0

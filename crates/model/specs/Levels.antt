@@ -49,6 +49,11 @@ module _ (j : Job) (p : List Entry) where
   unfoldable pub effectiveBuffer : ℕ → ℕ
   effectiveBuffer i = sentAfter i (j .delay)
 
+  -- what the first i units take, unit after unit
+  unfoldable pub unitsTaken : ℕ → ℕ
+  unitsTaken zero = 0
+  unitsTaken (suc i) = unitsTaken i + taken j 0 p (j .delay + suc i)
+
 -- the numbers f 0 to f (n - 1)
 unfoldable pub build : ℕ → (ℕ → ℕ) → List ℕ
 build zero f = []
