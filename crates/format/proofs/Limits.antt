@@ -9,7 +9,7 @@ use native.Mathlib.Omega.{arith}
 use borrow.Author.Tests.{leb-true, le-leb}
 use lib.Dec.{leb}
 use Rattle.model.specs.If.{if_then_else_}
-use Rattle.format.specs.Limits.{Limit, limit, kept, broken, AllKept}
+use Rattle.format.specs.Limits.{Limit, kept, broken, AllKept}
 
 abbrev pub Kept : Limit → Type 0
 Kept l = (l .low ≤ l .value) × (l .value ≤ l .high)

@@ -1,7 +1,7 @@
 -- What stands where in the bytes of a job that opens, and that it is within its limits: `LooksUp` and `WellRead`.
 -- Assumes nothing.
 use Prim.Native.Nat.{ℕ, zero, suc, _+_, _*_, _-_, _≤_, _<_}
-use mathlib.Core.Path.{_≡_, refl, sym, ap, ap₂, _∙_}
+use mathlib.Core.Path.{_≡_, refl, sym, ap, _∙_}
 use mathlib.Core.List.{List, [], _∷_}
 use native.Mathlib.Omega.{arith}
 use native.Mathlib.Nat.{suc-mul, zero-mul}
@@ -13,9 +13,9 @@ use Rattle.model.specs.Job.{Coding, Job, nothing, codingAt}
 use Rattle.format.specs.Fields.{number, total, fields}
 use Rattle.format.specs.Parser.{took, Parser, many, Each, no-more, one-more}
 use Rattle.format.specs.Records.{Form, record-due}
-use Rattle.format.specs.JobBytes.{Header, header-of, codings, entry-widths, header-form, rates-form, unit-form, job-of, header-in, header-parser, unit-parser, parse, UnitKept, WellFormed}
+use Rattle.format.specs.JobBytes.{Header, header-of, codings, entry-widths, header-form, rates-form, unit-form, job-of, header-in, header-parser, unit-parser, parse, UnitKept}
 use Rattle.format.specs.Places.{field-at, header-size, rates-size, unit-size, rate-place, rate-at, coding-place, coding-at}
-use Rattle.format.specs.Claims.{WellRead, LookedUp, LooksUp}
+use Rattle.format.specs.Claims.{WellRead, LooksUp}
 use Rattle.format.proofs.Fields.{nth-field}
 use Rattle.format.proofs.Records.{total-same, total-entries}
 use Rattle.format.proofs.Parsing.{RecordTook, bound, record-is, fields-length, many-is, many-length, done-is}

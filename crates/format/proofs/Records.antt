@@ -1,24 +1,19 @@
 -- Laws of the record that is due, over its form.
 -- Assumes nothing.
-use Prim.Native.Nat.{ℕ, zero, suc, _+_, _*_, _-_, _≤_, _<_}
-use mathlib.Core.Path.{_≡_, refl, sym, ap, _∙_}
-use mathlib.Core.Bool.{Bool, true, false}
-use mathlib.Core.Option.{Option, none, some}
-use mathlib.Core.List.{List, [], _∷_}
-use native.Mathlib.Decide.{decLt}
+use Prim.Native.Nat.{ℕ, zero, suc, _*_, _≤_, _<_}
+use mathlib.Core.Path.{_≡_, refl, sym, _∙_}
+use mathlib.Core.Option.{none}
+use mathlib.Core.List.{List}
 use native.Mathlib.Omega.{arith}
 use native.Mathlib.Nat.{mul-zero, mul-suc}
 use borrow.Author.Tests.{le-ltb, lt-ltb}
-use lib.Dec.{ltb}
-use lib.ListN.{length, take, drop, replicate, length-drop}
-use lib.Seq.{take-all}
+use lib.ListN.{length, replicate}
 use Rattle.model.specs.If.{if_then_else_}
-use Rattle.format.specs.Fields.{number, total, fields}
-use Rattle.format.specs.Limits.{Limit, limit, broken}
-use Rattle.format.specs.Parser.{Result, refused, took, further, onward, _>>=_, unless-refused, refusal-of}
-use Rattle.format.specs.Records.{Form, block, head-widths, head-limits, record-due}
+use Rattle.format.specs.Fields.{total, fields}
+use Rattle.format.specs.Limits.{Limit, broken}
+use Rattle.format.specs.Parser.{refused, took, unless-refused}
+use Rattle.format.specs.Records.{block}
 use Rattle.format.specs.JobBytes.{entry-widths}
-use Rattle.format.proofs.Limits.{not-some, is-kept, all-kept}
 
 pub total-same : (n w : ℕ) → total (replicate n w) ≡ w * n
 unfolding total

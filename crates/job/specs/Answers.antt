@@ -1,7 +1,7 @@
 -- What the reader's structs and answers mean in the terms of the crates below, case by case.
 -- Assumes nothing.
 use Prim.Native.Nat.{ℕ, _≤_}
-use mathlib.Core.Bool.{Bool, false}
+use mathlib.Core.Bool.{Bool, false, _&&_}
 use mathlib.Core.Option.{Option, none, some}
 use mathlib.Core.List.{List}
 use lib.Dec.{eqb, ltb}
@@ -53,16 +53,15 @@ verdict (v.Refused n) = some n
 -- whether two headers agree in every field
 unfoldable pub same-header : format.Header → format.Header → Bool
 same-header a b =
-    if eqb (a .units) (b .units) then
-    if eqb (a .delay) (b .delay) then
-    if eqb (a .decoder) (b .decoder) then
-    if eqb (a .bucket) (b .bucket) then
-    if eqb (a .drain) (b .drain) then
-    if eqb (a .level) (b .level) then
-    if eqb (a .fill) (b .fill) then
-    if eqb (a .rates) (b .rates) then
-    eqb (a .choices) (b .choices)
-    else false else false else false else false else false else false else false else false
+    eqb (a .units) (b .units)
+    && eqb (a .delay) (b .delay)
+    && eqb (a .decoder) (b .decoder)
+    && eqb (a .bucket) (b .bucket)
+    && eqb (a .drain) (b .drain)
+    && eqb (a .level) (b .level)
+    && eqb (a .fill) (b .fill)
+    && eqb (a .rates) (b .rates)
+    && eqb (a .choices) (b .choices)
 
 -- the record that is due
 unfoldable pub form-of : Due → Form

@@ -3,14 +3,14 @@ pub mod refusal;
 
 ghost use mathlib.Core.Path.{_≡_};
 ghost use mathlib.Core.List.{[], _∷_};
-ghost use Prim.Native.Nat.{_+_, _*_, _-_, _<_, _≤_};
+ghost use Prim.Native.Nat.{_+_, _*_, _-_, _≤_};
 ghost use lib.ListN.{length, take, drop, replicate};
 ghost use Rattle.format.specs.Fields.{number, fields};
 ghost use Rattle.format.specs.Limits.{limit, kept, broken, AllKept};
 ghost use Rattle.format.specs.Parser.{further, many, refusal-of, with-value};
 ghost use Rattle.format.specs.Records.{head-limits, record-due};
 ghost use Rattle.format.specs.JobBytes.{header-of, header-limits, rate-limit, rate-limits, size-limit, distortion-limit, coding-limits, codings, entry-widths, header-in, unit-parser, parse};
-ghost use Rattle.format.specs.Places.{field-at, rate-at, coding-at};
+ghost use Rattle.format.specs.Places.{unit-size, field-at, rate-at, coding-at};
 ghost use Rattle.job.specs.Answers.{plain, verdict, form-of, Small, reading, coding-of, shape, answering, both-kept, same-header};
 
 // What kind 1 says of a job. Sizes and levels are counted in grains, document 01's fixed count of bits.
@@ -181,19 +181,19 @@ impl Header {
         Verdict::Fits
     }
 
-    // Whether the two headers agree in every field.
+    // Whether the two headers agree in every field, without a branch.
     pub fn same(self, other: Header) -> bool
         ensures { λ r. ⌜ r ≡ same-header (plain self) (plain other) ⌝ }
     {
-        self.units == other.units
-            && self.delay == other.delay
-            && self.decoder == other.decoder
-            && self.bucket == other.bucket
-            && self.drain == other.drain
-            && self.level == other.level
-            && self.fill == other.fill
-            && self.rates == other.rates
-            && self.choices == other.choices
+        (self.units == other.units)
+            & (self.delay == other.delay)
+            & (self.decoder == other.decoder)
+            & (self.bucket == other.bucket)
+            & (self.drain == other.drain)
+            & (self.level == other.level)
+            & (self.fill == other.fill)
+            & (self.rates == other.rates)
+            & (self.choices == other.choices)
     }
 }
 
@@ -400,10 +400,8 @@ pub fn rate_at(job: &[u8], rate: u16) -> u16
 pub fn coding_at(job: &[u8], header: Header, unit: u16, choice: u16) -> Coding
     ensures { λ r. ⌜ coding-of r ≡ coding-at (now (job .entry)) (plain header) unit choice ⌝ }
 {
-    let size = Header::HEAD + 6 * (header.choices as usize);
-    let before = units_before(unit) as usize;
     let first = Header::SIZE + Header::HEAD + 2 * (header.rates as usize);
-    let start = first + before * size;
+    let start = first + bytes_before(unit, header.choices);
     let at = start + Header::HEAD + 6 * (choice as usize);
     let next = at + 2;
     Coding {
@@ -412,9 +410,14 @@ pub fn coding_at(job: &[u8], header: Header, unit: u16, choice: u16) -> Coding
     }
 }
 
-// How many units stand before this one; before unit 0, which no job has, none.
-fn units_before(unit: u16) -> u16
-    ensures { λ r. ⌜ r ≡ unit - 1 ⌝ }
+// How many bytes the records of the units before this one take: a place that leaves room for what stands behind it. Before unit 0, which no job has, none.
+fn bytes_before(unit: u16, choices: u16) -> usize
+    ensures { λ r. ⌜ (r ≡ (unit - 1) * unit-size choices) × (r ≤ 65535 * unit-size choices) ⌝ }
 {
-    if unit == 0 { 0 } else { unit - 1 }
+    if unit == 0 {
+        return 0;
+    }
+    let size = Header::HEAD + 6 * (choices as usize);
+    let before = (unit - 1) as usize;
+    before * size
 }

@@ -1,14 +1,13 @@
 -- The decoder's level is the effective buffer size less what the encoder holds: `EffectiveBuffers`.
 -- Assumes nothing.
-use Prim.Native.Nat.{ℕ, zero, suc, _+_, _<_, _≤_}
+use Prim.Native.Nat.{ℕ, zero, suc, _+_, _≤_}
 use mathlib.Core.Path.{_≡_, refl, sym, _∙_, ap}
-use mathlib.Core.Option.{Option, none, some}
-use mathlib.Core.List.{List, [], _∷_}
+use mathlib.Core.Option.{Option}
+use mathlib.Core.List.{List}
 use native.Mathlib.Omega.{arith}
-use lib.ListN.{getD}
 use lib.IntN.{ℤ, pos, _+ℤ_, _-ℤ_, +ℤ-assoc, +ℤ-comm, -ℤ-+ℤ-cancel, pos-+ℤ-pos}
-use Rattle.model.specs.Job.{Job, Entry, coding, takes, ChoiceFits, waits, decodes, EntryFits, PlanFits, ends, goes}
-use Rattle.model.specs.Levels.{no-entry, entryOf, sent, taken, decoderLevel, sentAfter, effectiveBuffer, unitsTaken}
+use Rattle.model.specs.Job.{Job, Entry, coding, takes, ChoiceFits, waits, decodes, PlanFits, ends, goes}
+use Rattle.model.specs.Levels.{entryOf, sent, taken, decoderLevel, sentAfter, effectiveBuffer, unitsTaken}
 use Rattle.model.specs.Claims.{EffectiveBuffers}
 
 -- no unit is decoded up to the delay

@@ -11,7 +11,7 @@ use Rattle.model.specs.Pins.{PinMap}
 use Rattle.model.specs.Admissible.{Violation, Sound, Violates, Shows, ending, SoundFor, FirstViolation, LevelsOf}
 use Rattle.model.specs.Step.{Outcome, outcome}
 use Rattle.model.specs.Replay.{Replay, Result, clean, stopped, written, go-on, replay}
-use Rattle.model.specs.Claims.{ReplayClaim, DemandTwo}
+use Rattle.model.specs.Claims.{DemandTwo}
 use Rattle.model.proofs.Violations.{sound-clean, first-violation-one}
 use Rattle.model.proofs.Outcome.{Judged, good, bad}
 use Rattle.model.proofs.Levels.{ending-rest, first-judged}

@@ -2,7 +2,6 @@
 -- Assumes nothing.
 use Prim.Native.Nat.{ℕ, suc, _+_, _*_}
 use mathlib.Core.Path.{_≡_, sym, _∙_, ap}
-use mathlib.Core.Option.{Option}
 use mathlib.Core.List.{List}
 use lib.ListN.{drop}
 use lib.Seq.{getD-take, getD-drop}

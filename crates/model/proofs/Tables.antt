@@ -5,7 +5,7 @@ use mathlib.Core.Option.{Option}
 use mathlib.Core.List.{[]}
 use native.Mathlib.Omega.{arith}
 use native.Mathlib.Decide.{decLt}
-use lib.ListN.{length, getD, List·getD-eq-default}
+use lib.ListN.{length, List·getD-eq-default}
 use Rattle.trellis.specs.Table.{Small}
 use Rattle.trellis.proofs.Bounds.{Costs, Budget, small-within}
 use Rattle.trellis.proofs.Tables.{marked-least}

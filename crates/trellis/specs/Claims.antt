@@ -3,10 +3,10 @@
 use Prim.Native.Nat.{ℕ, _+_}
 use mathlib.Core.Path.{_≡_}
 use mathlib.Core.Logic.{_↔_}
-use mathlib.Core.Option.{Option, none, some}
+use mathlib.Core.Option.{none, some}
 use mathlib.Core.List.{List}
 use Rattle.trellis.specs.Minimum.{AtMost, Sorted}
-use Rattle.trellis.specs.Trellis.{Trellis, Monotone, Cancels, Walk, total, least, best, Optimal, Foremost, Simulates}
+use Rattle.trellis.specs.Trellis.{Trellis, Monotone, Cancels, Walk, least, best, Optimal, Foremost, Simulates}
 use Rattle.trellis.specs.Table.{Closed, encode, Marked, Small}
 
 -- a relation under which no two moves are each before the other, and none is before itself

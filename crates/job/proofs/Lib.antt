@@ -1,0 +1,8 @@
+-- Laws that belong to no one function.
+pub mod Verdicts
+pub mod Fields
+pub mod Records
+pub mod Loops
+pub mod Opening
+pub mod Headers
+pub mod Answers

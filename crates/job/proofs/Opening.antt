@@ -1,0 +1,207 @@
+-- Laws of opening: the three stages of `parse`, from the verdict on each record.
+-- Assumes nothing.
+use Prim.Native.Nat.{ℕ, suc, _+_, _*_, _-_, _≤_, _<_}
+use mathlib.Core.Path.{_≡_, refl, sym, ap, _∙_}
+use mathlib.Core.List.{List, _∷_}
+use native.Mathlib.Omega.{arith}
+use native.Mathlib.Nat.{sub-zero, sub-self, add-zero}
+use lib.ListN.{length, take, drop, replicate, length-drop, length-replicate}
+use lib.Seq.{drop-drop}
+use Rattle.model.specs.Job.{Coding, Job}
+use Rattle.format.specs.Fields.{total, fields}
+use Rattle.format.specs.Limits.{AllKept}
+use Rattle.format.specs.Parser.{Result, refused, took, Parser, done, further, onward, _>>=_, many, refusal-of, with-value}
+use Rattle.format.specs.Records.{record-due}
+use Rattle.format.specs.JobBytes.{Header, header-of, header-limits, codings, header-form, rates-form, unit-form, job-of, header-in, header-parser, unit-parser, parse}
+use Rattle.format.proofs.Records.{total-same, total-entries}
+use Rattle.format.proofs.Parsing.{RecordTook, has-refused, bind-refused, bind-on, record-is, record-took, fields-length, many-refused, many-length}
+use Rattle.format.proofs.Header.{header-back}
+use Rattle.job.specs.declared.Verdict.{Verdict}
+use Rattle.job.specs.declared.Verdict.the-variants as v
+use Rattle.job.specs.declared.Due.{Due}
+use Rattle.job.specs.declared.Due.the-variants as d
+use Rattle.job.specs.declared.Reading.the-variants as r
+use Rattle.job.specs.Answers.{verdict, form-of, reading, answering}
+use Rattle.job.proofs.Records.{rest-of}
+
+-- the verdict r on a record at `at`, as the code has it
+module _ (due : Due) (b : List ℕ) (at : ℕ) (r : Verdict) (e : verdict r ≡ refusal-of (record-due (form-of due) (take (length b - at) (drop at b)))) where
+  -- a refusal is the record's
+  stage-refused : (n : ℕ) → r ≡ v.Refused n → record-due (form-of due) (drop at b) ≡ refused n
+  unfolding verdict
+  stage-refused n q = has-refused (record-due (form-of due) (drop at b)) n (rw (rest-of at b) at (sym e) ∙ rw q)
+
+  -- without one the record is read
+  stage-took : r ≡ v.Fits → record-due (form-of due) (drop at b) ≡ took (fields (form-of due .widths) (drop 4 (drop at b))) (4 + total (form-of due .widths))
+  unfolding verdict
+  stage-took q = record-took (form-of due) (drop at b) (rw (rest-of at b) at (sym e) ∙ rw q)
+
+  -- and lies within the bytes
+  stage-room : r ≡ v.Fits → at ≤ length b → at + (4 + total (form-of due .widths)) ≤ length b
+  stage-room q h = let l : length (drop at b) ≡ length b - at = length-drop at b in omega (arith, record-is (form-of due) (drop at b) _ _ (stage-took q) .there)
+
+-- a unit whose record is refused
+unit-refused : (m : ℕ) (b : List ℕ) (n : ℕ) → record-due (unit-form m) b ≡ refused n → unit-parser m b ≡ refused n
+unfolding unit-parser
+unit-refused m b n e = bind-refused (record-due (unit-form m)) _ b n e
+
+-- a unit whose record was read
+unit-took : (m : ℕ) (b vs : List ℕ) (k : ℕ) → record-due (unit-form m) b ≡ took vs k → unit-parser m b ≡ took (codings vs) k
+unfolding unit-parser done further
+unit-took m b vs k e = bind-on (record-due (unit-form m)) _ b vs k e ∙ rw add-zero
+
+-- one more reading, where only the size counts
+module _ {A : Type 0} (h : Header) (p : Parser A) (n at k : ℕ) (a : A) (b : List ℕ) where
+  -- the sizes of two readings are added before or after
+  size-on : (s : Result (List A)) → answering h (further at (further k (onward s (λ rest. done (a ∷ rest)) (drop k b)))) ≡ answering h (further (at + k) s)
+  unfolding answering further onward done
+  size-on (refused x) = refl
+  size-on (took xs m) = let e : at + (k + (m + 0)) ≡ at + k + m = omega arith in rw e
+
+  -- after the first reading the others are left
+  many-on : p b ≡ took a k → answering h (further at (many (suc n) p b)) ≡ answering h (further (at + k) (many n p (drop k b)))
+  unfolding many _>>=_
+  many-on e = ap (λ (s : Result (List A)). answering h (further at s)) (bind-on p _ b a k e) ∙ size-on (many n p (drop k b))
+
+module _ (b : List ℕ) (h : Header) where
+  -- the units from the u-th on, of which the first starts at `at`
+  unfoldable pub units-left : ℕ → ℕ → Result Header
+  units-left at u = answering h (further at (many (h .units - u) (unit-parser (h .choices)) (drop at b)))
+
+  -- at the start all are left
+  pub units-start : (at : ℕ) → answering h (further at (many (h .units) (unit-parser (h .choices)) (drop at b))) ≡ units-left at 0
+  unfolding units-left
+  units-start at = rw sub-zero
+
+  -- at the end none
+  pub units-end : (at : ℕ) → units-left at (h .units) ≡ took h at
+  unfolding units-left answering further many done
+  units-end at = rw (sub-self, add-zero)
+
+  -- r is the verdict on the u-th
+  module _ (at u : ℕ) (l : u < h .units) (r : Verdict) (e : verdict r ≡ refusal-of (record-due (form-of (d.Unit (h .choices))) (take (length b - at) (drop at b)))) where
+    -- one reading is due
+    left : h .units - u ≡ suc (h .units - (u + 1))
+    left = omega arith
+
+    -- it is refused
+    pub units-refused : (n : ℕ) → r ≡ v.Refused n → units-left at u ≡ refused n
+    unfolding units-left form-of answering further
+    units-refused n q =
+        let g = unit-refused (h .choices) (drop at b) n (stage-refused (d.Unit (h .choices)) b at r e n q) in
+        rw (left, many-refused (unit-parser (h .choices)) (h .units - (u + 1)) (drop at b) n g)
+
+    -- it is passed
+    pub units-step : r ≡ v.Fits → units-left at u ≡ units-left (at + (4 + 6 * h .choices)) (u + 1)
+    unfolding units-left form-of unit-form
+    units-step q =
+        let g = unit-took (h .choices) (drop at b) _ _ (stage-took (d.Unit (h .choices)) b at r e q) in
+        rw (left) (many-on h (unit-parser (h .choices)) (h .units - (u + 1)) at _ _ (drop at b) g ∙ rw (drop-drop, total-entries))
+
+    -- and the next starts within the bytes
+    pub units-room : r ≡ v.Fits → at ≤ length b → at + (4 + 6 * h .choices) ≤ length b
+    unfolding form-of unit-form
+    units-room q k = rw total-entries at (stage-room (d.Unit (h .choices)) b at r e q k)
+
+-- all that follows a header
+after-header : Header → Parser Job
+unfolding parse
+after-header h = do
+  rates ← record-due (rates-form (h .rates))
+  units ← many (h .units) (unit-parser (h .choices))
+  done (job-of h rates units)
+
+module _ (h : Header) (rs : List ℕ) (k : ℕ) (l : length rs ≡ h .rates) (b : List ℕ) where
+  -- the answer of the units' readings is that of the whole
+  whole : (s : Result (List (List Coding))) → ((us : List (List Coding)) (m : ℕ) → s ≡ took us m → length us ≡ h .units) → with-value header-in (further 22 (further k (onward s (λ us. done (job-of h rs us)) b))) ≡ answering h (further (22 + k) s)
+  unfolding with-value further onward answering done
+  whole (refused n) g = refl
+  whole (took us m) g =
+      let e : 22 + (k + (m + 0)) ≡ 22 + k + m = omega arith in
+      rw (e, header-back h rs us l (g us m refl))
+
+module _ (b : List ℕ) where
+  -- a refusal of the header's record is that of opening
+  open-refused : (n : ℕ) → record-due header-form b ≡ refused n → reading (r.Refused n) ≡ with-value header-in (parse b)
+  unfolding parse header-parser reading with-value
+  open-refused n e = sym (ap (with-value header-in) (bind-refused _ _ b n (bind-refused (record-due header-form) _ b n e)))
+
+  module _ (h : Header) (vs : List ℕ) (e : record-due header-form b ≡ took vs 22) (q : h ≡ header-of vs) where
+    -- the header is read
+    header-is : header-parser b ≡ took h 22
+    unfolding header-parser done further
+    header-is = bind-on (record-due header-form) _ b vs 22 e ∙ rw q
+
+    -- then all that follows it
+    parse-on : parse b ≡ further 22 (after-header h (drop 22 b))
+    unfolding parse after-header
+    parse-on = bind-on header-parser _ b h 22 header-is
+
+    -- a refusal of the rates' record is that of opening
+    rates-refused : (n : ℕ) → record-due (rates-form (h .rates)) (drop 22 b) ≡ refused n → reading (r.Refused n) ≡ with-value header-in (parse b)
+    unfolding after-header reading with-value further
+    rates-refused n g = sym (ap (with-value header-in) (parse-on ∙ ap (further 22) (bind-refused (record-due (rates-form (h .rates))) _ (drop 22 b) n g)))
+
+    -- after the rates the units decide
+    opened : (rs : List ℕ) (k : ℕ) → record-due (rates-form (h .rates)) (drop 22 b) ≡ took rs k → length rs ≡ h .rates → with-value header-in (parse b) ≡ answering h (further (22 + k) (many (h .units) (unit-parser (h .choices)) (drop (22 + k) b)))
+    unfolding after-header _>>=_
+    opened rs k g l =
+        ap (with-value header-in) (parse-on ∙ ap (further 22) (bind-on (record-due (rates-form (h .rates))) _ (drop 22 b) rs k g))
+        ∙ whole h rs k l (drop k (drop 22 b)) (many (h .units) (unit-parser (h .choices)) (drop k (drop 22 b))) (λ us m z. many-length (unit-parser (h .choices)) (h .units) (drop k (drop 22 b)) us m z)
+        ∙ rw drop-drop
+
+-- the same from the verdicts, as the code has them: r₁ on the header's record
+module _ (b : List ℕ) (r₁ : Verdict) (e₁ : verdict r₁ ≡ refusal-of (record-due (form-of d.Header) b)) where
+  -- its refusal is that of opening
+  pub first-refused : (n : ℕ) → r₁ ≡ v.Refused n → reading (r.Refused n) ≡ with-value header-in (parse b)
+  unfolding verdict form-of
+  first-refused n q = open-refused b n (has-refused (record-due header-form b) n (sym e₁ ∙ rw q))
+
+  module _ (q₁ : r₁ ≡ v.Fits) where
+    -- without one the header's fields are read
+    header-read : record-due header-form b ≡ took (fields (replicate 9 2) (drop 4 b)) 22
+    unfolding verdict form-of header-form total
+    header-read = record-took header-form b (sym e₁ ∙ rw q₁)
+
+    -- and what a record that was read says holds of them
+    header-took : RecordTook header-form b (fields (replicate 9 2) (drop 4 b)) 22
+    header-took = record-is header-form b _ _ header-read
+
+    -- the header lies within the bytes
+    pub header-room : 22 ≤ length b
+    unfolding header-form total
+    header-room = header-took .there
+
+    -- its fields lie within the body that the code takes
+    pub fields-room : 18 ≤ length (take (length b - 4) (drop 4 b))
+    fields-room = rw (rest-of, length-drop) (omega (arith, header-room))
+
+    -- h is the header read
+    module _ (h : Header) (s : h ≡ header-of (fields (replicate 9 2) (take (length b - 4) (drop 4 b)))) where
+      -- the same without the body's end
+      header-here : h ≡ header-of (fields (replicate 9 2) (drop 4 b))
+      header-here = rw (rest-of 4 b) at s
+
+      -- its fields are within their limits
+      pub header-kept : AllKept (header-limits h)
+      unfolding header-form
+      header-kept = rw header-here (header-took .kept)
+
+      -- r₂ is the verdict on the rates' record
+      module _ (r₂ : Verdict) (e₂ : verdict r₂ ≡ refusal-of (record-due (form-of (d.Rates (h .rates))) (take (length b - 22) (drop 22 b)))) where
+        -- its refusal is that of opening
+        pub second-refused : (n : ℕ) → r₂ ≡ v.Refused n → reading (r.Refused n) ≡ with-value header-in (parse b)
+        unfolding form-of
+        second-refused n q = rates-refused b h _ header-read header-here n (stage-refused (d.Rates (h .rates)) b 22 r₂ e₂ n q)
+
+        -- without one the rates lie within the bytes
+        pub rates-room : r₂ ≡ v.Fits → 26 + 2 * h .rates ≤ length b
+        unfolding form-of rates-form
+        rates-room q = omega (arith, rw total-same at (stage-room (d.Rates (h .rates)) b 22 r₂ e₂ q header-room))
+
+        -- and the units decide
+        pub then-units : r₂ ≡ v.Fits → with-value header-in (parse b) ≡ answering h (further (26 + 2 * h .rates) (many (h .units) (unit-parser (h .choices)) (drop (26 + 2 * h .rates) b)))
+        unfolding form-of rates-form
+        then-units q =
+            let k : 22 + (4 + total (replicate (h .rates) 2)) ≡ 26 + 2 * h .rates = omega (arith, total-same (h .rates) 2) in
+            opened b h _ header-read header-here _ _ (stage-took (d.Rates (h .rates)) b 22 r₂ e₂ q) (fields-length _ _ ∙ length-replicate (h .rates) 2) ∙ rw k

@@ -1,0 +1,89 @@
+-- `job::head_verdict` meets its contract: for each record that may be due, the kind and then the length.
+-- Assumes nothing.
+use mathlib.Core.Path.{refl}
+use native.Mathlib.Omega.{arith}
+use borrow.Author.Needs.{needs}
+use Rattle.format.specs.Fields.{total}
+use Rattle.format.specs.JobBytes.{header-form, rates-form, unit-form}
+use Rattle.format.proofs.Records.{total-same, total-entries}
+use Rattle.job.specs.Answers.{form-of}
+use Rattle.job.proofs.Verdicts.{refuses, fits}
+use Rattle.job.proofs.Records.{head-by, head-not}
+use Rattle.job.proofs.head_verdict.Statement.{statement}
+use Rattle.job.proofs.head_verdict.Tie as tie
+
+enum-told : tie.Need-enum-told
+enum-told c = search needs
+
+enum-known-due : tie.Need-enum-known-due
+enum-known-due c = search needs
+
+mul-same-length : tie.Need-mul-same-length
+mul-same-length c = omega (arith, rw (c .before .before .due .given .1) at (c .before .before .before .before .pre))
+
+add-same-length : tie.Need-add-same-length
+add-same-length c = omega (arith, rw (c .before .before .due .given .1) at (c .before .before .before .before .pre))
+
+same-length-requires : tie.Need-same-length-requires
+same-length-requires c κs = search needs
+
+enum-known-due-2 : tie.Need-enum-known-due-2
+enum-known-due-2 c = search needs
+
+mul-same-length-2 : tie.Need-mul-same-length-2
+mul-same-length-2 c = omega (arith, rw (c .before .before .due2 .given .1) at (c .before .before .before .before .pre))
+
+add-same-length-2 : tie.Need-add-same-length-2
+add-same-length-2 c = omega (arith, rw (c .before .before .due2 .given .1) at (c .before .before .before .before .pre))
+
+same-length-requires-2 : tie.Need-same-length-requires-2
+same-length-requires-2 c κs = search needs
+
+returns : tie.Need-returns
+unfolding form-of header-form total
+returns c = rw (c .before .before .enum-told .given .1) (head-by header-form _ _ 20 refl (c .before .match2 .keys1) _ (fits _ (omega arith)))
+
+returns-2 : tie.Need-returns-2
+unfolding form-of header-form total
+returns-2 c = rw (c .before .before .enum-told .given .1) (head-by header-form _ _ 20 refl (c .before .match2 .keys1) _ (refuses 2 _ (refl, tt) (λ o. c .match3 .rest .1 (omega (arith, o)))))
+
+returns-3 : tie.Need-returns-3
+unfolding form-of header-form
+returns-3 c = rw (c .before .enum-told .given .1) (head-not header-form _ _ (c .match2 .rest .1))
+
+returns-4 : tie.Need-returns-4
+unfolding form-of rates-form
+returns-4 c = let e = c .before .before .before .due .given in rw (e .1) (head-by (rates-form (e .0 .0)) _ _ _ (rw total-same) (c .before .match4 .keys1) _ (c .same-length .ensures))
+
+returns-5 : tie.Need-returns-5
+unfolding form-of rates-form
+returns-5 c = let e = c .before .before .due .given in rw (e .1) (head-not (rates-form (e .0 .0)) _ _ (c .match4 .rest .1))
+
+returns-6 : tie.Need-returns-6
+unfolding form-of unit-form
+returns-6 c = let e = c .before .before .before .due2 .given in rw (e .1) (head-by (unit-form (e .0 .0)) _ _ _ (rw total-entries) (c .before .match5 .keys1) _ (c .same-length2 .ensures))
+
+returns-7 : tie.Need-returns-7
+unfolding form-of unit-form
+returns-7 c = let e = c .before .before .due2 .given in rw (e .1) (head-not (unit-form (e .0 .0)) _ _ (c .match5 .rest .1))
+
+pub head-verdict-spec : {M : Type 1} → statement M
+head-verdict-spec =
+    tie.close
+    (tie.spec
+    enum-told
+    enum-known-due
+    mul-same-length
+    add-same-length
+    same-length-requires
+    enum-known-due-2
+    mul-same-length-2
+    add-same-length-2
+    same-length-requires-2
+    returns
+    returns-2
+    returns-3
+    returns-4
+    returns-5
+    returns-6
+    returns-7)

@@ -1,0 +1,101 @@
+-- `job::record_verdict` meets its contract: the record's shape, then the fields of its kind.
+-- Assumes nothing.
+use mathlib.Core.Path.{ap, _∙_}
+use native.Mathlib.Omega.{arith}
+use borrow.Author.Needs.{needs}
+use Rattle.format.specs.Fields.{total}
+use Rattle.format.specs.Limits.{broken}
+use Rattle.format.specs.JobBytes.{Header, header-limits, header-form, rates-form, unit-form}
+use Rattle.format.proofs.Records.{total-same, total-entries}
+use Rattle.job.specs.Answers.{form-of}
+use Rattle.job.proofs.Records.{record-refused, record-there, record-by-fields, body-room}
+use Rattle.job.proofs.record_verdict.Statement.{statement}
+use Rattle.job.proofs.record_verdict.Tie as tie
+
+shape-verdict-requires : tie.Need-shape-verdict-requires
+shape-verdict-requires c κs = search needs
+
+enum-known-n : tie.Need-enum-known-n
+enum-known-n c = search needs
+
+returns : tie.Need-returns
+returns c = record-refused _ _ _ (c .before .before .before .shape-verdict .ensures) _ (c .before .n .given .1)
+
+enum-told : tie.Need-enum-told
+enum-told c = search needs
+
+sub-body : tie.Need-sub-body
+sub-body c = omega (arith, record-there _ _ _ (c .before .before .shape-verdict .ensures) (c .enum-told .given .1))
+
+part-body-start : tie.Need-part-body-start
+part-body-start c = omega (arith, record-there _ _ _ (c .before .before .shape-verdict .ensures) (c .enum-told .given .1))
+
+part-body-end : tie.Need-part-body-end
+part-body-end c = search needs
+
+enum-told-2 : tie.Need-enum-told-2
+enum-told-2 c = search needs
+
+of-requires : tie.Need-of-requires
+unfolding form-of header-form total
+of-requires c κs = let t = c .before .before .before in rw (c .enum-told2 .given .1) at (body-room _ _ _ (t .before .before .shape-verdict .ensures) (t .enum-told .given .1))
+
+verdict-requires : tie.Need-verdict-requires
+verdict-requires c κs = search needs
+
+enum-known-due : tie.Need-enum-known-due
+enum-known-due c = search needs
+
+rates-verdict-requires : tie.Need-rates-verdict-requires
+unfolding form-of rates-form
+rates-verdict-requires c κs = let t = c .before .before .before .before in omega (arith, total-same (c .before .due .given .0 .0) 2, rw (c .before .due .given .1) at (body-room _ _ _ (t .before .before .shape-verdict .ensures) (t .enum-told .given .1)))
+
+enum-known-due-2 : tie.Need-enum-known-due-2
+enum-known-due-2 c = search needs
+
+codings-verdict-requires : tie.Need-codings-verdict-requires
+unfolding form-of unit-form
+codings-verdict-requires c κs = let t = c .before .before .before .before in omega (arith, total-entries (c .before .due2 .given .0 .0), rw (c .before .due2 .given .1) at (body-room _ _ _ (t .before .before .shape-verdict .ensures) (t .enum-told .given .1)))
+
+returns-2 : tie.Need-returns-2
+unfolding form-of header-form
+returns-2 c =
+    let t = c .before .before .before .before .before in
+    record-by-fields _ _ _ (t .before .before .shape-verdict .ensures) (t .enum-told .given .1) _
+    (rw (c .before .before .enum-told2 .given .1) (c .verdict .ensures ∙ ap (λ (h : Header). broken (header-limits h)) (c .before .of .ensures)))
+
+returns-3 : tie.Need-returns-3
+unfolding form-of rates-form
+returns-3 c =
+    let t = c .before .before .before .before .before in
+    record-by-fields _ _ _ (t .before .before .shape-verdict .ensures) (t .enum-told .given .1) _
+    (rw (c .before .before .due .given .1) (c .rates-verdict .ensures))
+
+returns-4 : tie.Need-returns-4
+unfolding form-of unit-form
+returns-4 c =
+    let t = c .before .before .before .before .before in
+    record-by-fields _ _ _ (t .before .before .shape-verdict .ensures) (t .enum-told .given .1) _
+    (rw (c .before .before .due2 .given .1) (c .codings-verdict .ensures))
+
+pub record-verdict-spec : {M : Type 1} → statement M
+record-verdict-spec =
+    tie.close
+    (tie.spec
+    shape-verdict-requires
+    enum-known-n
+    returns
+    enum-told
+    sub-body
+    part-body-start
+    part-body-end
+    enum-told-2
+    of-requires
+    verdict-requires
+    enum-known-due
+    rates-verdict-requires
+    enum-known-due-2
+    codings-verdict-requires
+    returns-2
+    returns-3
+    returns-4)

@@ -1,0 +1,100 @@
+-- The check over the job's bytes is the check over the job that they hold.
+-- Assumes nothing.
+use Prim.Native.Nat.{ℕ, suc, _-_, _<_}
+use mathlib.Core.Path.{_≡_, refl, sym, _∙_, ap}
+use mathlib.Core.Logic.{_⊎_, inl, inr}
+use mathlib.Core.Bool.{Bool, true, false}
+use mathlib.Core.Option.{some, Option·none-ne-some}
+use mathlib.Core.List.{List}
+use native.Mathlib.Omega.{arith}
+use lib.Dec.{eqb}
+use lib.ListN.{length, getD}
+use borrow.Author.Tests.{eq-eqb, ne-eqb}
+use Rattle.model.specs.If.{if_then_else_}
+use Rattle.model.specs.Job.{Coding, Job, codingAt}
+use Rattle.model.specs.Pins.{PinTotals, totals-to}
+use Rattle.model.proofs.PinTotals.{totals-agree}
+use Rattle.format.specs.Parser.{refused, took}
+use Rattle.format.specs.JobBytes.{Header, header-in, parse}
+use Rattle.format.specs.Claims.{InLimits}
+use Rattle.format.proofs.Bounds.{limited}
+use Rattle.format.proofs.Places.{well-read, looks-up}
+use Rattle.job.specs.Answers.{same-header}
+use Rattle.pins.specs.State.{State, no-pin, pin-of, lines}
+use Rattle.pins.specs.Check.{bytes-fit, same-totals, fits, accept, checked}
+use Rattle.pins.specs.Answers.{codings-in}
+use Rattle.pins.proofs.Lines.{pin-mark, pin-some, lines-at}
+use Rattle.pins.proofs.Checks.{byte-kept, bytes-each}
+
+-- equal totals, test by test
+pub totals-differ-count : (a b : PinTotals) → (a .count ≡ b .count → ⊥) → false ≡ same-totals a b
+unfolding same-totals if_then_else_
+totals-differ-count a b h = rw (ne-eqb (a .count) (b .count) h)
+
+pub totals-differ-size : (a b : PinTotals) → a .count ≡ b .count → (a .size ≡ b .size → ⊥) → false ≡ same-totals a b
+unfolding same-totals if_then_else_
+totals-differ-size a b e h = rw (eq-eqb (a .count) (b .count) e, ne-eqb (a .size) (b .size) h)
+
+pub totals-by-distortion : (a b : PinTotals) → a .count ≡ b .count → a .size ≡ b .size → eqb (a .distortion) (b .distortion) ≡ same-totals a b
+unfolding same-totals if_then_else_
+totals-by-distortion a b e f = rw (eq-eqb (a .count) (b .count) e, eq-eqb (a .size) (b .size) f)
+
+-- the check, test by test
+module _ (codings : ℕ → ℕ → Coding) (h : Header) (s : State) where
+  pub fits-not-header : same-header (s .header) h ≡ false → false ≡ fits codings h s
+  unfolding fits if_then_else_
+  fits-not-header e = rw e
+
+  pub fits-not-bytes : same-header (s .header) h ≡ true → bytes-fit h (s .bytes) 512 ≡ false → false ≡ fits codings h s
+  unfolding fits if_then_else_
+  fits-not-bytes e f = rw (e, f)
+
+  pub fits-by-totals : same-header (s .header) h ≡ true → bytes-fit h (s .bytes) 512 ≡ true → same-totals (s .totals) (totals-to codings (lines (h .units) (s .bytes)) (h .units)) ≡ fits codings h s
+  unfolding fits if_then_else_
+  fits-by-totals e f = rw (e, f)
+
+module _ (b : List ℕ) (j : Job) (k : ℕ) (parsed : parse b ≡ took j k) where
+  pub limits : InLimits j
+  limits = limited j (well-read b j k parsed)
+
+  -- a unit in place i, at a choice that it has, is coded in the job as in the bytes
+  pub coding-agrees : (i x : ℕ) → i < length (j .units) → x < j .choices → codings-in b (header-in j) i x ≡ codingAt j i x
+  unfolding codings-in
+  coding-agrees i x l c =
+      let e : suc i - 1 ≡ i = omega arith in
+      looks-up b j k parsed .coding (suc i) x (omega arith) (omega arith) c ∙ ap (λ (n : ℕ). codingAt j n x) e
+
+  pub checked-took : (s : State) → fits (codingAt j) (header-in j) s ≡ true → checked b s ≡ took j k
+  unfolding checked accept if_then_else_
+  checked-took s e = rw (parsed, e)
+
+  pub checked-six : (s : State) → fits (codingAt j) (header-in j) s ≡ false → checked b s ≡ refused 6
+  unfolding checked accept if_then_else_
+  checked-six s e = rw (parsed, e)
+
+  module _ (s : State) (size : length (s .bytes) ≡ 512) where
+    totals-agree-in : bytes-fit (header-in j) (s .bytes) 512 ≡ true → totals-to (codings-in b (header-in j)) (lines (length (j .units)) (s .bytes)) (length (j .units)) ≡ totals-to (codingAt j) (lines (length (j .units)) (s .bytes)) (length (j .units))
+    unfolding header-in
+    totals-agree-in f =
+        totals-agree (codings-in b (header-in j)) (codingAt j) (lines (length (j .units)) (s .bytes)) (length (j .units))
+        (λ i x l e.
+        let p = sym (lines-at (length (j .units)) (s .bytes) i (omega (arith, size, limits .units)) l) ∙ e in
+        let q = pin-some (getD (s .bytes) i 0) x p in
+        coding-agrees i x l (below i x p q (byte-kept (header-in j) i (getD (s .bytes) i 0) (bytes-each (header-in j) (s .bytes) 512 f i (omega (arith, limits .units))))))
+      where
+        below : (i x : ℕ) → pin-of (getD (s .bytes) i 0) ≡ some x → getD (s .bytes) i 0 ≡ x → (getD (s .bytes) i 0 ≡ no-pin) ⊎ ((i < length (j .units)) × (getD (s .bytes) i 0 < j .choices)) → x < j .choices
+        below i x p q (inl e) = absurd (Option·none-ne-some x (sym pin-mark ∙ ap pin-of (sym e) ∙ p))
+        below i x p q (inr h) = omega arith
+
+    pub fits-agree : fits (codings-in b (header-in j)) (header-in j) s ≡ fits (codingAt j) (header-in j) s
+    unfolding fits if_then_else_ header-in
+    fits-agree = go (same-header (s .header) (header-in j)) (bytes-fit (header-in j) (s .bytes) 512) refl
+      where
+        go : (t f : Bool) → bytes-fit (header-in j) (s .bytes) 512 ≡ f → (if t then if f then same-totals (s .totals) (totals-to (codings-in b (header-in j)) (lines (length (j .units)) (s .bytes)) (length (j .units))) else false else false) ≡ (if t then if f then same-totals (s .totals) (totals-to (codingAt j) (lines (length (j .units)) (s .bytes)) (length (j .units))) else false else false)
+        go false f e = refl
+        go true false e = refl
+        go true true e = ap (same-totals (s .totals)) (totals-agree-in e)
+
+pub checked-refused : (b : List ℕ) (s : State) (n : ℕ) → parse b ≡ refused n → checked b s ≡ refused n
+unfolding checked accept
+checked-refused b s n e = rw e

@@ -1,0 +1,30 @@
+use Rattle.pins.specs.Answers.{state}
+use Rattle.pins.specs.Calls.{with-pin}
+use Rattle.job.specs.Answers.{coding-of}
+use mathlib.Core.Path.{refl}
+use borrow.Author.Needs.{needs}
+use Rattle.pins.proofs.PinSet.with_pin.Statement.{statement}
+use Rattle.pins.proofs.PinSet.with_pin.Tie as tie
+
+element-write-self : tie.Need-element-write-self
+element-write-self c = search needs
+
+add-self : tie.Need-add-self
+add-self c = search needs
+
+cast-self : tie.Need-cast-self
+cast-self c = search needs
+
+add-self-2 : tie.Need-add-self-2
+add-self-2 c = search needs
+
+add-self-3 : tie.Need-add-self-3
+add-self-3 c = search needs
+
+returns : tie.Need-returns
+unfolding state with-pin coding-of
+returns c = refl
+
+pub with-pin-spec : {M : Type 1} → statement M
+with-pin-spec =
+    tie.close (tie.spec element-write-self add-self cast-self add-self-2 add-self-3 returns)

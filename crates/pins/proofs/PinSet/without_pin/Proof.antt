@@ -1,0 +1,30 @@
+use Rattle.pins.specs.Answers.{state}
+use Rattle.pins.specs.Calls.{without-pin}
+use Rattle.job.specs.Answers.{coding-of}
+use mathlib.Core.Path.{refl}
+use borrow.Author.Needs.{needs}
+use Rattle.pins.proofs.PinSet.without_pin.Statement.{statement}
+use Rattle.pins.proofs.PinSet.without_pin.Tie as tie
+
+element-write-self : tie.Need-element-write-self
+element-write-self c = search needs
+
+sub-self : tie.Need-sub-self
+sub-self c = search needs
+
+cast-self : tie.Need-cast-self
+cast-self c = search needs
+
+sub-self-2 : tie.Need-sub-self-2
+sub-self-2 c = search needs
+
+sub-self-3 : tie.Need-sub-self-3
+sub-self-3 c = search needs
+
+returns : tie.Need-returns
+unfolding state without-pin coding-of
+returns c = refl
+
+pub without-pin-spec : {M : Type 1} → statement M
+without-pin-spec =
+    tie.close (tie.spec element-write-self sub-self cast-self sub-self-2 sub-self-3 returns)

@@ -1,0 +1,52 @@
+use Rattle.pins.proofs.Agree.{fits-not-header, fits-not-bytes, fits-by-totals}
+use Rattle.pins.specs.Answers.{state}
+use Rattle.pins.specs.Check.{same-totals}
+use Rattle.job.specs.Answers.{plain}
+use borrow.Author.Tests.{not-true, not-false}
+use mathlib.Core.Path.{sym, _∙_, ap}
+use borrow.Author.Needs.{needs}
+use Rattle.pins.proofs.fits.Statement.{statement}
+use Rattle.pins.proofs.fits.Tie as tie
+
+same-requires : tie.Need-same-requires
+same-requires c κs = search needs
+
+returns : tie.Need-returns
+unfolding state
+returns c = fits-not-header _ _ _ (sym (c .before .same .ensures) ∙ not-true _ (c .if1 .taken))
+
+bytes-fit-requires : tie.Need-bytes-fit-requires
+bytes-fit-requires c κs = search needs
+
+returns-2 : tie.Need-returns-2
+unfolding state
+returns-2 c =
+    let s = c .before .before .before .before in
+    fits-not-bytes _ _ _ (sym (s .before .same .ensures) ∙ not-false _ (s .if1 .left)) (sym (c .before .bytes-fit .ensures) ∙ not-true _ (c .if2 .taken))
+
+sum-lines-requires : tie.Need-sum-lines-requires
+sum-lines-requires c κs = search needs
+
+same-totals-requires : tie.Need-same-totals-requires
+same-totals-requires c κs = search needs
+
+returns-3 : tie.Need-returns-3
+unfolding state plain
+returns-3 c =
+    let e = c .before .before .before in
+    let s = e .before .before .before .before in
+    c .same-totals .ensures
+    ∙ ap (same-totals _) (c .before .sum-lines .ensures)
+    ∙ fits-by-totals _ _ _ (sym (s .before .same .ensures) ∙ not-false _ (s .if1 .left)) (sym (e .before .bytes-fit .ensures) ∙ not-false _ (e .if2 .left))
+
+pub fits-spec : {M : Type 1} → statement M
+fits-spec =
+    tie.close
+    (tie.spec
+    same-requires
+    returns
+    bytes-fit-requires
+    returns-2
+    sum-lines-requires
+    same-totals-requires
+    returns-3)

@@ -1,0 +1,100 @@
+use Rattle.pins.proofs.Calls.{lift-seven, lift-ten, lift-taken, place-below, pinned-below, held}
+use Rattle.pins.specs.Answers.{state, number, handed}
+use Rattle.pins.specs.Calls.{take-in}
+use Rattle.job.specs.Answers.{plain}
+use lib.ListN.{length}
+use mathlib.Core.Path.{_≡_, refl, sym, _∙_}
+use borrow.Author.Needs.{needs}
+use Rattle.pins.proofs.lift_line.Statement.{statement}
+use Rattle.pins.proofs.lift_line.Tie as tie
+use Rattle.pins.proofs.lift_line.Reads as reads
+use Rattle.pins.proofs.lift_line.Lts as lts
+use Rattle.job.proofs.coding_at.Reads as coding-at-reads
+use Rattle.pins.proofs.PinSet.without_pin.Reads as without-pin-reads
+use Rattle.pins.proofs.outside.Reads as outside-reads
+use Rattle.pins.proofs.refused.Reads as refused-reads
+
+-- the set's array has its length
+pins-size : (start : lts.Start (outside-reads.Asked, outside-reads.Learnt, refused-reads.Asked, refused-reads.Learnt, coding-at-reads.Asked, coding-at-reads.Learnt, without-pin-reads.Asked, without-pin-reads.Learnt) reads.Pre reads.Post) → length (start .args .t3 .pins) ≡ 512
+pins-size start = search needs
+
+outside-requires : tie.Need-outside-requires
+outside-requires c κs = search needs
+
+refused-requires : tie.Need-refused-requires
+refused-requires c κs = search needs
+
+returns : tie.Need-returns
+unfolding plain
+returns c =
+    let t = c .before in
+    let o = t .before in
+    c .refused .ensures ∙ lift-seven _ _ _ (o .before .before .pre) _ (sym (o .outside .ensures) ∙ t .if1 .taken)
+
+sub-at : tie.Need-sub-at
+unfolding plain
+sub-at c =
+    let o = c .before in
+    place-below _ _ _ (o .before .before .pre) _ (sym (o .outside .ensures) ∙ c .if1 .left) .0
+
+cast-at : tie.Need-cast-at
+cast-at c = search needs
+
+element-copy-out-old : tie.Need-element-copy-out-old
+unfolding plain
+element-copy-out-old c =
+    let o = c .before in
+    place-below _ _ _ (o .before .before .pre) _ (sym (o .outside .ensures) ∙ c .if1 .left) .1
+
+refused-requires-2 : tie.Need-refused-requires-2
+refused-requires-2 c κs = search needs
+
+returns-2 : tie.Need-returns-2
+unfolding plain state
+returns-2 c =
+    let t = c .before in
+    let e = t .before .before in
+    let o = e .before in
+    c .refused2 .ensures ∙ lift-ten _ _ _ (o .before .before .pre) _ (sym (o .outside .ensures) ∙ e .if1 .left) (t .if2 .taken)
+
+cast-coding-at : tie.Need-cast-coding-at
+cast-coding-at c = search needs
+
+coding-at-requires : tie.Need-coding-at-requires
+coding-at-requires c κs = search needs
+
+without-pin-requires : tie.Need-without-pin-requires
+unfolding plain state
+without-pin-requires c κs =
+    let f = c .before in
+    let e = f .before .before in
+    let o = e .before in
+    let below = pinned-below _ _ _ (o .before .before .pre) _ (sym (o .outside .ensures) ∙ e .if1 .left) (f .if2 .left) in
+    (held _ _ _ (o .before .before .pre) (pins-size (o .before .before)) _ (sym (o .outside .ensures) ∙ e .if1 .left) _ below _ (c .coding-at .ensures) refl (f .if2 .left))
+
+returns-3 : tie.Need-returns-3
+unfolding plain state handed number take-in
+returns-3 c =
+    let a = c .before in
+    let f = a .before in
+    let e = f .before .before in
+    let o = e .before in
+    let taken = lift-taken _ _ _ (o .before .before .pre) _ (sym (o .outside .ensures) ∙ e .if1 .left) (f .if2 .left) in
+    rw (c .without-pin .ensures, a .coding-at .ensures) taken
+
+pub lift-line-spec : {M : Type 1} → statement M
+lift-line-spec =
+    tie.close
+    (tie.spec
+    outside-requires
+    refused-requires
+    returns
+    sub-at
+    cast-at
+    element-copy-out-old
+    refused-requires-2
+    returns-2
+    cast-coding-at
+    coding-at-requires
+    without-pin-requires
+    returns-3)

@@ -1,0 +1,45 @@
+use Rattle.pins.proofs.Answering.{call-refused, ready}
+use Rattle.job.proofs.Answers.{answer-took, answer-refused}
+use mathlib.Core.Path.{_∙_}
+use borrow.Author.Needs.{needs}
+use Rattle.pins.proofs.pin.Statement.{statement}
+use Rattle.pins.proofs.pin.Tie as tie
+
+check-requires : tie.Need-check-requires
+check-requires c κs = search needs
+
+enum-known-n : tie.Need-enum-known-n
+enum-known-n c = search needs
+
+refused-requires : tie.Need-refused-requires
+refused-requires c κs = search needs
+
+enum-known-header : tie.Need-enum-known-header
+enum-known-header c = search needs
+
+pin-line-requires : tie.Need-pin-line-requires
+pin-line-requires c κs =
+    let h = c .before in
+    let check = h .before .before .check in
+    ready _ _ _ _ (answer-took _ (check .result) _ _ (check .ensures) (h .header .given .1))
+
+returns : tie.Need-returns
+returns c =
+    let n = c .before .before in
+    let check = n .before .before .check in
+    c .refused .ensures ∙ call-refused _ _ _ _ (answer-refused _ (check .result) _ (check .ensures) (n .n .given .1))
+
+returns-2 : tie.Need-returns-2
+returns-2 c = search needs
+
+pub pin-spec : {M : Type 1} → statement M
+pin-spec =
+    tie.close
+    (tie.spec
+    check-requires
+    enum-known-n
+    refused-requires
+    enum-known-header
+    pin-line-requires
+    returns
+    returns-2)

@@ -1,0 +1,124 @@
+use Rattle.pins.proofs.Calls.{choices-are, job-limits}
+use native.Mathlib.Omega.{arith}
+use lib.ListN.{length}
+use mathlib.Core.Path.{_≡_}
+use Rattle.pins.proofs.Calls.{pin-seven, pin-eight, pin-nine, pin-taken, place-below, room}
+use Rattle.pins.specs.Answers.{state, number, handed}
+use Rattle.pins.specs.Calls.{take-in}
+use Rattle.job.specs.Answers.{plain}
+use mathlib.Core.Path.{sym, _∙_}
+use borrow.Author.Needs.{needs}
+use Rattle.pins.proofs.pin_line.Statement.{statement}
+use Rattle.pins.proofs.pin_line.Tie as tie
+use Rattle.pins.proofs.pin_line.Reads as reads
+use Rattle.pins.proofs.pin_line.Lts as lts
+use Rattle.job.proofs.coding_at.Reads as coding-at-reads
+use Rattle.pins.proofs.PinSet.with_pin.Reads as with-pin-reads
+use Rattle.pins.proofs.outside.Reads as outside-reads
+use Rattle.pins.proofs.refused.Reads as refused-reads
+
+-- the set's array has its length
+pins-size : (start : lts.Start (outside-reads.Asked, outside-reads.Learnt, refused-reads.Asked, refused-reads.Learnt, coding-at-reads.Asked, coding-at-reads.Learnt, with-pin-reads.Asked, with-pin-reads.Learnt) reads.Pre reads.Post) → length (start .args .t3 .pins) ≡ 512
+pins-size start = search needs
+
+outside-requires : tie.Need-outside-requires
+outside-requires c κs = search needs
+
+refused-requires : tie.Need-refused-requires
+refused-requires c κs = search needs
+
+returns : tie.Need-returns
+unfolding plain
+returns c =
+    let t = c .before in
+    let o = t .before in
+    c .refused .ensures ∙ pin-seven _ _ _ (o .before .before .pre) _ _ (sym (o .outside .ensures) ∙ t .if1 .taken)
+
+refused-requires-2 : tie.Need-refused-requires-2
+refused-requires-2 c κs = search needs
+
+returns-2 : tie.Need-returns-2
+unfolding plain
+returns-2 c =
+    let t = c .before in
+    let e = t .before in
+    let o = e .before in
+    c .refused2 .ensures ∙ pin-eight _ _ _ (o .before .before .pre) _ (sym (o .outside .ensures) ∙ e .if1 .left) _ (t .if2 .taken)
+
+sub-at : tie.Need-sub-at
+unfolding plain
+sub-at c =
+    let e = c .before in
+    let o = e .before in
+    place-below _ _ _ (o .before .before .pre) _ (sym (o .outside .ensures) ∙ e .if1 .left) .0
+
+cast-at : tie.Need-cast-at
+cast-at c = search needs
+
+element-copy-out-old : tie.Need-element-copy-out-old
+unfolding plain
+element-copy-out-old c =
+    let e = c .before in
+    let o = e .before in
+    place-below _ _ _ (o .before .before .pre) _ (sym (o .outside .ensures) ∙ e .if1 .left) .1
+
+refused-requires-3 : tie.Need-refused-requires-3
+refused-requires-3 c κs = search needs
+
+returns-3 : tie.Need-returns-3
+unfolding plain state
+returns-3 c =
+    let t = c .before in
+    let l = t .before .before in
+    let e = l .before in
+    let o = e .before in
+    c .refused3 .ensures ∙ pin-nine _ _ _ (o .before .before .pre) _ (sym (o .outside .ensures) ∙ e .if1 .left) _ (l .if2 .left) (t .if3 .taken)
+
+coding-at-requires : tie.Need-coding-at-requires
+coding-at-requires c κs = search needs
+
+cast-with-pin : tie.Need-cast-with-pin
+unfolding plain
+cast-with-pin c =
+    let l = c .before .before .before in
+    let s = l .before .before .before .before in
+    (record { fits = omega (arith, choices-are _ _ _ (s .pre), job-limits _ _ _ (s .pre) .choices) })
+
+with-pin-requires : tie.Need-with-pin-requires
+unfolding plain
+with-pin-requires c κs =
+    let f = c .before in
+    let l = f .before .before in
+    let e = l .before in
+    let o = e .before in
+    (room _ _ _ (o .before .before .pre) (pins-size (o .before .before)) _ (sym (o .outside .ensures) ∙ e .if1 .left) _ (l .if2 .left) _ (c .coding-at .ensures))
+
+returns-4 : tie.Need-returns-4
+unfolding plain state handed number take-in
+returns-4 c =
+    let a = c .before in
+    let f = a .before in
+    let l = f .before .before in
+    let e = l .before in
+    let o = e .before in
+    let taken = pin-taken _ _ _ (o .before .before .pre) _ (sym (o .outside .ensures) ∙ e .if1 .left) _ (l .if2 .left) (f .if3 .left) in
+    rw (c .with-pin .ensures, a .coding-at .ensures) taken
+
+pub pin-line-spec : {M : Type 1} → statement M
+pin-line-spec =
+    tie.close
+    (tie.spec
+    outside-requires
+    refused-requires
+    returns
+    refused-requires-2
+    returns-2
+    sub-at
+    cast-at
+    element-copy-out-old
+    refused-requires-3
+    returns-3
+    coding-at-requires
+    cast-with-pin
+    with-pin-requires
+    returns-4)

@@ -1,0 +1,87 @@
+-- What the structs and answers of this crate mean in the terms of `State` and `Calls`, case by case, and what its functions are asked.
+-- Assumes nothing.
+use Prim.Native.Nat.{ℕ, suc, _+_, _<_, _≤_}
+use mathlib.Core.Path.{_≡_}
+use mathlib.Core.Option.{Option, none, some}
+use mathlib.Core.List.{List}
+use Rattle.model.specs.Answer.{refused, gives}
+use Rattle.model.specs.Answer as answer
+use Rattle.model.specs.Job as model
+use Rattle.model.specs.Pins.{PinTotals, with-line}
+use Rattle.format.specs.Parser.{took}
+use Rattle.format.specs.JobBytes.{header-in, parse}
+use Rattle.format.specs.JobBytes as format
+use Rattle.format.specs.Places.{coding-at}
+use Rattle.job.specs.declared.Coding.{Coding}
+use Rattle.job.specs.Answers.{plain}
+use Rattle.pins.specs.declared.PinSet.{PinSet}
+use Rattle.pins.specs.declared.Tally.{Tally}
+use Rattle.pins.specs.declared.Opening.{Opening}
+use Rattle.pins.specs.declared.Opening.the-variants as o
+use Rattle.pins.specs.declared.Opened.{Opened}
+use Rattle.pins.specs.declared.Answer.{Answer}
+use Rattle.pins.specs.declared.Answer.the-variants as a
+use Rattle.pins.specs.declared.Handed.{Handed}
+use Rattle.pins.specs.State.{State, pin-of}
+use Rattle.pins.specs.Check.{Matches}
+use Rattle.pins.specs.Calls as calls
+
+unfoldable pub state : PinSet → State
+state s = record {
+  header = plain (s .header);
+  bytes = s .pins;
+  totals = record { count = s .count; size = s .size; distortion = s .distortion };
+}
+
+-- document 01's numbers for the answers
+unfoldable pub opening-answer : Opening → answer.Answer ℕ
+opening-answer (o.Took k) = gives k
+opening-answer (o.Refused n) = refused n
+
+unfoldable pub opening : Opened → calls.Opening
+opening r = record { answer = opening-answer (r .answer); state = state (r .set) }
+
+unfoldable pub number : Answer → Option ℕ
+number a.Done = none
+number (a.Refused n) = some n
+
+unfoldable pub handed : Handed → calls.Handed
+handed r = record { refused = number (r .answer); state = state (r .set) }
+
+-- What the private functions say and ask.
+
+unfoldable pub tallied : Tally → PinTotals
+tallied t = record { count = t .count; size = t .size; distortion = t .distortion }
+
+-- the codings that stand in a job's bytes, for the unit in each place
+unfoldable pub codings-in : List ℕ → format.Header → ℕ → ℕ → model.Coding
+codings-in b h i x = coding-at b h (suc i) x
+
+-- r is the sum with one line more, and not much more
+pub record Added (b : List ℕ) (h : format.Header) (place pin : ℕ) (sum r : Tally) : Type 0 where
+  pub is : tallied r ≡ with-line (codings-in b h place) (pin-of pin) (tallied sum)
+  pub count : r .count ≤ sum .count + 1
+  pub size : r .size ≤ sum .size + 65535
+  pub distortion : r .distortion ≤ sum .distortion + 4294967295
+
+-- the bytes are those of a job with this header, and the set matches it
+pub record Ready (b : List ℕ) (h : format.Header) (s : State) : Type 0 where
+  pub job : model.Job
+  pub taken : ℕ
+  pub parsed : parse b ≡ took job taken
+  pub header-is : header-in job ≡ h
+  pub matches : Matches job s
+
+-- a pin more does not overflow the totals
+pub record Room (s : PinSet) (place : ℕ) (c : Coding) : Type 0 where
+  pub place-below : place < 512
+  pub count : s .count + 1 < 4294967296
+  pub size : s .size + c .size < 4294967296
+  pub distortion : s .distortion + c .distortion < 4294967296
+
+-- the totals have the pin
+pub record Pinned (s : PinSet) (place : ℕ) (c : Coding) : Type 0 where
+  pub place-below : place < 512
+  pub count : 1 ≤ s .count
+  pub size : c .size ≤ s .size
+  pub distortion : c .distortion ≤ s .distortion

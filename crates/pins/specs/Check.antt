@@ -1,0 +1,52 @@
+-- The check of a set against a job, refusal 6: "header differs; a pin byte is neither 255 nor below M; one past N is not 255; a total is not the sum over the pins".
+-- Assumes nothing.
+use Prim.Native.Nat.{ℕ, zero, suc, _<_, _≤_}
+use mathlib.Core.Path.{_≡_}
+use mathlib.Core.Logic.{_⊎_}
+use mathlib.Core.Bool.{Bool, true, false}
+use mathlib.Core.List.{List}
+use lib.Dec.{eqb, ltb}
+use lib.ListN.{length, getD}
+use Rattle.model.specs.If.{if_then_else_}
+use Rattle.model.specs.Job.{Coding, Job, codingAt}
+use Rattle.model.specs.Pins.{PinTotals, totals-to, pin-totals}
+use Rattle.format.specs.JobBytes.{Header, header-in}
+use Rattle.format.specs.Parser.{Result, refused, took}
+use Rattle.format.specs.JobBytes.{parse}
+use Rattle.pins.specs.State.{State, no-pin, lines}
+use Rattle.job.specs.Answers.{same-header}
+
+-- in the document's words
+pub record Matches (j : Job) (s : State) : Type 0 where
+  pub header : s .header ≡ header-in j
+  pub pins : (i : ℕ) → i < length (j .units) → (getD (s .bytes) i 0 ≡ no-pin) ⊎ (getD (s .bytes) i 0 < j .choices)
+  pub past : (i : ℕ) → length (j .units) ≤ i → i < 512 → getD (s .bytes) i 0 ≡ no-pin
+  pub totals : s .totals ≡ pin-totals j (lines (length (j .units)) (s .bytes))
+
+-- the byte in place i: of a unit it is 255 or below M, past the last unit it is 255
+unfoldable pub byte-fits : Header → ℕ → ℕ → Bool
+byte-fits h i x = if eqb x no-pin then true else if ltb i (h .units) then ltb x (h .choices) else false
+
+-- the first n bytes
+unfoldable pub bytes-fit : Header → List ℕ → ℕ → Bool
+bytes-fit h bytes zero = true
+bytes-fit h bytes (suc n) = if bytes-fit h bytes n then byte-fits h n (getD bytes n 0) else false
+
+unfoldable pub same-totals : PinTotals → PinTotals → Bool
+same-totals a b = if eqb (a .count) (b .count) then if eqb (a .size) (b .size) then eqb (a .distortion) (b .distortion) else false else false
+
+-- as a test, of a job with this header in which unit i + 1 has the codings in place i
+unfoldable pub fits : (ℕ → ℕ → Coding) → Header → State → Bool
+fits codings h s =
+    if same-header (s .header) h then
+    if bytes-fit h (s .bytes) 512 then same-totals (s .totals) (totals-to codings (lines (h .units) (s .bytes)) (h .units))
+    else false
+    else false
+
+unfoldable pub accept : State → Result Job → Result Job
+accept s (refused n) = refused n
+accept s (took j k) = if fits (codingAt j) (header-in j) s then took j k else refused 6
+
+-- what every call that takes a job and a set tests first: the job, 1 to 5, then the set against it, 6
+unfoldable pub checked : List ℕ → State → Result Job
+checked b s = accept s (parse b)
