@@ -2,7 +2,9 @@
 -- Assumes nothing.
 use Prim.Native.Nat.{ℕ, zero, suc}
 use mathlib.Core.Path.{_≡_}
+use mathlib.Core.Bool.{Bool, _&&_}
 use mathlib.Core.List.{List, [], _∷_, _++_}
+use lib.Dec.{eqb}
 use lib.ListN.{length, getD, replicate}
 use Rattle.model.specs.If.{if_then_else_}
 use Rattle.model.specs.Job.{bucketAt, Coding, Job}
@@ -39,6 +41,19 @@ header-of vs = record {
   rates = getD vs 7 0;
   choices = getD vs 8 0;
 }
+
+-- whether two headers agree in every field
+unfoldable pub same-header : Header → Header → Bool
+same-header a b =
+    eqb (a .units) (b .units)
+    && eqb (a .delay) (b .delay)
+    && eqb (a .decoder) (b .decoder)
+    && eqb (a .bucket) (b .bucket)
+    && eqb (a .drain) (b .drain)
+    && eqb (a .level) (b .level)
+    && eqb (a .fill) (b .fill)
+    && eqb (a .rates) (b .rates)
+    && eqb (a .choices) (b .choices)
 
 -- 3: a field is out of range
 abbrev pub header-limits : Header → List Limit

@@ -4,5 +4,4 @@ pub mod Fields
 pub mod Records
 pub mod Loops
 pub mod Opening
-pub mod Headers
 pub mod Answers

@@ -1,10 +1,10 @@
 -- What the reader's structs and answers mean in the terms of the crates below, case by case.
 -- Assumes nothing.
 use Prim.Native.Nat.{ℕ, _≤_}
-use mathlib.Core.Bool.{Bool, false, _&&_}
+use mathlib.Core.Bool.{Bool, false}
 use mathlib.Core.Option.{Option, none, some}
 use mathlib.Core.List.{List}
-use lib.Dec.{eqb, ltb}
+use lib.Dec.{ltb}
 use lib.ListN.{length, drop}
 use Rattle.model.specs.If.{if_then_else_}
 use Rattle.model.specs.Job as model
@@ -49,19 +49,6 @@ reading (r.Read h k) = took (plain h) k
 unfoldable pub verdict : Verdict → Option ℕ
 verdict v.Fits = none
 verdict (v.Refused n) = some n
-
--- whether two headers agree in every field
-unfoldable pub same-header : format.Header → format.Header → Bool
-same-header a b =
-    eqb (a .units) (b .units)
-    && eqb (a .delay) (b .delay)
-    && eqb (a .decoder) (b .decoder)
-    && eqb (a .bucket) (b .bucket)
-    && eqb (a .drain) (b .drain)
-    && eqb (a .level) (b .level)
-    && eqb (a .fill) (b .fill)
-    && eqb (a .rates) (b .rates)
-    && eqb (a .choices) (b .choices)
 
 -- the record that is due
 unfoldable pub form-of : Due → Form

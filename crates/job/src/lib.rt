@@ -9,9 +9,9 @@ ghost use Rattle.format.specs.Fields.{number, fields};
 ghost use Rattle.format.specs.Limits.{limit, kept, broken, AllKept};
 ghost use Rattle.format.specs.Parser.{further, many, refusal-of, with-value};
 ghost use Rattle.format.specs.Records.{head-limits, record-due};
-ghost use Rattle.format.specs.JobBytes.{header-of, header-limits, rate-limit, rate-limits, size-limit, distortion-limit, coding-limits, codings, entry-widths, header-in, unit-parser, parse};
+ghost use Rattle.format.specs.JobBytes.{header-of, same-header, header-limits, rate-limit, rate-limits, size-limit, distortion-limit, coding-limits, codings, entry-widths, header-in, unit-parser, parse};
 ghost use Rattle.format.specs.Places.{unit-size, field-at, rate-at, coding-at};
-ghost use Rattle.job.specs.Answers.{plain, verdict, form-of, Small, reading, coding-of, shape, answering, both-kept, same-header};
+ghost use Rattle.job.specs.Answers.{plain, verdict, form-of, Small, reading, coding-of, shape, answering, both-kept};
 
 // What kind 1 says of a job. Sizes and levels are counted in grains, document 01's fixed count of bits.
 pub struct Header {

@@ -17,12 +17,12 @@ use Rattle.job.specs.Answers.{plain, reading}
 use Rattle.job.proofs.Answers.{Held}
 use Rattle.pins.specs.declared.PinSet.{PinSet}
 use Rattle.pins.specs.declared.Opening.the-variants as answer
-use Rattle.pins.specs.State.{State, fresh}
-use Rattle.pins.specs.Check.{fits, accept, checked}
-use Rattle.pins.specs.Calls.{no-header, opened, open-call, refuse, calling, call}
-use Rattle.pins.specs.Answers.{state, opening-answer, opening, codings-in, Ready}
-use Rattle.pins.proofs.Checks.{checks}
-use Rattle.pins.proofs.Agree.{limits, fits-agree, checked-took, checked-six, checked-refused}
+use Rattle.pinning.specs.State.{State, fresh}
+use Rattle.pinning.specs.Check.{fits, codings-in, accept, checked, Ready}
+use Rattle.pinning.specs.Calls.{no-header, opened, open-call, refuse, calling, call}
+use Rattle.pins.specs.Answers.{state, opening-answer, opening}
+use Rattle.pinning.proofs.Checks.{checks}
+use Rattle.pinning.proofs.Agree.{limits, fits-agree, checked-took, checked-six, checked-refused}
 
 module _ (b : List ℕ) where
   pub open-refused : (n : ℕ) (set : PinSet) → parse b ≡ refused n → state set ≡ fresh no-header → opening (record { answer = answer.Refused n; set = set }) ≡ open-call b

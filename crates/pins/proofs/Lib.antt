@@ -1,10 +1,4 @@
--- What is proved of the definitions, for the proofs of crates that name this one.
-pub mod Lines
-pub mod Checks
-pub mod Loops
-pub mod Agree
-pub mod Calls
-pub mod Answering
+-- Laws that belong to no one function.
 pub mod Sums
-pub mod History
-pub mod Refusals
+pub mod Totals
+pub mod Answering

@@ -11,9 +11,10 @@ use Rattle.format.specs.Places.{coding-at}
 use Rattle.job.specs.declared.Coding.{Coding}
 use Rattle.job.specs.Answers.{coding-of}
 use Rattle.pins.specs.declared.Tally.{Tally}
-use Rattle.pins.specs.State.{no-pin, pin-of}
-use Rattle.pins.specs.Answers.{tallied, codings-in, Added}
-use Rattle.pins.proofs.Lines.{pin-mark, pin-choice}
+use Rattle.pinning.specs.State.{no-pin, pin-of}
+use Rattle.pinning.specs.Check.{codings-in}
+use Rattle.pins.specs.Answers.{tallied, Added}
+use Rattle.pinning.proofs.Lines.{pin-mark, pin-choice}
 
 module _ (b : List ℕ) (h : Header) (i x : ℕ) (sum : Tally) where
   -- a unit without a pin adds nothing

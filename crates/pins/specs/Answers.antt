@@ -1,17 +1,13 @@
--- What the structs and answers of this crate mean in the terms of `State` and `Calls`, case by case, and what its functions are asked.
+-- What the structs and answers of this crate mean in the terms of the crate `pinning`, case by case, and what its private functions are asked.
 -- Assumes nothing.
-use Prim.Native.Nat.{ℕ, suc, _+_, _<_, _≤_}
+use Prim.Native.Nat.{ℕ, _+_, _<_, _≤_}
 use mathlib.Core.Path.{_≡_}
 use mathlib.Core.Option.{Option, none, some}
 use mathlib.Core.List.{List}
 use Rattle.model.specs.Answer.{refused, gives}
 use Rattle.model.specs.Answer as answer
-use Rattle.model.specs.Job as model
 use Rattle.model.specs.Pins.{PinTotals, with-line}
-use Rattle.format.specs.Parser.{took}
-use Rattle.format.specs.JobBytes.{header-in, parse}
 use Rattle.format.specs.JobBytes as format
-use Rattle.format.specs.Places.{coding-at}
 use Rattle.job.specs.declared.Coding.{Coding}
 use Rattle.job.specs.Answers.{plain}
 use Rattle.pins.specs.declared.PinSet.{PinSet}
@@ -22,9 +18,9 @@ use Rattle.pins.specs.declared.Opened.{Opened}
 use Rattle.pins.specs.declared.Answer.{Answer}
 use Rattle.pins.specs.declared.Answer.the-variants as a
 use Rattle.pins.specs.declared.Handed.{Handed}
-use Rattle.pins.specs.State.{State, pin-of}
-use Rattle.pins.specs.Check.{Matches}
-use Rattle.pins.specs.Calls as calls
+use Rattle.pinning.specs.State.{State, pin-of}
+use Rattle.pinning.specs.Check.{codings-in}
+use Rattle.pinning.specs.Calls as calls
 
 unfoldable pub state : PinSet → State
 state s = record {
@@ -53,24 +49,12 @@ handed r = record { refused = number (r .answer); state = state (r .set) }
 unfoldable pub tallied : Tally → PinTotals
 tallied t = record { count = t .count; size = t .size; distortion = t .distortion }
 
--- the codings that stand in a job's bytes, for the unit in each place
-unfoldable pub codings-in : List ℕ → format.Header → ℕ → ℕ → model.Coding
-codings-in b h i x = coding-at b h (suc i) x
-
 -- r is the sum with one line more, and not much more
 pub record Added (b : List ℕ) (h : format.Header) (place pin : ℕ) (sum r : Tally) : Type 0 where
   pub is : tallied r ≡ with-line (codings-in b h place) (pin-of pin) (tallied sum)
   pub count : r .count ≤ sum .count + 1
   pub size : r .size ≤ sum .size + 65535
   pub distortion : r .distortion ≤ sum .distortion + 4294967295
-
--- the bytes are those of a job with this header, and the set matches it
-pub record Ready (b : List ℕ) (h : format.Header) (s : State) : Type 0 where
-  pub job : model.Job
-  pub taken : ℕ
-  pub parsed : parse b ≡ took job taken
-  pub header-is : header-in job ≡ h
-  pub matches : Matches job s
 
 -- a pin more does not overflow the totals
 pub record Room (s : PinSet) (place : ℕ) (c : Coding) : Type 0 where

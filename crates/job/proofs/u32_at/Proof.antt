@@ -1,6 +1,6 @@
 -- `job::u32_at` meets its contract: four bytes are two pairs.
 -- Assumes nothing.
-use mathlib.Core.Path.{_∙_}
+use mathlib.Core.Path.{sym, _∙_}
 use borrow.Author.Needs.{needs}
 use Rattle.format.proofs.Fields.{four-at}
 use Rattle.job.proofs.u32_at.Statement.{statement}
@@ -19,7 +19,10 @@ pair32-requires : tie.Need-pair32-requires
 pair32-requires c κs = search needs
 
 returns : tie.Need-returns
-returns c = let a = c .before .before .before .before .args in c .pair32 .ensures ∙ rw (four-at (a .s .now) (a .at) (search needs)) (cc)
+returns c =
+    let u = c .before in
+    let a = u .before .before .before .args in
+    c .pair32 .ensures ∙ rw (u .before .u16-at .ensures, u .u16-at2 .ensures) (sym (four-at (a .s .now) (a .at) (search needs)))
 
 pub u32-at-spec : {M : Type 1} → statement M
 u32-at-spec =

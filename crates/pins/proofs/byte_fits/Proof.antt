@@ -1,4 +1,4 @@
-use Rattle.pins.proofs.Loops.{byte-none, byte-below, byte-past}
+use Rattle.pinning.proofs.Loops.{byte-none, byte-below, byte-past}
 use Rattle.job.specs.Answers.{plain}
 use borrow.Author.Needs.{needs}
 use Rattle.pins.proofs.byte_fits.Statement.{statement}

@@ -1,12 +1,12 @@
 use mathlib.Core.Path.{sym, _∙_}
 use borrow.Author.Tests.{not-true, not-false}
-use Rattle.pins.proofs.Loops.{bytes-start, bytes-more, bytes-stop}
+use Rattle.pinning.proofs.Loops.{bytes-start, bytes-more, bytes-stop}
 use mathlib.Core.Path.{_≡_}
 use Prim.Native.Nat.{_≤_, _-_}
 use native.Mathlib.Omega.{arith}
 use borrow.Author.Needs.{needs}
 use Rattle.job.specs.Answers.{plain}
-use Rattle.pins.specs.Check.{bytes-fit}
+use Rattle.pinning.specs.Check.{bytes-fit}
 use mathlib.Core.Bool.{true}
 use Rattle.pins.proofs.bytes_fit.Statement.{statement}
 use Rattle.pins.proofs.bytes_fit.Tie as tie

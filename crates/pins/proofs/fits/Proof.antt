@@ -1,6 +1,6 @@
-use Rattle.pins.proofs.Agree.{fits-not-header, fits-not-bytes, fits-by-totals}
+use Rattle.pinning.proofs.Agree.{fits-not-header, fits-not-bytes, fits-by-totals}
 use Rattle.pins.specs.Answers.{state}
-use Rattle.pins.specs.Check.{same-totals}
+use Rattle.pinning.specs.Check.{same-totals}
 use Rattle.job.specs.Answers.{plain}
 use borrow.Author.Tests.{not-true, not-false}
 use mathlib.Core.Path.{sym, _∙_, ap}

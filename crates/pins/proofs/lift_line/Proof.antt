@@ -1,6 +1,7 @@
-use Rattle.pins.proofs.Calls.{lift-seven, lift-ten, lift-taken, place-below, pinned-below, held}
+use Rattle.pins.proofs.Totals.{held}
+use Rattle.pinning.proofs.Calls.{lift-seven, lift-ten, lift-taken, place-below, pinned-below}
 use Rattle.pins.specs.Answers.{state, number, handed}
-use Rattle.pins.specs.Calls.{take-in}
+use Rattle.pinning.specs.Calls.{take-in}
 use Rattle.job.specs.Answers.{plain}
 use lib.ListN.{length}
 use mathlib.Core.Path.{_≡_, refl, sym, _∙_}

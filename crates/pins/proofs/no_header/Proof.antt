@@ -1,4 +1,4 @@
-use Rattle.pins.specs.Calls.{no-header}
+use Rattle.pinning.specs.Calls.{no-header}
 use Rattle.job.specs.Answers.{plain}
 use mathlib.Core.Path.{refl}
 use Rattle.pins.proofs.no_header.Statement.{statement}

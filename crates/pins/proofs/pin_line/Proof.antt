@@ -1,10 +1,11 @@
-use Rattle.pins.proofs.Calls.{choices-are, job-limits}
+use Rattle.pins.proofs.Totals.{room}
+use Rattle.pinning.proofs.Calls.{choices-are, job-limits}
 use native.Mathlib.Omega.{arith}
 use lib.ListN.{length}
 use mathlib.Core.Path.{_≡_}
-use Rattle.pins.proofs.Calls.{pin-seven, pin-eight, pin-nine, pin-taken, place-below, room}
+use Rattle.pinning.proofs.Calls.{pin-seven, pin-eight, pin-nine, pin-taken, place-below}
 use Rattle.pins.specs.Answers.{state, number, handed}
-use Rattle.pins.specs.Calls.{take-in}
+use Rattle.pinning.specs.Calls.{take-in}
 use Rattle.job.specs.Answers.{plain}
 use mathlib.Core.Path.{sym, _∙_}
 use borrow.Author.Needs.{needs}

@@ -1,5 +1,5 @@
 use Rattle.pins.specs.Answers.{number, handed}
-use Rattle.pins.specs.Calls.{refuse}
+use Rattle.pinning.specs.Calls.{refuse}
 use mathlib.Core.Path.{refl}
 use Rattle.pins.proofs.refused.Statement.{statement}
 use Rattle.pins.proofs.refused.Tie as tie

@@ -1,4 +1,4 @@
-use Rattle.pins.proofs.Agree.{totals-differ-count, totals-differ-size, totals-by-distortion}
+use Rattle.pinning.proofs.Agree.{totals-differ-count, totals-differ-size, totals-by-distortion}
 use Rattle.pins.specs.Answers.{state, tallied}
 use borrow.Author.Needs.{needs}
 use Rattle.pins.proofs.same_totals.Statement.{statement}

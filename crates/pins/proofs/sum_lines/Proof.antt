@@ -1,11 +1,12 @@
-use Rattle.pins.proofs.Loops.{lines-more}
+use Rattle.pinning.proofs.Loops.{lines-more}
 use mathlib.Core.Path.{_≡_}
 use Prim.Native.Nat.{_≤_, _-_, _*_}
 use native.Mathlib.Omega.{arith}
 use borrow.Author.Needs.{needs}
-use Rattle.pins.specs.Answers.{tallied, codings-in}
+use Rattle.pinning.specs.Check.{codings-in}
+use Rattle.pins.specs.Answers.{tallied}
 use Rattle.job.specs.Answers.{plain}
-use Rattle.pins.specs.State.{lines}
+use Rattle.pinning.specs.State.{lines}
 use Rattle.model.specs.Pins.{totals-to}
 use Rattle.pins.proofs.sum_lines.Statement.{statement}
 use Rattle.pins.proofs.sum_lines.Tie as tie

@@ -1,7 +1,8 @@
 -- `job::Header::same` meets its contract: the code and the definition compare the same fields in the same order.
 -- Assumes nothing.
 use mathlib.Core.Path.{refl}
-use Rattle.job.specs.Answers.{plain, same-header}
+use Rattle.format.specs.JobBytes.{same-header}
+use Rattle.job.specs.Answers.{plain}
 use Rattle.job.proofs.Header.same.Statement.{statement}
 use Rattle.job.proofs.Header.same.Tie as tie
 

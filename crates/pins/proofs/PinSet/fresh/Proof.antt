@@ -1,5 +1,5 @@
 use Rattle.pins.specs.Answers.{state}
-use Rattle.pins.specs.State.{unpinned, fresh}
+use Rattle.pinning.specs.State.{unpinned, fresh}
 use mathlib.Core.Path.{refl}
 use Rattle.pins.proofs.PinSet.fresh.Statement.{statement}
 use Rattle.pins.proofs.PinSet.fresh.Tie as tie

@@ -1,5 +1,5 @@
 use Rattle.pins.specs.Answers.{state}
-use Rattle.pins.specs.Calls.{with-pin}
+use Rattle.pinning.specs.Calls.{with-pin}
 use Rattle.job.specs.Answers.{coding-of}
 use mathlib.Core.Path.{refl}
 use borrow.Author.Needs.{needs}

@@ -9,11 +9,11 @@ use mathlib.Core.List.{List}
 use lib.ListN.{length, getD}
 use Rattle.model.specs.Job.{Job, codingAt}
 use Rattle.model.specs.Pins.{Call, no-pins, pins-after, answers, pin-totals}
-use Rattle.format.specs.Parser.{took}
+use Rattle.format.specs.Parser.{refused, took}
 use Rattle.format.specs.JobBytes.{header-in, parse}
-use Rattle.pins.specs.State.{State, no-pin, lines}
-use Rattle.pins.specs.Check.{Matches, fits, checked}
-use Rattle.pins.specs.Calls.{open-call, call, run, Sitting}
+use Rattle.pinning.specs.State.{State, no-pin, lines}
+use Rattle.pinning.specs.Check.{Matches, fits, checked}
+use Rattle.pinning.specs.Calls.{open-call, refuse, call-in, call, run, Sitting}
 
 -- after a list of calls from the set that opening answers, with the book of document 01 beside it
 pub record HistoryClaim (b : List ℕ) (j : Job) (n : ℕ) (calls : List Call) (r : Sitting) : Type 0 where
@@ -27,6 +27,12 @@ pub record HistoryClaim (b : List ℕ) (j : Job) (n : ℕ) (calls : List Call) (
   -- the set passes the check against the job, so that no call after these is refused by 6
   pub passes : checked b (r .state) ≡ took j n
 
+-- in which order a pin or a lift looks at what it is given: the job, 1 to 5, then the set, 6, then the unit and the choice, 7 to 10, as the book does
+pub record Order (b : List ℕ) (s : State) (k : Call) : Type 0 where
+  pub job-first : (n : ℕ) → parse b ≡ refused n → call b s k ≡ refuse s n
+  pub then-set : (j : Job) (n : ℕ) → parse b ≡ took j n → (Matches j s → ⊥) → call b s k ≡ refuse s 6
+  pub then-call : (j : Job) (n : ℕ) → parse b ≡ took j n → Matches j s → call b s k ≡ call-in j s k
+
 -- The claims.
 
 -- the part of demand 3 that speaks of pins and lifts: one claim about every list of calls
@@ -37,6 +43,10 @@ History = (b : List ℕ) (j : Job) (n : ℕ) → parse b ≡ took j n → (calls
 abbrev pub Checks : Type 0
 Checks = (j : Job) (s : State) → length (j .units) ≤ 512 → (fits (codingAt j) (header-in j) s ≡ true) ↔ Matches j s
 
--- demand 1, of a pin or a lift: a refused call hands back the set as it came
+-- demand 1, of a pin or a lift
+abbrev pub InOrder : Type 0
+InOrder = (b : List ℕ) (s : State) (k : Call) → Order b s k
+
+-- a refused call hands back the set as it came
 abbrev pub Refusing : Type 0
 Refusing = (b : List ℕ) (s : State) (k : Call) (n : ℕ) → call b s k .refused ≡ some n → call b s k .state ≡ s

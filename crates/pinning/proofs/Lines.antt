@@ -12,7 +12,7 @@ use lib.Seq.{take-set-lt}
 use borrow.Author.Tests.{eqb-true, ne-eqb}
 use Rattle.model.specs.If.{if_then_else_}
 use Rattle.model.specs.Pins.{no-pins}
-use Rattle.pins.specs.State.{no-pin, pin-of, lines, unpinned}
+use Rattle.pinning.specs.State.{no-pin, pin-of, lines, unpinned}
 
 -- no pin is the mark, and a pin is its byte
 pub pin-none : (x : ℕ) → pin-of x ≡ none → x ≡ no-pin

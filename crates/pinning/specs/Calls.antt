@@ -12,8 +12,8 @@ use Rattle.model.specs.Pins.{Call, pin, lift, outside}
 use Rattle.format.specs.Parser.{Result}
 use Rattle.format.specs.Parser as P
 use Rattle.format.specs.JobBytes.{Header, header-in, parse}
-use Rattle.pins.specs.State.{State, no-pin, pin-of, fresh}
-use Rattle.pins.specs.Check.{checked}
+use Rattle.pinning.specs.State.{State, no-pin, pin-of, fresh}
+use Rattle.pinning.specs.Check.{checked}
 
 -- a header that no job has
 unfoldable pub no-header : Header

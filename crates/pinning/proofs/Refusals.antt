@@ -1,4 +1,4 @@
--- A refused pin or lift hands back the set as it came: `Refusing`.
+-- A pin or a lift is refused in document 01's order, and then hands back the set as it came: `InOrder` and `Refusing`.
 -- Assumes nothing.
 use Prim.Native.Nat.{ℕ, _-_}
 use mathlib.Core.Path.{_≡_, refl}
@@ -9,10 +9,11 @@ use Rattle.model.specs.Job.{Job}
 use Rattle.model.specs.Pins.{Call, pin, lift, outside}
 use Rattle.model.proofs.Tests.{branch}
 use Rattle.format.specs.Parser.{Result, refused, took}
-use Rattle.pins.specs.State.{State, pin-of}
-use Rattle.pins.specs.Check.{checked}
-use Rattle.pins.specs.Calls.{Handed, refuse, take-in, pin-line, lift-line, call-in, calling, call}
-use Rattle.pins.specs.Claims.{Refusing}
+use Rattle.pinning.specs.State.{State, pin-of}
+use Rattle.pinning.specs.Check.{accept, checked}
+use Rattle.pinning.specs.Calls.{Handed, refuse, take-in, pin-line, lift-line, call-in, calling, call}
+use Rattle.pinning.specs.Claims.{InOrder, Refusing}
+use Rattle.pinning.proofs.Agree.{matched, unmatched}
 
 module _ (s : State) where
   abbrev Kept : Handed → Type 0
@@ -52,3 +53,11 @@ module _ (s : State) where
 pub refusing : Refusing
 unfolding call
 refusing b s k = kept-calling s k (checked b s)
+
+pub in-order : InOrder
+unfolding call calling checked accept
+in-order b s k = record {
+  job-first = λ n e. rw e;
+  then-set = λ j n e f. rw (unmatched b j n e s f);
+  then-call = λ j n e m. rw (matched b j n e s m);
+}

@@ -19,12 +19,11 @@ use Rattle.format.specs.JobBytes.{Header, header-in, parse}
 use Rattle.format.specs.Claims.{InLimits}
 use Rattle.format.proofs.Bounds.{limited}
 use Rattle.format.proofs.Places.{well-read, looks-up}
-use Rattle.job.specs.Answers.{same-header}
-use Rattle.pins.specs.State.{State, no-pin, pin-of, lines}
-use Rattle.pins.specs.Check.{bytes-fit, same-totals, fits, accept, checked}
-use Rattle.pins.specs.Answers.{codings-in}
-use Rattle.pins.proofs.Lines.{pin-mark, pin-some, lines-at}
-use Rattle.pins.proofs.Checks.{byte-kept, bytes-each}
+use Rattle.format.specs.JobBytes.{same-header}
+use Rattle.pinning.specs.State.{State, no-pin, pin-of, lines}
+use Rattle.pinning.specs.Check.{Matches, bytes-fit, same-totals, fits, codings-in, accept, checked}
+use Rattle.pinning.proofs.Lines.{pin-mark, pin-some, lines-at}
+use Rattle.pinning.proofs.Checks.{byte-kept, bytes-each, checks}
 
 -- equal totals, test by test
 pub totals-differ-count : (a b : PinTotals) → (a .count ≡ b .count → ⊥) → false ≡ same-totals a b
@@ -71,6 +70,17 @@ module _ (b : List ℕ) (j : Job) (k : ℕ) (parsed : parse b ≡ took j k) wher
   pub checked-six : (s : State) → fits (codingAt j) (header-in j) s ≡ false → checked b s ≡ refused 6
   unfolding checked accept if_then_else_
   checked-six s e = rw (parsed, e)
+
+  -- in the document's words
+  pub matched : (s : State) → Matches j s → checked b s ≡ took j k
+  matched s m = checked-took s (checks j s (limits .units .1) .1 m)
+
+  pub unmatched : (s : State) → (Matches j s → ⊥) → checked b s ≡ refused 6
+  unmatched s f = go (fits (codingAt j) (header-in j) s) refl
+    where
+      go : (t : Bool) → fits (codingAt j) (header-in j) s ≡ t → checked b s ≡ refused 6
+      go true e = absurd (f (checks j s (limits .units .1) .0 e))
+      go false e = checked-six s e
 
   module _ (s : State) (size : length (s .bytes) ≡ 512) where
     totals-agree-in : bytes-fit (header-in j) (s .bytes) 512 ≡ true → totals-to (codings-in b (header-in j)) (lines (length (j .units)) (s .bytes)) (length (j .units)) ≡ totals-to (codingAt j) (lines (length (j .units)) (s .bytes)) (length (j .units))

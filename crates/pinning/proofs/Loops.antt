@@ -13,10 +13,10 @@ use Rattle.model.specs.Job.{Coding}
 use Rattle.model.specs.Pins.{PinTotals, with-line, totals-to}
 use Rattle.model.proofs.Tests.{true-both}
 use Rattle.format.specs.JobBytes.{Header}
-use Rattle.pins.specs.State.{no-pin, pin-of, lines}
-use Rattle.pins.specs.Check.{byte-fits, bytes-fit}
-use Rattle.pins.proofs.Lines.{lines-at}
-use Rattle.pins.proofs.Checks.{bytes-each}
+use Rattle.pinning.specs.State.{no-pin, pin-of, lines}
+use Rattle.pinning.specs.Check.{byte-fits, bytes-fit}
+use Rattle.pinning.proofs.Lines.{lines-at}
+use Rattle.pinning.proofs.Checks.{bytes-each}
 
 module _ (h : Header) where
   -- a byte, test by test

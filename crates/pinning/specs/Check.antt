@@ -10,11 +10,10 @@ use lib.ListN.{length, getD}
 use Rattle.model.specs.If.{if_then_else_}
 use Rattle.model.specs.Job.{Coding, Job, codingAt}
 use Rattle.model.specs.Pins.{PinTotals, totals-to, pin-totals}
-use Rattle.format.specs.JobBytes.{Header, header-in}
+use Rattle.format.specs.JobBytes.{Header, same-header, header-in, parse}
 use Rattle.format.specs.Parser.{Result, refused, took}
-use Rattle.format.specs.JobBytes.{parse}
-use Rattle.pins.specs.State.{State, no-pin, lines}
-use Rattle.job.specs.Answers.{same-header}
+use Rattle.format.specs.Places.{coding-at}
+use Rattle.pinning.specs.State.{State, no-pin, lines}
 
 -- in the document's words
 pub record Matches (j : Job) (s : State) : Type 0 where
@@ -43,6 +42,10 @@ fits codings h s =
     else false
     else false
 
+-- the codings that stand in a job's bytes, for the unit in each place
+unfoldable pub codings-in : List ℕ → Header → ℕ → ℕ → Coding
+codings-in b h i x = coding-at b h (suc i) x
+
 unfoldable pub accept : State → Result Job → Result Job
 accept s (refused n) = refused n
 accept s (took j k) = if fits (codingAt j) (header-in j) s then took j k else refused 6
@@ -50,3 +53,11 @@ accept s (took j k) = if fits (codingAt j) (header-in j) s then took j k else re
 -- what every call that takes a job and a set tests first: the job, 1 to 5, then the set against it, 6
 unfoldable pub checked : List ℕ → State → Result Job
 checked b s = accept s (parse b)
+
+-- the bytes are those of a job with this header, and the set matches it
+pub record Ready (b : List ℕ) (h : Header) (s : State) : Type 0 where
+  pub job : Job
+  pub taken : ℕ
+  pub parsed : parse b ≡ took job taken
+  pub header-is : header-in job ≡ h
+  pub matches : Matches job s

@@ -21,12 +21,12 @@ use Rattle.format.specs.JobBytes.{header-in, parse}
 use Rattle.format.specs.Claims.{InLimits}
 use Rattle.format.proofs.Places.{well-read}
 use Rattle.format.proofs.Bounds.{limited}
-use Rattle.pins.specs.State.{State, no-pin, pin-of, lines, unpinned, fresh}
-use Rattle.pins.specs.Check.{Matches, accept, checked}
-use Rattle.pins.specs.Calls.{opened, open-call, Handed, refuse, take-in, with-pin, without-pin, pin-line, lift-line, call-in, calling, call, Sitting, after, run}
-use Rattle.pins.specs.Claims.{HistoryClaim, History}
-use Rattle.pins.proofs.Lines.{pin-none, pin-some, pin-mark, pin-choice, lines-at, lines-length, lines-set, lines-unpinned}
-use Rattle.pins.proofs.Checks.{checks}
+use Rattle.pinning.specs.State.{State, no-pin, pin-of, lines, unpinned, fresh}
+use Rattle.pinning.specs.Check.{Matches, checked}
+use Rattle.pinning.specs.Calls.{opened, open-call, Handed, refuse, take-in, with-pin, without-pin, pin-line, lift-line, call-in, calling, call, Sitting, after, run}
+use Rattle.pinning.specs.Claims.{HistoryClaim, History}
+use Rattle.pinning.proofs.Lines.{pin-none, pin-some, pin-mark, pin-choice, lines-at, lines-length, lines-set, lines-unpinned}
+use Rattle.pinning.proofs.Agree.{matched}
 
 -- the set holds the map: what `HistoryClaim` says of a set, with what is needed to go on
 pub record Holds (j : Job) (m : PinMap) (s : State) : Type 0 where
@@ -84,7 +84,7 @@ module _ (j : Job) (limits : InLimits j) where
           let p : pin-of x ≡ some x = pin-choice x (λ q. omega (arith, limits .choices)) in
           record {
             header = h .header;
-            size = length-set (s .bytes) i x ∙ h .size;
+            size = rw length-set (h .size);
             pins = changed-lines x ∙ ap (set m i) p;
             choices = changed-choices (some x) (λ y q. let z = Option·some-injective x y q in omega arith);
             past = kept-past x;
@@ -98,7 +98,7 @@ module _ (j : Job) (limits : InLimits j) where
           let r = h .totals ∙ t in
           record {
             header = h .header;
-            size = length-set (s .bytes) i no-pin ∙ h .size;
+            size = rw length-set (h .size);
             pins = changed-lines no-pin ∙ ap (set m i) pin-mark;
             choices = changed-choices none (λ x q. absurd (Option·none-ne-some x q));
             past = kept-past no-pin;
@@ -141,8 +141,7 @@ module _ (j : Job) (limits : InLimits j) where
 -- a set that holds a map is taken by the check, and its call is the one for the job
 module _ (b : List ℕ) (j : Job) (n : ℕ) (parsed : parse b ≡ took j n) (limits : InLimits j) where
   holds-checked : (m : PinMap) (s : State) → Holds j m s → checked b s ≡ took j n
-  unfolding checked accept if_then_else_
-  holds-checked m s h = rw (parsed, checks j s (limits .units .1) .1 (holds-matches j limits m s h))
+  holds-checked m s h = matched b j n parsed s (holds-matches j limits m s h)
 
   holds-call : (m : PinMap) (s : State) (k : Call) → Holds j m s → call b s k ≡ call-in j s k
   unfolding call calling

@@ -3,42 +3,39 @@
 use Prim.Native.Nat.{ℕ, zero, suc, _<_, _≤_}
 use mathlib.Core.Path.{_≡_, refl}
 use mathlib.Core.Logic.{_⊎_, inl, inr}
-use mathlib.Core.Bool.{Bool, true, false}
+use mathlib.Core.Bool.{Bool, true}
 use mathlib.Core.List.{List}
 use native.Mathlib.Omega.{arith}
 use native.Mathlib.Decide.{decLt}
-use lib.Dec.{eqb, ltb}
+use lib.Dec.{eqb}
 use lib.ListN.{length, getD}
 use borrow.Author.Tests.{eqb-true, eq-eqb, ltb-true, lt-ltb}
 use Rattle.model.specs.If.{if_then_else_}
 use Rattle.model.specs.Job.{Job, codingAt}
 use Rattle.model.specs.Pins.{PinTotals, pin-totals}
-use Rattle.model.proofs.Tests.{both-true, true-both}
+use Rattle.model.proofs.Tests.{branch, both-true, true-both}
 use Rattle.model.proofs.PinTotals.{totals-same}
 use Rattle.format.specs.JobBytes.{Header, header-in}
-use Rattle.pins.specs.State.{State, no-pin}
-use Rattle.job.specs.Answers.{same-header}
-use Rattle.pins.specs.Check.{Matches, byte-fits, bytes-fit, same-totals, fits}
-use Rattle.pins.specs.Claims.{Checks}
-use Rattle.job.proofs.Headers.{same-is, is-same}
+use Rattle.pinning.specs.State.{State, no-pin}
+use Rattle.format.specs.JobBytes.{same-header}
+use Rattle.pinning.specs.Check.{Matches, byte-fits, bytes-fit, same-totals, fits}
+use Rattle.pinning.specs.Claims.{Checks}
+use Rattle.format.proofs.Header.{same-is, is-same}
 
 module _ (h : Header) where
   pub byte-kept : (i x : ℕ) → byte-fits h i x ≡ true → (x ≡ no-pin) ⊎ ((i < h .units) × (x < h .choices))
-  unfolding byte-fits if_then_else_
-  byte-kept i x e = go (eqb x no-pin) refl e
-    where
-      go : (t : Bool) → eqb x no-pin ≡ t → (if t then true else if ltb i (h .units) then ltb x (h .choices) else false) ≡ true → (x ≡ no-pin) ⊎ ((i < h .units) × (x < h .choices))
-      go true q r = inl (eqb-true x no-pin q)
-      go false q r = let p = both-true (ltb i (h .units)) (ltb x (h .choices)) r in inr (ltb-true i (h .units) (p .0), ltb-true x (h .choices) (p .1))
+  unfolding byte-fits
+  byte-kept i x =
+      branch (λ (t : Bool). t ≡ true → (x ≡ no-pin) ⊎ ((i < h .units) × (x < h .choices))) (eqb x no-pin)
+      (λ q e. inl (eqb-true x no-pin q))
+      (λ q e. let p = both-true _ _ e in inr (ltb-true i (h .units) (p .0), ltb-true x (h .choices) (p .1)))
 
   kept-byte : (i x : ℕ) → (x ≡ no-pin) ⊎ ((i < h .units) × (x < h .choices)) → byte-fits h i x ≡ true
   unfolding byte-fits if_then_else_
   kept-byte i x (inl e) = rw (eq-eqb x no-pin e)
-  kept-byte i x (inr p) = go (eqb x no-pin)
-    where
-      go : (t : Bool) → (if t then true else if ltb i (h .units) then ltb x (h .choices) else false) ≡ true
-      go true = refl
-      go false = rw (lt-ltb i (h .units) (p .0), lt-ltb x (h .choices) (p .1))
+  kept-byte i x (inr p) =
+      branch (λ (t : Bool). t ≡ true) (eqb x no-pin) (λ q. refl)
+      (λ q. true-both _ _ (lt-ltb i (h .units) (p .0)) (lt-ltb x (h .choices) (p .1)))
 
   -- the first n bytes fit where each of them does
   pub bytes-each : (bytes : List ℕ) (n : ℕ) → bytes-fit h bytes n ≡ true → (i : ℕ) → i < n → byte-fits h i (getD bytes i 0) ≡ true

@@ -1,0 +1,91 @@
+-- A pin or a lift for a job that the set matches: the totals have room for the pin, and hold the pin that is lifted.
+-- Assumes nothing.
+use Prim.Native.Nat.{ℕ, _-_, _<_, _≤_}
+use mathlib.Core.Path.{_≡_, sym, _∙_, ap}
+use mathlib.Core.Logic.{_⊎_, inl, inr}
+use mathlib.Core.Bool.{false}
+use mathlib.Core.Option.{none, some, Option·none-ne-some}
+use mathlib.Core.List.{List}
+use native.Mathlib.Omega.{arith}
+use lib.ListN.{length, getD}
+use Rattle.model.specs.Job.{codingAt}
+use Rattle.model.specs.Pins.{PinMap, PinTotals, outside, with-line, pin-totals}
+use Rattle.model.proofs.PinTotals.{totals-emptied, TotalsWithin, totals-within}
+use Rattle.format.specs.JobBytes.{Header}
+use Rattle.format.specs.Places.{coding-at}
+use Rattle.job.specs.declared.Coding as code
+use Rattle.job.specs.Answers.{coding-of}
+use Rattle.pinning.specs.State.{no-pin, pin-of, lines}
+use Rattle.pinning.specs.Check.{Ready}
+use Rattle.pinning.proofs.Lines.{pin-mark, pin-some, pin-choice, lines-at, lines-length}
+use Rattle.pinning.proofs.Calls.{inside, job-limits, units-are, choices-are, place-below, coding-read}
+use Rattle.pins.specs.declared.PinSet.{PinSet}
+use Rattle.pins.specs.Answers.{state, Room, Pinned}
+
+-- a pin's coding within its limits, and the totals that hold it
+module _ (b : List ℕ) (h : Header) (set : PinSet) (r : Ready b h (state set)) (size : length (set .pins) ≡ 512) where
+  few : length (r .job .units) ≤ length (set .pins)
+  few = omega (arith, size, job-limits b h (state set) r .units)
+
+  map : PinMap
+  map = lines (length (r .job .units)) (set .pins)
+
+  -- the line of a unit that is pinned is a choice of the job
+  line-below : (i x : ℕ) → i < length (r .job .units) → getD map i none ≡ some x → x < r .job .choices
+  unfolding state map
+  line-below i x l e = go (r .matches .pins i l)
+    where
+      p : pin-of (getD (set .pins) i 0) ≡ some x
+      p = sym (lines-at (length (r .job .units)) (set .pins) i few l) ∙ e
+
+      go : (getD (set .pins) i 0 ≡ no-pin) ⊎ (getD (set .pins) i 0 < r .job .choices) → x < r .job .choices
+      go (inl q) = absurd (Option·none-ne-some x (sym pin-mark ∙ ap pin-of (sym q) ∙ p))
+      go (inr q) = let k = pin-some (getD (set .pins) i 0) x p in omega arith
+
+  small : TotalsWithin 4095 1000000 (length (r .job .units)) (pin-totals (r .job) map)
+  unfolding pin-totals
+  small =
+      let k = job-limits b h (state set) r in
+      totals-within 4095 1000000 (codingAt (r .job)) map (length (r .job .units))
+      (λ i x l e. let c = line-below i x l e in record { size-most = k .sizes i x l c; distortion-most = k .distortions i x l c })
+
+  -- the set's totals are those of its lines
+  totals-are : (set .count ≡ pin-totals (r .job) map .count) × (set .size ≡ pin-totals (r .job) map .size) × (set .distortion ≡ pin-totals (r .job) map .distortion)
+  unfolding state map
+  totals-are = let t = r .matches .totals in (ap (λ (w : PinTotals). w .count) t, ap (λ (w : PinTotals). w .size) t, ap (λ (w : PinTotals). w .distortion) t)
+
+  module _ (u : ℕ) (within : outside (h .units) u ≡ false) where
+    module _ (x : ℕ) (below : x < h .choices) (c : code.Coding) (e : coding-of c ≡ coding-at b h u x) where
+      -- the coding that was read is the job's
+      coding-is : (c .size ≡ codingAt (r .job) (u - 1) x .size) × (c .distortion ≡ codingAt (r .job) (u - 1) x .distortion)
+      unfolding coding-of
+      coding-is = let d = e ∙ coding-read b h (state set) r u within x below in (cc, cc)
+
+      pub room : Room set (u - 1) c
+      room =
+          let k = inside (h .units) u within in
+          let n = units-are b h (state set) r in
+          let m = job-limits b h (state set) r in
+          let z = m .sizes (u - 1) x (omega arith) (omega (arith, choices-are b h (state set) r)) in
+          let q = m .distortions (u - 1) x (omega arith) (omega (arith, choices-are b h (state set) r)) in
+          record {
+            place-below = place-below b h (state set) r u within .1;
+            count = omega (arith, small, totals-are, m .units);
+            size = omega (arith, small, totals-are, coding-is, m .units);
+            distortion = omega (arith, small, totals-are, coding-is, m .units);
+          }
+
+      pub held : getD (set .pins) (u - 1) 0 ≡ x → (x ≡ no-pin → ⊥) → Pinned set (u - 1) c
+      unfolding pin-totals with-line map
+      held p q =
+          let k = inside (h .units) u within in
+          let n = units-are b h (state set) r in
+          let l : u - 1 < length (r .job .units) = omega arith in
+          let line : getD map (u - 1) none ≡ some x = lines-at (length (r .job .units)) (set .pins) (u - 1) few l ∙ ap pin-of p ∙ pin-choice x q in
+          let t = totals-emptied (codingAt (r .job)) map (u - 1) x (length (r .job .units)) l (omega (arith, lines-length (length (r .job .units)) (set .pins) few)) line in
+          record {
+            place-below = place-below b h (state set) r u within .1;
+            count = omega (arith, totals-are, ap (λ (w : PinTotals). w .count) t);
+            size = omega (arith, totals-are, coding-is, ap (λ (w : PinTotals). w .size) t);
+            distortion = omega (arith, totals-are, coding-is, ap (λ (w : PinTotals). w .distortion) t);
+          }
