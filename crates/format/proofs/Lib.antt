@@ -2,6 +2,7 @@
 pub mod Fields
 pub mod Limits
 pub mod Records
+pub mod Choices
 pub mod Parsing
 pub mod Header
 pub mod Spelling

@@ -3,6 +3,7 @@ pub mod Fields
 pub mod Limits
 pub mod Parser
 pub mod Records
+pub mod Choices
 pub mod JobBytes
 pub mod Places
 pub mod Claims

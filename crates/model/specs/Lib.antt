@@ -1,5 +1,6 @@
 -- Document 01 as mathematics: what a reader must believe. What is claimed of it is stated in `Claims` and proved in proofs/.
 pub mod If
+pub mod All
 pub mod Answer
 pub mod Job
 pub mod Levels

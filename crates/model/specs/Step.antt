@@ -14,9 +14,24 @@ pub data Outcome : Type 0 where
   violates : Violation → Outcome
   reaches : Levels → Outcome
 
--- the buckets' levels after an interval that sends c
+-- the decoder's part: its level at the end, from the level b where c is sent and r decoded, or the limit that it violates, short before over
+pub data Decoded : Type 0 where
+  breaks : Violation → Decoded
+  holds : ℕ → Decoded
+
+unfoldable pub decoder-step : ℕ → ℕ → ℕ → ℕ → Decoded
+decoder-step size b c r =
+    if ltb (b + c) r then breaks decoder-underflow
+    else if ltb size ((b + c) - r) then breaks decoder-overflow
+    else holds ((b + c) - r)
+
+-- a bucket's part: its level at the end, from the level l where c is sent
+unfoldable pub bucket-step : Bucket → ℕ → ℕ → ℕ
+bucket-step k l c = (l + c) - k .drain
+
+-- of each bucket
 unfoldable pub poured : ℕ → List Bucket → List ℕ → List ℕ
-poured c ks ls = zipWith (λ k l. (l + c) - k .drain) ks ls
+poured c ks ls = zipWith (λ k l. bucket-step k l c) ks ls
 
 -- the first bucket that holds more than its size
 unfoldable pub overfull : List Bucket → List ℕ → Option ℕ
@@ -36,14 +51,17 @@ unfoldable pub or-overflow : Option ℕ → Outcome → Outcome
 or-overflow none o = o
 or-overflow (some i) o = violates (bucket-overflow i)
 
--- b and ls are the levels before, c is sent and r decoded
+unfoldable pub after-decoder : Decoded → (ℕ → Outcome) → Outcome
+after-decoder (breaks v) f = violates v
+after-decoder (holds b) f = f b
+
+-- b and ls are the levels before, c is sent and r decoded: the decoder, the buckets in turn, the pin
 unfoldable pub outcome-of : Line → Option ℕ → Option ℕ → ℕ → List ℕ → ℕ → ℕ → Outcome
 outcome-of line pinned choice b ls c r =
-    if ltb (b + c) r then violates decoder-underflow
-    else if ltb (line .decoder) ((b + c) - r) then violates decoder-overflow
-    else or-overflow (overfull (line .buckets) (poured c (line .buckets) ls))
-    (if pin-held pinned choice then reaches (record { decoder = (b + c) - r; buckets = poured c (line .buckets) ls })
-    else violates pin-not-held)
+    after-decoder (decoder-step (line .decoder) b c r)
+    (λ d. or-overflow (overfull (line .buckets) (poured c (line .buckets) ls))
+    (if pin-held pinned choice then reaches (record { decoder = d; buckets = poured c (line .buckets) ls })
+    else violates pin-not-held))
 
 unfoldable pub outcome : Job → PinMap → ℕ → Levels → Entry → Outcome
 outcome j m t s e =

@@ -13,6 +13,7 @@ use borrow.Author.Tests.{eq-eqb, ne-eqb}
 use Rattle.model.specs.If.{if_then_else_}
 use Rattle.model.specs.Job.{Coding, Job, codingAt}
 use Rattle.model.specs.Pins.{PinTotals, totals-to}
+use Rattle.model.proofs.All.{all-each}
 use Rattle.model.proofs.PinTotals.{totals-agree}
 use Rattle.format.specs.Parser.{refused, took}
 use Rattle.format.specs.JobBytes.{Header, header-in, parse}
@@ -20,10 +21,12 @@ use Rattle.format.specs.Claims.{InLimits}
 use Rattle.format.proofs.Bounds.{limited}
 use Rattle.format.proofs.Places.{well-read, looks-up}
 use Rattle.format.specs.JobBytes.{same-header}
-use Rattle.pinning.specs.State.{State, no-pin, pin-of, lines}
+use Rattle.format.specs.Choices.{no-choice, choice-of}
+use Rattle.pinning.specs.State.{State, lines}
 use Rattle.pinning.specs.Check.{Matches, bytes-fit, same-totals, fits, codings-in, accept, checked}
-use Rattle.pinning.proofs.Lines.{pin-mark, pin-some, lines-at}
-use Rattle.pinning.proofs.Checks.{byte-kept, bytes-each, checks}
+use Rattle.format.proofs.Choices.{of-mark, byte-some}
+use Rattle.pinning.proofs.Lines.{lines-at}
+use Rattle.pinning.proofs.Checks.{byte-kept, checks}
 
 -- equal totals, test by test
 pub totals-differ-count : (a b : PinTotals) → (a .count ≡ b .count → ⊥) → false ≡ same-totals a b
@@ -84,16 +87,16 @@ module _ (b : List ℕ) (j : Job) (k : ℕ) (parsed : parse b ≡ took j k) wher
 
   module _ (s : State) (size : length (s .bytes) ≡ 512) where
     totals-agree-in : bytes-fit (header-in j) (s .bytes) 512 ≡ true → totals-to (codings-in b (header-in j)) (lines (length (j .units)) (s .bytes)) (length (j .units)) ≡ totals-to (codingAt j) (lines (length (j .units)) (s .bytes)) (length (j .units))
-    unfolding header-in
+    unfolding header-in bytes-fit
     totals-agree-in f =
         totals-agree (codings-in b (header-in j)) (codingAt j) (lines (length (j .units)) (s .bytes)) (length (j .units))
         (λ i x l e.
         let p = sym (lines-at (length (j .units)) (s .bytes) i (omega (arith, size, limits .units)) l) ∙ e in
-        let q = pin-some (getD (s .bytes) i 0) x p in
-        coding-agrees i x l (below i x p q (byte-kept (header-in j) i (getD (s .bytes) i 0) (bytes-each (header-in j) (s .bytes) 512 f i (omega (arith, limits .units))))))
+        let q = byte-some (getD (s .bytes) i 0) x p in
+        coding-agrees i x l (below i x p q (byte-kept (header-in j) i (getD (s .bytes) i 0) (all-each _ 512 f i (omega (arith, limits .units))))))
       where
-        below : (i x : ℕ) → pin-of (getD (s .bytes) i 0) ≡ some x → getD (s .bytes) i 0 ≡ x → (getD (s .bytes) i 0 ≡ no-pin) ⊎ ((i < length (j .units)) × (getD (s .bytes) i 0 < j .choices)) → x < j .choices
-        below i x p q (inl e) = absurd (Option·none-ne-some x (sym pin-mark ∙ ap pin-of (sym e) ∙ p))
+        below : (i x : ℕ) → choice-of (getD (s .bytes) i 0) ≡ some x → getD (s .bytes) i 0 ≡ x → (getD (s .bytes) i 0 ≡ no-choice) ⊎ ((i < length (j .units)) × (getD (s .bytes) i 0 < j .choices)) → x < j .choices
+        below i x p q (inl e) = absurd (Option·none-ne-some x (sym of-mark ∙ ap choice-of (sym e) ∙ p))
         below i x p q (inr h) = omega arith
 
     pub fits-agree : fits (codings-in b (header-in j)) (header-in j) s ≡ fits (codingAt j) (header-in j) s

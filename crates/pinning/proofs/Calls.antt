@@ -17,9 +17,10 @@ use Rattle.format.specs.Places.{coding-at}
 use Rattle.format.specs.Claims.{InLimits}
 use Rattle.format.proofs.Places.{looks-up}
 use Rattle.pinning.specs.Check.{Ready}
-use Rattle.pinning.specs.State.{State, no-pin, pin-of}
+use Rattle.format.specs.Choices.{no-choice, choice-of}
+use Rattle.pinning.specs.State.{State}
 use Rattle.pinning.specs.Calls.{refuse, take-in, with-pin, without-pin, pin-line, lift-line, call-in, calling, call}
-use Rattle.pinning.proofs.Lines.{pin-mark, pin-choice}
+use Rattle.format.proofs.Choices.{of-mark, of-choice}
 use Rattle.pinning.proofs.Agree.{limits, matched}
 
 -- a unit that is not in 1 to N
@@ -74,21 +75,21 @@ module _ (b : List ℕ) (h : Header) (s : State) (r : Ready b h s) where
       unfolding call-in if_then_else_
       pin-eight x c = sym (call-ready (pin u x) ∙ rw (units-are, within, choices-are, le-leb (h .choices) x c))
 
-      pin-on : (x : ℕ) → x < h .choices → call b s (pin u x) ≡ pin-line (r .job) s u x (pin-of (getD (s .bytes) (u - 1) 0))
+      pin-on : (x : ℕ) → x < h .choices → call b s (pin u x) ≡ pin-line (r .job) s u x (choice-of (getD (s .bytes) (u - 1) 0))
       unfolding call-in if_then_else_
       pin-on x c = call-ready (pin u x) ∙ rw (units-are, within, choices-are, lt-leb (h .choices) x c)
 
-      lift-on : call b s (lift u) ≡ lift-line (r .job) s u (pin-of (getD (s .bytes) (u - 1) 0))
+      lift-on : call b s (lift u) ≡ lift-line (r .job) s u (choice-of (getD (s .bytes) (u - 1) 0))
       unfolding call-in if_then_else_
       lift-on = call-ready (lift u) ∙ rw (units-are, within)
 
-      pub pin-nine : (x : ℕ) → x < h .choices → (getD (s .bytes) (u - 1) 0 ≡ no-pin → ⊥) → refuse s 9 ≡ call b s (pin u x)
+      pub pin-nine : (x : ℕ) → x < h .choices → (getD (s .bytes) (u - 1) 0 ≡ no-choice → ⊥) → refuse s 9 ≡ call b s (pin u x)
       unfolding pin-line
-      pin-nine x c e = sym (pin-on x c ∙ rw (pin-choice (getD (s .bytes) (u - 1) 0) e))
+      pin-nine x c e = sym (pin-on x c ∙ rw (of-choice (getD (s .bytes) (u - 1) 0) e))
 
-      pub lift-ten : getD (s .bytes) (u - 1) 0 ≡ no-pin → refuse s 10 ≡ call b s (lift u)
+      pub lift-ten : getD (s .bytes) (u - 1) 0 ≡ no-choice → refuse s 10 ≡ call b s (lift u)
       unfolding lift-line
-      lift-ten e = sym (lift-on ∙ rw (e, pin-mark))
+      lift-ten e = sym (lift-on ∙ rw (e, of-mark))
 
       -- the coding that the code reads
       pub coding-read : (x : ℕ) → x < h .choices → coding-at b h u x ≡ codingAt (r .job) (u - 1) x
@@ -97,19 +98,19 @@ module _ (b : List ℕ) (h : Header) (s : State) (r : Ready b h s) where
           ap (λ (i : Header). coding-at b i u x) (sym (r .header-is))
           ∙ looks-up b (r .job) (r .taken) (r .parsed) .coding u x (k .0) (omega (arith, units-are)) (omega (arith, choices-are))
 
-      pub pin-taken : (x : ℕ) → x < h .choices → getD (s .bytes) (u - 1) 0 ≡ no-pin → take-in (with-pin s (u - 1) x (coding-at b h u x)) ≡ call b s (pin u x)
+      pub pin-taken : (x : ℕ) → x < h .choices → getD (s .bytes) (u - 1) 0 ≡ no-choice → take-in (with-pin s (u - 1) x (coding-at b h u x)) ≡ call b s (pin u x)
       unfolding pin-line
-      pin-taken x c e = sym (pin-on x c ∙ rw (e, pin-mark, coding-read x c))
+      pin-taken x c e = sym (pin-on x c ∙ rw (e, of-mark, coding-read x c))
 
-      module _ (e : getD (s .bytes) (u - 1) 0 ≡ no-pin → ⊥) where
+      module _ (e : getD (s .bytes) (u - 1) 0 ≡ no-choice → ⊥) where
         -- a pin that is there is a choice of the job
         pub pinned-below : getD (s .bytes) (u - 1) 0 < h .choices
         pinned-below = let k = inside (h .units) u within in go (r .matches .pins (u - 1) (omega (arith, units-are)))
           where
-            go : (getD (s .bytes) (u - 1) 0 ≡ no-pin) ⊎ (getD (s .bytes) (u - 1) 0 < r .job .choices) → getD (s .bytes) (u - 1) 0 < h .choices
+            go : (getD (s .bytes) (u - 1) 0 ≡ no-choice) ⊎ (getD (s .bytes) (u - 1) 0 < r .job .choices) → getD (s .bytes) (u - 1) 0 < h .choices
             go (inl q) = absurd (e q)
             go (inr q) = omega (arith, choices-are)
 
         pub lift-taken : take-in (without-pin s (u - 1) (coding-at b h u (getD (s .bytes) (u - 1) 0))) ≡ call b s (lift u)
         unfolding lift-line
-        lift-taken = sym (lift-on ∙ rw (pin-choice (getD (s .bytes) (u - 1) 0) e, coding-read (getD (s .bytes) (u - 1) 0) pinned-below))
+        lift-taken = sym (lift-on ∙ rw (of-choice (getD (s .bytes) (u - 1) 0) e, coding-read (getD (s .bytes) (u - 1) 0) pinned-below))

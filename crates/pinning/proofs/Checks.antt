@@ -1,10 +1,9 @@
 -- The test of refusal 6 holds exactly where the set matches the job: `Checks`.
 -- Assumes nothing.
-use Prim.Native.Nat.{ℕ, zero, suc, _<_, _≤_}
+use Prim.Native.Nat.{ℕ, _<_, _≤_}
 use mathlib.Core.Path.{_≡_, refl}
 use mathlib.Core.Logic.{_⊎_, inl, inr}
 use mathlib.Core.Bool.{Bool, true}
-use mathlib.Core.List.{List}
 use native.Mathlib.Omega.{arith}
 use native.Mathlib.Decide.{decLt}
 use lib.Dec.{eqb}
@@ -14,45 +13,30 @@ use Rattle.model.specs.If.{if_then_else_}
 use Rattle.model.specs.Job.{Job, codingAt}
 use Rattle.model.specs.Pins.{PinTotals, pin-totals}
 use Rattle.model.proofs.Tests.{branch, both-true, true-both}
+use Rattle.model.proofs.All.{all-each, each-all}
 use Rattle.model.proofs.PinTotals.{totals-same}
 use Rattle.format.specs.JobBytes.{Header, header-in}
-use Rattle.pinning.specs.State.{State, no-pin}
+use Rattle.format.specs.Choices.{no-choice}
+use Rattle.pinning.specs.State.{State}
 use Rattle.format.specs.JobBytes.{same-header}
 use Rattle.pinning.specs.Check.{Matches, byte-fits, bytes-fit, same-totals, fits}
 use Rattle.pinning.specs.Claims.{Checks}
 use Rattle.format.proofs.Header.{same-is, is-same}
 
 module _ (h : Header) where
-  pub byte-kept : (i x : ℕ) → byte-fits h i x ≡ true → (x ≡ no-pin) ⊎ ((i < h .units) × (x < h .choices))
+  pub byte-kept : (i x : ℕ) → byte-fits h i x ≡ true → (x ≡ no-choice) ⊎ ((i < h .units) × (x < h .choices))
   unfolding byte-fits
   byte-kept i x =
-      branch (λ (t : Bool). t ≡ true → (x ≡ no-pin) ⊎ ((i < h .units) × (x < h .choices))) (eqb x no-pin)
-      (λ q e. inl (eqb-true x no-pin q))
+      branch (λ (t : Bool). t ≡ true → (x ≡ no-choice) ⊎ ((i < h .units) × (x < h .choices))) (eqb x no-choice)
+      (λ q e. inl (eqb-true x no-choice q))
       (λ q e. let p = both-true _ _ e in inr (ltb-true i (h .units) (p .0), ltb-true x (h .choices) (p .1)))
 
-  kept-byte : (i x : ℕ) → (x ≡ no-pin) ⊎ ((i < h .units) × (x < h .choices)) → byte-fits h i x ≡ true
+  kept-byte : (i x : ℕ) → (x ≡ no-choice) ⊎ ((i < h .units) × (x < h .choices)) → byte-fits h i x ≡ true
   unfolding byte-fits if_then_else_
-  kept-byte i x (inl e) = rw (eq-eqb x no-pin e)
+  kept-byte i x (inl e) = rw (eq-eqb x no-choice e)
   kept-byte i x (inr p) =
-      branch (λ (t : Bool). t ≡ true) (eqb x no-pin) (λ q. refl)
+      branch (λ (t : Bool). t ≡ true) (eqb x no-choice) (λ q. refl)
       (λ q. true-both _ _ (lt-ltb i (h .units) (p .0)) (lt-ltb x (h .choices) (p .1)))
-
-  -- the first n bytes fit where each of them does
-  pub bytes-each : (bytes : List ℕ) (n : ℕ) → bytes-fit h bytes n ≡ true → (i : ℕ) → i < n → byte-fits h i (getD bytes i 0) ≡ true
-  unfolding bytes-fit
-  bytes-each bytes zero e i l = absurd (omega arith)
-  bytes-each bytes (suc n) e i l =
-      let p = both-true (bytes-fit h bytes n) (byte-fits h n (getD bytes n 0)) e in
-      go (λ k. bytes-each bytes n (p .0) i k) (p .1) (decLt i n)
-    where
-      go : (i < n → byte-fits h i (getD bytes i 0) ≡ true) → byte-fits h n (getD bytes n 0) ≡ true → Dec (i < n) → byte-fits h i (getD bytes i 0) ≡ true
-      go ih last (yes k) = ih k
-      go ih last (no k) = let q : i ≡ n = omega arith in rw q last
-
-  each-bytes : (bytes : List ℕ) (n : ℕ) → ((i : ℕ) → i < n → byte-fits h i (getD bytes i 0) ≡ true) → bytes-fit h bytes n ≡ true
-  unfolding bytes-fit
-  each-bytes bytes zero f = refl
-  each-bytes bytes (suc n) f = true-both (bytes-fit h bytes n) (byte-fits h n (getD bytes n 0)) (each-bytes bytes n (λ i k. f i (omega arith))) (f n (omega arith))
 
 same-true : (a b : PinTotals) → same-totals a b ≡ true → a ≡ b
 unfolding same-totals
@@ -70,37 +54,37 @@ same-self a b e = rw e (true-both _ _ (eq-eqb (b .count) (b .count) refl) (true-
 
 module _ (j : Job) (s : State) (few : length (j .units) ≤ 512) where
   fits-matches : fits (codingAt j) (header-in j) s ≡ true → Matches j s
-  unfolding fits header-in pin-totals
+  unfolding fits bytes-fit header-in pin-totals
   fits-matches e =
       let p = both-true (same-header (s .header) (header-in j)) _ e in
       let q = both-true (bytes-fit (header-in j) (s .bytes) 512) _ (p .1) in
       record {
         header = same-is (s .header) (header-in j) (p .0);
-        pins = λ i l. go i (byte-kept (header-in j) i (getD (s .bytes) i 0) (bytes-each (header-in j) (s .bytes) 512 (q .0) i (omega arith)));
-        past = λ i l k. past i l (byte-kept (header-in j) i (getD (s .bytes) i 0) (bytes-each (header-in j) (s .bytes) 512 (q .0) i k));
+        pins = λ i l. go i (byte-kept (header-in j) i (getD (s .bytes) i 0) (all-each _ 512 (q .0) i (omega arith)));
+        past = λ i l k. past i l (byte-kept (header-in j) i (getD (s .bytes) i 0) (all-each _ 512 (q .0) i k));
         totals = same-true (s .totals) _ (q .1);
       }
     where
-      go : (i : ℕ) {x : ℕ} → (x ≡ no-pin) ⊎ ((i < length (j .units)) × (x < j .choices)) → (x ≡ no-pin) ⊎ (x < j .choices)
+      go : (i : ℕ) {x : ℕ} → (x ≡ no-choice) ⊎ ((i < length (j .units)) × (x < j .choices)) → (x ≡ no-choice) ⊎ (x < j .choices)
       go i (inl h) = inl h
       go i (inr h) = inr (h .1)
 
-      past : (i : ℕ) {x : ℕ} → length (j .units) ≤ i → (x ≡ no-pin) ⊎ ((i < length (j .units)) × (x < j .choices)) → x ≡ no-pin
+      past : (i : ℕ) {x : ℕ} → length (j .units) ≤ i → (x ≡ no-choice) ⊎ ((i < length (j .units)) × (x < j .choices)) → x ≡ no-choice
       past i l (inl h) = h
       past i l (inr h) = absurd (omega arith)
 
   matches-fits : Matches j s → fits (codingAt j) (header-in j) s ≡ true
-  unfolding fits header-in pin-totals
+  unfolding fits bytes-fit header-in pin-totals
   matches-fits m =
       true-both _ _ (is-same (s .header) (header-in j) (m .header))
-      (true-both _ _ (each-bytes (header-in j) (s .bytes) 512 (λ i l. kept-byte (header-in j) i (getD (s .bytes) i 0) (kept i l (decLt i (length (j .units))))))
+      (true-both _ _ (each-all _ 512 (λ i l. kept-byte (header-in j) i (getD (s .bytes) i 0) (kept i l (decLt i (length (j .units))))))
       (same-self (s .totals) _ (m .totals)))
     where
-      there : (i : ℕ) {x : ℕ} → i < length (j .units) → (x ≡ no-pin) ⊎ (x < j .choices) → (x ≡ no-pin) ⊎ ((i < length (j .units)) × (x < j .choices))
+      there : (i : ℕ) {x : ℕ} → i < length (j .units) → (x ≡ no-choice) ⊎ (x < j .choices) → (x ≡ no-choice) ⊎ ((i < length (j .units)) × (x < j .choices))
       there i l (inl e) = inl e
       there i l (inr k) = inr (l, k)
 
-      kept : (i : ℕ) → i < 512 → Dec (i < length (j .units)) → (getD (s .bytes) i 0 ≡ no-pin) ⊎ ((i < length (j .units)) × (getD (s .bytes) i 0 < j .choices))
+      kept : (i : ℕ) → i < 512 → Dec (i < length (j .units)) → (getD (s .bytes) i 0 ≡ no-choice) ⊎ ((i < length (j .units)) × (getD (s .bytes) i 0 < j .choices))
       kept i l (yes k) = there i k (m .pins i k)
       kept i l (no k) = inl (m .past i (omega arith) l)
 

@@ -21,11 +21,13 @@ use Rattle.format.specs.JobBytes.{header-in, parse}
 use Rattle.format.specs.Claims.{InLimits}
 use Rattle.format.proofs.Places.{well-read}
 use Rattle.format.proofs.Bounds.{limited}
-use Rattle.pinning.specs.State.{State, no-pin, pin-of, lines, unpinned, fresh}
+use Rattle.format.specs.Choices.{no-choice, choice-of}
+use Rattle.pinning.specs.State.{State, lines, unpinned, fresh}
 use Rattle.pinning.specs.Check.{Matches, checked}
 use Rattle.pinning.specs.Calls.{opened, open-call, Handed, refuse, take-in, with-pin, without-pin, pin-line, lift-line, call-in, calling, call, Sitting, after, run}
 use Rattle.pinning.specs.Claims.{HistoryClaim, History}
-use Rattle.pinning.proofs.Lines.{pin-none, pin-some, pin-mark, pin-choice, lines-at, lines-length, lines-set, lines-unpinned}
+use Rattle.format.proofs.Choices.{byte-none, byte-some, of-mark, of-choice}
+use Rattle.pinning.proofs.Lines.{lines-at, lines-length, lines-set, lines-unpinned}
 use Rattle.pinning.proofs.Agree.{matched}
 
 -- the set holds the map: what `HistoryClaim` says of a set, with what is needed to go on
@@ -34,7 +36,7 @@ pub record Holds (j : Job) (m : PinMap) (s : State) : Type 0 where
   pub size : length (s .bytes) ≡ 512
   pub pins : lines (length (j .units)) (s .bytes) ≡ m
   pub choices : (i x : ℕ) → i < length (j .units) → getD m i none ≡ some x → x < j .choices
-  pub past : (i : ℕ) → length (j .units) ≤ i → i < 512 → getD (s .bytes) i 0 ≡ no-pin
+  pub past : (i : ℕ) → length (j .units) ≤ i → i < 512 → getD (s .bytes) i 0 ≡ no-choice
   pub totals : s .totals ≡ pin-totals j m
 
 -- what the book's call answers and leaves is what the call answers and leaves
@@ -47,16 +49,16 @@ module _ (j : Job) (limits : InLimits j) where
     map-length : length m ≡ length (j .units)
     map-length = ap length (sym (h .pins)) ∙ lines-length (length (j .units)) (s .bytes) (omega (arith, h .size, limits .units))
 
-    byte-line : (i : ℕ) → i < length (j .units) → pin-of (getD (s .bytes) i 0) ≡ getD m i none
+    byte-line : (i : ℕ) → i < length (j .units) → choice-of (getD (s .bytes) i 0) ≡ getD m i none
     byte-line i l = sym (lines-at (length (j .units)) (s .bytes) i (omega (arith, h .size, limits .units)) l) ∙ ap (λ (k : PinMap). getD k i none) (h .pins)
 
     -- a set that holds a map passes the check
     holds-matches : Matches j s
     holds-matches = record { header = h .header; pins = λ i l. go i l (getD m i none) refl; past = h .past; totals = h .totals ∙ rw (h .pins) refl }
       where
-        go : (i : ℕ) → i < length (j .units) → (o : Option ℕ) → getD m i none ≡ o → (getD (s .bytes) i 0 ≡ no-pin) ⊎ (getD (s .bytes) i 0 < j .choices)
-        go i l none e = inl (pin-none _ (byte-line i l ∙ e))
-        go i l (some x) e = inr (let q = pin-some _ x (byte-line i l ∙ e) in let k = h .choices i x l e in omega arith)
+        go : (i : ℕ) → i < length (j .units) → (o : Option ℕ) → getD m i none ≡ o → (getD (s .bytes) i 0 ≡ no-choice) ⊎ (getD (s .bytes) i 0 < j .choices)
+        go i l none e = inl (byte-none _ (byte-line i l ∙ e))
+        go i l (some x) e = inr (let q = byte-some _ x (byte-line i l ∙ e) in let k = h .choices i x l e in omega arith)
 
     -- a refused call leaves both as they were
     refused-follows : (n : ℕ) → Follows j (record { refused = some n; map = m }) (refuse s n)
@@ -65,11 +67,11 @@ module _ (j : Job) (limits : InLimits j) where
 
     module _ (i : ℕ) (l : i < length (j .units)) where
       -- the byte of a unit and its line are changed together
-      kept-past : (x k : ℕ) → length (j .units) ≤ k → k < 512 → getD (set (s .bytes) i x) k 0 ≡ no-pin
+      kept-past : (x k : ℕ) → length (j .units) ≤ k → k < 512 → getD (set (s .bytes) i x) k 0 ≡ no-choice
       kept-past x k p q = getD-set-other (s .bytes) i k x 0 (λ e. omega arith) ∙ h .past k p q
 
-      changed-lines : (x : ℕ) → lines (length (j .units)) (set (s .bytes) i x) ≡ set m i (pin-of x)
-      changed-lines x = lines-set (length (j .units)) (s .bytes) i x l ∙ ap (λ (k : PinMap). set k i (pin-of x)) (h .pins)
+      changed-lines : (x : ℕ) → lines (length (j .units)) (set (s .bytes) i x) ≡ set m i (choice-of x)
+      changed-lines x = lines-set (length (j .units)) (s .bytes) i x l ∙ ap (λ (k : PinMap). set k i (choice-of x)) (h .pins)
 
       changed-choices : (o : Option ℕ) → ((x : ℕ) → o ≡ some x → x < j .choices) → (k y : ℕ) → k < length (j .units) → getD (set m i o) k none ≡ some y → y < j .choices
       changed-choices o f k y p e = go (ℕᴺ-discrete k i)
@@ -81,7 +83,7 @@ module _ (j : Job) (limits : InLimits j) where
       pinned-holds : (x : ℕ) → x < j .choices → getD m i none ≡ none → Holds j (set m i (some x)) (with-pin s i x (codingAt j i x))
       unfolding with-pin pin-totals
       pinned-holds x c e =
-          let p : pin-of x ≡ some x = pin-choice x (λ q. omega (arith, limits .choices)) in
+          let p : choice-of x ≡ some x = of-choice x (λ q. omega (arith, limits .choices)) in
           record {
             header = h .header;
             size = rw length-set (h .size);
@@ -99,9 +101,9 @@ module _ (j : Job) (limits : InLimits j) where
           record {
             header = h .header;
             size = rw length-set (h .size);
-            pins = changed-lines no-pin ∙ ap (set m i) pin-mark;
+            pins = changed-lines no-choice ∙ ap (set m i) of-mark;
             choices = changed-choices none (λ x q. absurd (Option·none-ne-some x q));
-            past = kept-past no-pin;
+            past = kept-past no-choice;
             totals = rw r (totals-same (omega arith) (omega arith) (omega arith));
           }
 
@@ -128,13 +130,13 @@ module _ (j : Job) (limits : InLimits j) where
     unfolding note call-in pinOf if_then_else_
     call-follows (pin u x) = rw map-length (go (outside (length (j .units)) u) refl (leb (j .choices) x) refl)
       where
-        go : (t : Bool) → outside (length (j .units)) u ≡ t → (c : Bool) → leb (j .choices) x ≡ c → Follows j (if t then record { refused = some 7; map = m } else if c then record { refused = some 8; map = m } else note-pin m u x (getD m (u - 1) none)) (if t then refuse s 7 else if c then refuse s 8 else pin-line j s u x (pin-of (getD (s .bytes) (u - 1) 0)))
+        go : (t : Bool) → outside (length (j .units)) u ≡ t → (c : Bool) → leb (j .choices) x ≡ c → Follows j (if t then record { refused = some 7; map = m } else if c then record { refused = some 8; map = m } else note-pin m u x (getD m (u - 1) none)) (if t then refuse s 7 else if c then refuse s 8 else pin-line j s u x (choice-of (getD (s .bytes) (u - 1) 0)))
         go true p c q = refused-follows 7
         go false p true q = refused-follows 8
         go false p false q = rw (byte-line (u - 1) (inside u p)) (pin-follows u x (inside u p) (leb-false (j .choices) x q) (getD m (u - 1) none) refl)
     call-follows (lift u) = rw map-length (go (outside (length (j .units)) u) refl)
       where
-        go : (t : Bool) → outside (length (j .units)) u ≡ t → Follows j (if t then record { refused = some 7; map = m } else note-lift m u (getD m (u - 1) none)) (if t then refuse s 7 else lift-line j s u (pin-of (getD (s .bytes) (u - 1) 0)))
+        go : (t : Bool) → outside (length (j .units)) u ≡ t → Follows j (if t then record { refused = some 7; map = m } else note-lift m u (getD m (u - 1) none)) (if t then refuse s 7 else lift-line j s u (choice-of (getD (s .bytes) (u - 1) 0)))
         go true p = refused-follows 7
         go false p = rw (byte-line (u - 1) (inside u p)) (lift-follows u (inside u p) (getD m (u - 1) none) refl)
 
@@ -164,10 +166,10 @@ module _ (b : List ℕ) (j : Job) (n : ℕ) (parsed : parse b ≡ took j n) (lim
   unfolding fresh unpinned no-pins pin-totals
   fresh-holds = record {
     header = refl;
-    size = length-replicate 512 no-pin;
+    size = length-replicate 512 no-choice;
     pins = lines-unpinned (length (j .units)) (limits .units .1);
     choices = λ i x l e. absurd (Option·none-ne-some x (sym (getD-replicate {A = Option ℕ} (length (j .units)) i none none l) ∙ e));
-    past = λ i l k. getD-replicate 512 i no-pin 0 k;
+    past = λ i l k. getD-replicate 512 i no-choice 0 k;
     totals = sym (totals-none (codingAt j) (length (j .units)) (length (j .units)) (omega arith));
   }
 

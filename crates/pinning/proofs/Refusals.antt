@@ -9,7 +9,8 @@ use Rattle.model.specs.Job.{Job}
 use Rattle.model.specs.Pins.{Call, pin, lift, outside}
 use Rattle.model.proofs.Tests.{branch}
 use Rattle.format.specs.Parser.{Result, refused, took}
-use Rattle.pinning.specs.State.{State, pin-of}
+use Rattle.format.specs.Choices.{choice-of}
+use Rattle.pinning.specs.State.{State}
 use Rattle.pinning.specs.Check.{accept, checked}
 use Rattle.pinning.specs.Calls.{Handed, refuse, take-in, pin-line, lift-line, call-in, calling, call}
 use Rattle.pinning.specs.Claims.{InOrder, Refusing}
@@ -41,9 +42,9 @@ module _ (s : State) where
   unfolding call-in
   kept-call j (pin u x) =
       branch Kept (outside (length (j .units)) u) (λ e. kept-refuse 7)
-      (λ e. branch Kept (leb (j .choices) x) (λ e. kept-refuse 8) (λ e. kept-pin j u x (pin-of (getD (s .bytes) (u - 1) 0))))
+      (λ e. branch Kept (leb (j .choices) x) (λ e. kept-refuse 8) (λ e. kept-pin j u x (choice-of (getD (s .bytes) (u - 1) 0))))
   kept-call j (lift u) =
-      branch Kept (outside (length (j .units)) u) (λ e. kept-refuse 7) (λ e. kept-lift j u (pin-of (getD (s .bytes) (u - 1) 0)))
+      branch Kept (outside (length (j .units)) u) (λ e. kept-refuse 7) (λ e. kept-lift j u (choice-of (getD (s .bytes) (u - 1) 0)))
 
   kept-calling : (k : Call) (r : Result Job) → Kept (calling s r (λ j. call-in j s k))
   unfolding calling

@@ -12,7 +12,8 @@ use Rattle.model.specs.Pins.{Call, pin, lift, outside}
 use Rattle.format.specs.Parser.{Result}
 use Rattle.format.specs.Parser as P
 use Rattle.format.specs.JobBytes.{Header, header-in, parse}
-use Rattle.pinning.specs.State.{State, no-pin, pin-of, fresh}
+use Rattle.format.specs.Choices.{no-choice, choice-of}
+use Rattle.pinning.specs.State.{State, fresh}
 use Rattle.pinning.specs.Check.{checked}
 
 -- a header that no job has
@@ -58,7 +59,7 @@ with-pin s i x c = record {
 unfoldable pub without-pin : State → ℕ → Coding → State
 without-pin s i c = record {
   header = s .header;
-  bytes = set (s .bytes) i no-pin;
+  bytes = set (s .bytes) i no-choice;
   totals = record {
     count = s .totals .count - 1;
     size = s .totals .size - c .size;
@@ -81,10 +82,10 @@ unfoldable pub call-in : Job → State → Call → Handed
 call-in j s (pin u x) =
     if outside (length (j .units)) u then refuse s 7
     else if leb (j .choices) x then refuse s 8
-    else pin-line j s u x (pin-of (getD (s .bytes) (u - 1) 0))
+    else pin-line j s u x (choice-of (getD (s .bytes) (u - 1) 0))
 call-in j s (lift u) =
     if outside (length (j .units)) u then refuse s 7
-    else lift-line j s u (pin-of (getD (s .bytes) (u - 1) 0))
+    else lift-line j s u (choice-of (getD (s .bytes) (u - 1) 0))
 
 unfoldable pub calling : State → Result Job → (Job → Handed) → Handed
 calling s (P.refused n) f = refuse s n

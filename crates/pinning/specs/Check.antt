@@ -1,6 +1,6 @@
 -- The check of a set against a job, refusal 6: "header differs; a pin byte is neither 255 nor below M; one past N is not 255; a total is not the sum over the pins".
 -- Assumes nothing.
-use Prim.Native.Nat.{ℕ, zero, suc, _<_, _≤_}
+use Prim.Native.Nat.{ℕ, suc, _<_, _≤_}
 use mathlib.Core.Path.{_≡_}
 use mathlib.Core.Logic.{_⊎_}
 use mathlib.Core.Bool.{Bool, true, false}
@@ -8,28 +8,29 @@ use mathlib.Core.List.{List}
 use lib.Dec.{eqb, ltb}
 use lib.ListN.{length, getD}
 use Rattle.model.specs.If.{if_then_else_}
+use Rattle.model.specs.All.{all-below}
 use Rattle.model.specs.Job.{Coding, Job, codingAt}
 use Rattle.model.specs.Pins.{PinTotals, totals-to, pin-totals}
 use Rattle.format.specs.JobBytes.{Header, same-header, header-in, parse}
 use Rattle.format.specs.Parser.{Result, refused, took}
 use Rattle.format.specs.Places.{coding-at}
-use Rattle.pinning.specs.State.{State, no-pin, lines}
+use Rattle.format.specs.Choices.{no-choice}
+use Rattle.pinning.specs.State.{State, lines}
 
 -- in the document's words
 pub record Matches (j : Job) (s : State) : Type 0 where
   pub header : s .header ≡ header-in j
-  pub pins : (i : ℕ) → i < length (j .units) → (getD (s .bytes) i 0 ≡ no-pin) ⊎ (getD (s .bytes) i 0 < j .choices)
-  pub past : (i : ℕ) → length (j .units) ≤ i → i < 512 → getD (s .bytes) i 0 ≡ no-pin
+  pub pins : (i : ℕ) → i < length (j .units) → (getD (s .bytes) i 0 ≡ no-choice) ⊎ (getD (s .bytes) i 0 < j .choices)
+  pub past : (i : ℕ) → length (j .units) ≤ i → i < 512 → getD (s .bytes) i 0 ≡ no-choice
   pub totals : s .totals ≡ pin-totals j (lines (length (j .units)) (s .bytes))
 
 -- the byte in place i: of a unit it is 255 or below M, past the last unit it is 255
 unfoldable pub byte-fits : Header → ℕ → ℕ → Bool
-byte-fits h i x = if eqb x no-pin then true else if ltb i (h .units) then ltb x (h .choices) else false
+byte-fits h i x = if eqb x no-choice then true else if ltb i (h .units) then ltb x (h .choices) else false
 
 -- the first n bytes
 unfoldable pub bytes-fit : Header → List ℕ → ℕ → Bool
-bytes-fit h bytes zero = true
-bytes-fit h bytes (suc n) = if bytes-fit h bytes n then byte-fits h n (getD bytes n 0) else false
+bytes-fit h bytes n = all-below (λ i. byte-fits h i (getD bytes i 0)) n
 
 unfoldable pub same-totals : PinTotals → PinTotals → Bool
 same-totals a b = if eqb (a .count) (b .count) then if eqb (a .size) (b .size) then eqb (a .distortion) (b .distortion) else false else false

@@ -11,7 +11,8 @@ use Rattle.model.specs.Job.{Job, codingAt}
 use Rattle.model.specs.Pins.{Call, no-pins, pins-after, answers, pin-totals}
 use Rattle.format.specs.Parser.{refused, took}
 use Rattle.format.specs.JobBytes.{header-in, parse}
-use Rattle.pinning.specs.State.{State, no-pin, lines}
+use Rattle.format.specs.Choices.{no-choice}
+use Rattle.pinning.specs.State.{State, lines}
 use Rattle.pinning.specs.Check.{Matches, fits, checked}
 use Rattle.pinning.specs.Calls.{open-call, refuse, call-in, call, run, Sitting}
 
@@ -21,7 +22,7 @@ pub record HistoryClaim (b : List ℕ) (j : Job) (n : ℕ) (calls : List Call) (
   pub answered : r .answers ≡ answers (j .choices) (no-pins (length (j .units))) calls
   -- the pins are exactly the book's lines
   pub pins : lines (length (j .units)) (r .state .bytes) ≡ pins-after (j .choices) (no-pins (length (j .units))) calls
-  pub past : (i : ℕ) → length (j .units) ≤ i → i < 512 → getD (r .state .bytes) i 0 ≡ no-pin
+  pub past : (i : ℕ) → length (j .units) ≤ i → i < 512 → getD (r .state .bytes) i 0 ≡ no-choice
   -- the totals are the number of the lines with a choice and the sums of their sizes and distortions in the job
   pub totals : r .state .totals ≡ pin-totals j (pins-after (j .choices) (no-pins (length (j .units))) calls)
   -- the set passes the check against the job, so that no call after these is refused by 6

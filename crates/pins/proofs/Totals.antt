@@ -15,9 +15,11 @@ use Rattle.format.specs.JobBytes.{Header}
 use Rattle.format.specs.Places.{coding-at}
 use Rattle.job.specs.declared.Coding as code
 use Rattle.job.specs.Answers.{coding-of}
-use Rattle.pinning.specs.State.{no-pin, pin-of, lines}
+use Rattle.format.specs.Choices.{no-choice, choice-of}
+use Rattle.pinning.specs.State.{lines}
 use Rattle.pinning.specs.Check.{Ready}
-use Rattle.pinning.proofs.Lines.{pin-mark, pin-some, pin-choice, lines-at, lines-length}
+use Rattle.format.proofs.Choices.{of-mark, byte-some, of-choice}
+use Rattle.pinning.proofs.Lines.{lines-at, lines-length}
 use Rattle.pinning.proofs.Calls.{inside, job-limits, units-are, choices-are, place-below, coding-read}
 use Rattle.pins.specs.declared.PinSet.{PinSet}
 use Rattle.pins.specs.Answers.{state, Room, Pinned}
@@ -35,12 +37,12 @@ module _ (b : List ℕ) (h : Header) (set : PinSet) (r : Ready b h (state set)) 
   unfolding state map
   line-below i x l e = go (r .matches .pins i l)
     where
-      p : pin-of (getD (set .pins) i 0) ≡ some x
+      p : choice-of (getD (set .pins) i 0) ≡ some x
       p = sym (lines-at (length (r .job .units)) (set .pins) i few l) ∙ e
 
-      go : (getD (set .pins) i 0 ≡ no-pin) ⊎ (getD (set .pins) i 0 < r .job .choices) → x < r .job .choices
-      go (inl q) = absurd (Option·none-ne-some x (sym pin-mark ∙ ap pin-of (sym q) ∙ p))
-      go (inr q) = let k = pin-some (getD (set .pins) i 0) x p in omega arith
+      go : (getD (set .pins) i 0 ≡ no-choice) ⊎ (getD (set .pins) i 0 < r .job .choices) → x < r .job .choices
+      go (inl q) = absurd (Option·none-ne-some x (sym of-mark ∙ ap choice-of (sym q) ∙ p))
+      go (inr q) = let k = byte-some (getD (set .pins) i 0) x p in omega arith
 
   small : TotalsWithin 4095 1000000 (length (r .job .units)) (pin-totals (r .job) map)
   unfolding pin-totals
@@ -75,13 +77,13 @@ module _ (b : List ℕ) (h : Header) (set : PinSet) (r : Ready b h (state set)) 
             distortion = omega (arith, small, totals-are, coding-is, m .units);
           }
 
-      pub held : getD (set .pins) (u - 1) 0 ≡ x → (x ≡ no-pin → ⊥) → Pinned set (u - 1) c
+      pub held : getD (set .pins) (u - 1) 0 ≡ x → (x ≡ no-choice → ⊥) → Pinned set (u - 1) c
       unfolding pin-totals with-line map
       held p q =
           let k = inside (h .units) u within in
           let n = units-are b h (state set) r in
           let l : u - 1 < length (r .job .units) = omega arith in
-          let line : getD map (u - 1) none ≡ some x = lines-at (length (r .job .units)) (set .pins) (u - 1) few l ∙ ap pin-of p ∙ pin-choice x q in
+          let line : getD map (u - 1) none ≡ some x = lines-at (length (r .job .units)) (set .pins) (u - 1) few l ∙ ap choice-of p ∙ of-choice x q in
           let t = totals-emptied (codingAt (r .job)) map (u - 1) x (length (r .job .units)) l (omega (arith, lines-length (length (r .job .units)) (set .pins) few)) line in
           record {
             place-below = place-below b h (state set) r u within .1;

@@ -18,7 +18,8 @@ use Rattle.pins.specs.declared.Opened.{Opened}
 use Rattle.pins.specs.declared.Answer.{Answer}
 use Rattle.pins.specs.declared.Answer.the-variants as a
 use Rattle.pins.specs.declared.Handed.{Handed}
-use Rattle.pinning.specs.State.{State, pin-of}
+use Rattle.format.specs.Choices.{choice-of}
+use Rattle.pinning.specs.State.{State}
 use Rattle.pinning.specs.Check.{codings-in}
 use Rattle.pinning.specs.Calls as calls
 
@@ -51,7 +52,7 @@ tallied t = record { count = t .count; size = t .size; distortion = t .distortio
 
 -- r is the sum with one line more, and not much more
 pub record Added (b : List ℕ) (h : format.Header) (place pin : ℕ) (sum r : Tally) : Type 0 where
-  pub is : tallied r ≡ with-line (codings-in b h place) (pin-of pin) (tallied sum)
+  pub is : tallied r ≡ with-line (codings-in b h place) (choice-of pin) (tallied sum)
   pub count : r .count ≤ sum .count + 1
   pub size : r .size ≤ sum .size + 65535
   pub distortion : r .distortion ≤ sum .distortion + 4294967295
@@ -59,7 +60,7 @@ pub record Added (b : List ℕ) (h : format.Header) (place pin : ℕ) (sum r : T
 -- a pin more does not overflow the totals
 pub record Room (s : PinSet) (place : ℕ) (c : Coding) : Type 0 where
   pub place-below : place < 512
-  pub count : s .count + 1 < 4294967296
+  pub count : s .count ≤ 512
   pub size : s .size + c .size < 4294967296
   pub distortion : s .distortion + c .distortion < 4294967296
 

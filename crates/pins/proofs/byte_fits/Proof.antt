@@ -1,22 +1,22 @@
-use Rattle.pinning.proofs.Loops.{byte-none, byte-below, byte-past}
+use Rattle.pinning.proofs.Loops.{fits-none, fits-below, fits-past}
 use Rattle.job.specs.Answers.{plain}
 use borrow.Author.Needs.{needs}
 use Rattle.pins.proofs.byte_fits.Statement.{statement}
 use Rattle.pins.proofs.byte_fits.Tie as tie
 
 returns : tie.Need-returns
-returns c = byte-none _ _ _ (c .if1 .taken)
+returns c = fits-none _ _ _ (c .if1 .taken)
 
 cast-if2 : tie.Need-cast-if2
 cast-if2 c = search needs
 
 returns-2 : tie.Need-returns-2
 unfolding plain
-returns-2 c = byte-below _ _ _ (c .before .before .before .if1 .left) (c .before .if2 .taken)
+returns-2 c = fits-below _ _ _ (c .before .before .before .if1 .left) (c .before .if2 .taken)
 
 returns-3 : tie.Need-returns-3
 unfolding plain
-returns-3 c = byte-past _ _ _ (c .before .before .if1 .left) (c .if2 .left)
+returns-3 c = fits-past _ _ _ (c .before .before .if1 .left) (c .if2 .left)
 
 pub byte-fits-spec : {M : Type 1} → statement M
 byte-fits-spec = tie.close (tie.spec returns cast-if2 returns-2 returns-3)

@@ -1,6 +1,6 @@
 use mathlib.Core.Path.{sym, _∙_}
 use borrow.Author.Tests.{not-true, not-false}
-use Rattle.pinning.proofs.Loops.{bytes-start, bytes-more, bytes-stop}
+use Rattle.model.proofs.All.{all-none, all-more, all-stop}
 use mathlib.Core.Path.{_≡_}
 use Prim.Native.Nat.{_≤_, _-_}
 use native.Mathlib.Omega.{arith}
@@ -18,7 +18,8 @@ abbrev μ-loop : tie.MeasureT-loop
 μ-loop header pins place₀ place = 512 - place
 
 loop-holds : tie.Need-loop-holds Inv-loop μ-loop
-loop-holds c = (search needs, bytes-start _ _)
+unfolding bytes-fit
+loop-holds c = (search needs, all-none _)
 
 element-copy-out-byte-fits : tie.Need-element-copy-out-byte-fits Inv-loop μ-loop
 element-copy-out-byte-fits c = search needs
@@ -27,7 +28,8 @@ byte-fits-requires : tie.Need-byte-fits-requires Inv-loop μ-loop
 byte-fits-requires c κs = search needs
 
 returns : tie.Need-returns Inv-loop μ-loop
-returns c = bytes-stop _ _ (c .before .before .before .before .loop .place) 512 (search needs) (sym (c .before .byte-fits .ensures) ∙ not-true _ (c .if1 .taken))
+unfolding bytes-fit
+returns c = all-stop _ (c .before .before .before .before .loop .place) 512 (search needs) (sym (c .before .byte-fits .ensures) ∙ not-true _ (c .if1 .taken))
 
 add-place : tie.Need-add-place Inv-loop μ-loop
 add-place c = search needs
@@ -36,7 +38,8 @@ loop-less : tie.Need-loop-less Inv-loop μ-loop
 loop-less c = search needs
 
 loop-again : tie.Need-loop-again Inv-loop μ-loop
-loop-again c = (search needs, bytes-more _ _ _ (c .before .before .before .before .loop .inv .1) (sym (c .before .byte-fits .ensures) ∙ not-false _ (c .if1 .left)))
+unfolding bytes-fit
+loop-again c = (search needs, all-more _ _ (c .before .before .before .before .loop .inv .1) (sym (c .before .byte-fits .ensures) ∙ not-false _ (c .if1 .left)))
 
 returns-2 : tie.Need-returns-2 Inv-loop μ-loop
 returns-2 c = let k : c .before .loop .place ≡ 512 = omega arith in sym (rw k at (c .before .loop .inv .1))
