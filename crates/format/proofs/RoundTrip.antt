@@ -150,7 +150,7 @@ told-header : (h : Header) (j : Job) → RestGood h j → header-in j ≡ h
 told-header h j g = ap header-in (g .units .job-is) ∙ header-back h (j .line .rates) (j .units) (g .rates .count) (g .units .count)
 
 -- a list of one
-one-only : {A : Type 0} (l : List A) (d : A) → length l ≡ 1 → l ≡ getD l 0 d ∷ []
+pub one-only : {A : Type 0} (l : List A) (d : A) → length l ≡ 1 → l ≡ getD l 0 d ∷ []
 one-only [] d e = absurd (omega arith)
 one-only (a ∷ []) d e = refl
 one-only (a ∷ b ∷ l) d e = absurd (omega arith)

@@ -10,7 +10,7 @@ use Rattle.model.specs.If.{if_then_else_}
 use Rattle.model.specs.Job.{bucketAt, Coding, Job}
 use Rattle.format.specs.Fields.{number, bytes, total, fields, spelled}
 use Rattle.format.specs.Limits.{Limit, limit, kept, broken, AllKept}
-use Rattle.format.specs.Parser.{Parser, done, further, onward, _>>=_, unless-refused, many, all-bytes, Each}
+use Rattle.format.specs.Parser.{Result, refused, took, Parser, done, further, onward, _>>=_, unless-refused, many, all-bytes, Each}
 use Rattle.format.specs.Records.{Form, block, head-values, head-limits, record-due, record-bytes}
 
 -- kind 1's nine fields: N, d, D, K, drain, the starting levels of decoder and bucket, P and M
@@ -154,6 +154,14 @@ parse = do
   rates ← record-due (rates-form (h .rates))
   units ← many (h .units) (unit-parser (h .choices))
   done (job-of h rates units)
+
+-- the job that bytes hold; where they hold none, a job without units
+unfoldable pub job-or-none : Result Job → Job
+job-or-none (refused n) = job-of (record { units = 0; delay = 0; decoder = 0; bucket = 0; drain = 0; level = 0; fill = 0; rates = 0; choices = 0 }) [] []
+job-or-none (took j k) = j
+
+unfoldable pub job-in : List ℕ → Job
+job-in b = job-or-none (parse b)
 
 -- the records of a job, in their only order
 unfoldable pub unit-bytes : ℕ → List Coding → List ℕ

@@ -6,4 +6,5 @@ pub mod Records
 pub mod Choices
 pub mod JobBytes
 pub mod Places
+pub mod JobA
 pub mod Claims

@@ -55,10 +55,11 @@ accept s (took j k) = if fits (codingAt j) (header-in j) s then took j k else re
 unfoldable pub checked : List ℕ → State → Result Job
 checked b s = accept s (parse b)
 
--- the bytes are those of a job with this header, and the set matches it
+-- the bytes are those of a job with this header, and the set, of 512 bytes, matches it
 pub record Ready (b : List ℕ) (h : Header) (s : State) : Type 0 where
   pub job : Job
   pub taken : ℕ
   pub parsed : parse b ≡ took job taken
   pub header-is : header-in job ≡ h
   pub matches : Matches job s
+  pub size : length (s .bytes) ≡ 512

@@ -60,10 +60,10 @@ module _ (b : List ℕ) where
     call-refused n k e = rw e
 
     -- a set that the check takes matches the job
-    ready-by : (j : Job) (k : ℕ) (p : Result Job) → parse b ≡ p → accept s p ≡ took j k → Ready b (header-in j) s
+    ready-by : (j : Job) (k : ℕ) (p : Result Job) → length (s .bytes) ≡ 512 → parse b ≡ p → accept s p ≡ took j k → Ready b (header-in j) s
     unfolding accept if_then_else_
-    ready-by j k (refused n) e q = let z : _≡_ {A = ℕ} 0 1 = cc in absurd (omega arith)
-    ready-by j k (took i m) e q = go (fits (codingAt i) (header-in i) s) refl q
+    ready-by j k (refused n) size e q = let z : _≡_ {A = ℕ} 0 1 = cc in absurd (omega arith)
+    ready-by j k (took i m) size e q = go (fits (codingAt i) (header-in i) s) refl q
       where
         go : (t : Bool) → fits (codingAt i) (header-in i) s ≡ t → (if t then took i m else refused 6) ≡ took j k → Ready b (header-in j) s
         go false f w = let z : _≡_ {A = ℕ} 0 1 = cc in absurd (omega arith)
@@ -75,8 +75,9 @@ module _ (b : List ℕ) where
               parsed = e;
               header-is = ap header-in same;
               matches = checks i s (limits b i m e .units .1) .0 f;
+              size = size;
             }
 
-    pub ready : (h : Header) (k : ℕ) → Held (checked b s) h k → Ready b h s
+    pub ready : (h : Header) (k : ℕ) → Held (checked b s) h k → length (s .bytes) ≡ 512 → Ready b h s
     unfolding checked
-    ready h k d = rw (d .header-is) at (ready-by (d .job) k (parse b) refl (d .is))
+    ready h k d size = rw (d .header-is) at (ready-by (d .job) k (parse b) size refl (d .is))

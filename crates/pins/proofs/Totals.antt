@@ -25,9 +25,10 @@ use Rattle.pins.specs.declared.PinSet.{PinSet}
 use Rattle.pins.specs.Answers.{state, Room, Pinned}
 
 -- a pin's coding within its limits, and the totals that hold it
-module _ (b : List ℕ) (h : Header) (set : PinSet) (r : Ready b h (state set)) (size : length (set .pins) ≡ 512) where
+module _ (b : List ℕ) (h : Header) (set : PinSet) (r : Ready b h (state set)) where
   few : length (r .job .units) ≤ length (set .pins)
-  few = omega (arith, size, job-limits b h (state set) r .units)
+  unfolding state
+  few = omega (arith, r .size, job-limits b h (state set) r .units)
 
   map : PinMap
   map = lines (length (r .job .units)) (set .pins)

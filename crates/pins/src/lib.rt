@@ -220,8 +220,10 @@ fn fits(job: &[u8], header: Header, set: PinSet) -> bool
 }
 
 // What every call that takes a job and a set tests first: the job, refusals 1 to 5, then the set against it, refusal 6.
+// That a set has 512 pin bytes is handed on to the callers' proofs.
 pub fn check(job: &[u8], set: PinSet) -> Reading
-    ensures { λ r. ⌜ reading r ≡ with-value header-in (checked (now (job .entry)) (state set)) ⌝ }
+    ensures sized { λ _. ⌜ length (set .pins) ≡ 512 ⌝ }
+    ensures answer { λ r. ⌜ reading r ≡ with-value header-in (checked (now (job .entry)) (state set)) ⌝ }
 {
     match job::read(job) {
         Reading::Refused(n) => Reading::Refused(n),

@@ -3,21 +3,12 @@ use Rattle.pinning.proofs.Calls.{lift-seven, lift-ten, lift-taken, place-below,
 use Rattle.pins.specs.Answers.{state, number, handed}
 use Rattle.pinning.specs.Calls.{take-in}
 use Rattle.job.specs.Answers.{plain}
-use lib.ListN.{length}
-use mathlib.Core.Path.{_≡_, refl, sym, _∙_}
+use mathlib.Core.Path.{refl, sym, _∙_}
 use borrow.Author.Needs.{needs}
 use Rattle.pins.proofs.lift_line.Statement.{statement}
 use Rattle.pins.proofs.lift_line.Tie as tie
 use Rattle.pins.proofs.lift_line.Reads as reads
 use Rattle.pins.proofs.lift_line.Lts as lts
-use Rattle.job.proofs.coding_at.Reads as coding-at-reads
-use Rattle.pins.proofs.PinSet.without_pin.Reads as without-pin-reads
-use Rattle.pins.proofs.outside.Reads as outside-reads
-use Rattle.pins.proofs.refused.Reads as refused-reads
-
--- the set's array has its length
-pins-size : (start : lts.Start (outside-reads.Asked, outside-reads.Learnt, refused-reads.Asked, refused-reads.Learnt, coding-at-reads.Asked, coding-at-reads.Learnt, without-pin-reads.Asked, without-pin-reads.Learnt) reads.Pre reads.Post) → length (start .args .t3 .pins) ≡ 512
-pins-size start = search needs
 
 outside-requires : tie.Need-outside-requires
 outside-requires c κs = search needs
@@ -71,7 +62,7 @@ without-pin-requires c κs =
     let e = f .before .before in
     let o = e .before in
     let below = pinned-below _ _ _ (o .before .before .pre) _ (sym (o .outside .ensures) ∙ e .if1 .left) (f .if2 .left) in
-    (held _ _ _ (o .before .before .pre) (pins-size (o .before .before)) _ (sym (o .outside .ensures) ∙ e .if1 .left) _ below _ (c .coding-at .ensures) refl (f .if2 .left))
+    (held _ _ _ (o .before .before .pre) _ (sym (o .outside .ensures) ∙ e .if1 .left) _ below _ (c .coding-at .ensures) refl (f .if2 .left))
 
 returns-3 : tie.Need-returns-3
 unfolding plain state handed number take-in

@@ -1,3 +1,4 @@
+use Rattle.pins.specs.Answers.{state}
 use Rattle.pins.proofs.Answering.{call-refused, ready}
 use Rattle.job.proofs.Answers.{answer-took, answer-refused}
 use mathlib.Core.Path.{_∙_}
@@ -18,16 +19,17 @@ enum-known-header : tie.Need-enum-known-header
 enum-known-header c = search needs
 
 pin-line-requires : tie.Need-pin-line-requires
+unfolding state
 pin-line-requires c κs =
     let h = c .before in
     let check = h .before .before .check in
-    ready _ _ _ _ (answer-took _ (check .result) _ _ (check .ensures) (h .header .given .1))
+    ready _ _ _ _ (answer-took _ (check .result) _ _ (check .ensures .1) (h .header .given .1)) (check .ensures .0)
 
 returns : tie.Need-returns
 returns c =
     let n = c .before .before in
     let check = n .before .before .check in
-    c .refused .ensures ∙ call-refused _ _ _ _ (answer-refused _ (check .result) _ (check .ensures) (n .n .given .1))
+    c .refused .ensures ∙ call-refused _ _ _ _ (answer-refused _ (check .result) _ (check .ensures .1) (n .n .given .1))
 
 returns-2 : tie.Need-returns-2
 returns-2 c = search needs

@@ -1,8 +1,6 @@
 use Rattle.pins.proofs.Totals.{room}
 use Rattle.pinning.proofs.Calls.{choices-are, job-limits}
 use native.Mathlib.Omega.{arith}
-use lib.ListN.{length}
-use mathlib.Core.Path.{_≡_}
 use Rattle.pinning.proofs.Calls.{pin-seven, pin-eight, pin-nine, pin-taken, place-below}
 use Rattle.pins.specs.Answers.{state, number, handed}
 use Rattle.pinning.specs.Calls.{take-in}
@@ -13,14 +11,6 @@ use Rattle.pins.proofs.pin_line.Statement.{statement}
 use Rattle.pins.proofs.pin_line.Tie as tie
 use Rattle.pins.proofs.pin_line.Reads as reads
 use Rattle.pins.proofs.pin_line.Lts as lts
-use Rattle.job.proofs.coding_at.Reads as coding-at-reads
-use Rattle.pins.proofs.PinSet.with_pin.Reads as with-pin-reads
-use Rattle.pins.proofs.outside.Reads as outside-reads
-use Rattle.pins.proofs.refused.Reads as refused-reads
-
--- the set's array has its length
-pins-size : (start : lts.Start (outside-reads.Asked, outside-reads.Learnt, refused-reads.Asked, refused-reads.Learnt, coding-at-reads.Asked, coding-at-reads.Learnt, with-pin-reads.Asked, with-pin-reads.Learnt) reads.Pre reads.Post) → length (start .args .t3 .pins) ≡ 512
-pins-size start = search needs
 
 outside-requires : tie.Need-outside-requires
 outside-requires c κs = search needs
@@ -92,7 +82,7 @@ with-pin-requires c κs =
     let l = f .before .before in
     let e = l .before in
     let o = e .before in
-    (room _ _ _ (o .before .before .pre) (pins-size (o .before .before)) _ (sym (o .outside .ensures) ∙ e .if1 .left) _ (l .if2 .left) _ (c .coding-at .ensures))
+    (room _ _ _ (o .before .before .pre) _ (sym (o .outside .ensures) ∙ e .if1 .left) _ (l .if2 .left) _ (c .coding-at .ensures))
 
 returns-4 : tie.Need-returns-4
 unfolding plain state handed number take-in

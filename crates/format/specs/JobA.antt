@@ -1,0 +1,23 @@
+-- Job A of document 01: N 2, d 1, D 4, K 3, drain 2, both starting levels 0, rates 0, 2, 4, two choices. Unit 1: 4 grains distortion 10; 2 grains distortion 30. Unit 2: 5 and 12; 2 and 40.
+-- Assumes nothing.
+use Prim.Native.Nat.{ℕ}
+use mathlib.Core.List.{List, [], _∷_}
+use Rattle.model.specs.Job.{Coding, Job}
+use Rattle.format.specs.JobBytes.{Header, job-of}
+
+unfoldable pub header-a : Header
+header-a = record { units = 2; delay = 1; decoder = 4; bucket = 3; drain = 2; level = 0; fill = 0; rates = 3; choices = 2 }
+
+unfoldable pub coded : ℕ → ℕ → Coding
+coded s d = record { size = s; distortion = d }
+
+unfoldable pub job-a : Job
+job-a = job-of header-a (0 ∷ 2 ∷ 4 ∷ []) ((coded 4 10 ∷ coded 2 30 ∷ []) ∷ (coded 5 12 ∷ coded 2 40 ∷ []) ∷ [])
+
+-- its 64 bytes: the header's record, the rates', and one for each unit
+unfoldable pub bytes-a : List ℕ
+bytes-a =
+    20 ∷ 0 ∷ 1 ∷ 0 ∷ 2 ∷ 0 ∷ 1 ∷ 0 ∷ 4 ∷ 0 ∷ 3 ∷ 0 ∷ 2 ∷ 0 ∷ 0 ∷ 0 ∷ 0 ∷ 0 ∷ 3 ∷ 0 ∷ 2 ∷ 0
+    ∷ 8 ∷ 0 ∷ 2 ∷ 0 ∷ 0 ∷ 0 ∷ 2 ∷ 0 ∷ 4 ∷ 0
+    ∷ 14 ∷ 0 ∷ 3 ∷ 0 ∷ 4 ∷ 0 ∷ 10 ∷ 0 ∷ 0 ∷ 0 ∷ 2 ∷ 0 ∷ 30 ∷ 0 ∷ 0 ∷ 0
+    ∷ 14 ∷ 0 ∷ 3 ∷ 0 ∷ 5 ∷ 0 ∷ 12 ∷ 0 ∷ 0 ∷ 0 ∷ 2 ∷ 0 ∷ 40 ∷ 0 ∷ 0 ∷ 0 ∷ []

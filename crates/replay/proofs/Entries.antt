@@ -1,0 +1,145 @@
+-- What a plan in shape does in the interval of a place, from what was read of it.
+-- Assumes nothing.
+use Prim.Native.Nat.{ℕ, suc, _+_, _-_, _*_, _<_, _≤_}
+use mathlib.Core.Path.{_≡_, refl, sym, _∙_, ap}
+use mathlib.Core.Bool.{true}
+use mathlib.Core.List.{List}
+use native.Mathlib.Omega.{arith}
+use lib.Dec.{eqb, ltb}
+use lib.ListN.{length}
+use borrow.Author.Tests.{eqb-true, ltb-true, lt-ltb, le-ltb, le-leb, lt-leb}
+use Rattle.model.specs.If.{if_then_else_}
+use Rattle.model.specs.Job as model
+use Rattle.model.specs.Job.{codingAt, coding, sends, takes, distorts, intervals}
+use Rattle.model.specs.Pins.{pinOf, pinAt}
+use Rattle.model.proofs.Tests.{both-true}
+use Rattle.model.proofs.All.{all-each}
+use Rattle.format.specs.Choices.{no-choice, choice-of}
+use Rattle.format.specs.JobBytes.{Header, header-in, job-in}
+use Rattle.format.specs.Places.{rate-at, coding-at}
+use Rattle.format.specs.Claims.{InLimits, LookedUp}
+use Rattle.format.proofs.Choices.{of-mark, of-choice}
+use Rattle.format.proofs.Bounds.{limited}
+use Rattle.format.proofs.Places.{well-read, looks-up}
+use Rattle.job.specs.declared.Coding.{Coding}
+use Rattle.job.specs.Answers.{coding-of}
+use Rattle.pinning.specs.State.{lines}
+use Rattle.pinning.proofs.Lines.{lines-at}
+use Rattle.replaying.specs.Entries.{entry-size, rate-byte, mark-byte, entry-at, entry-fits, entries-fit, shaped}
+use Rattle.replay.specs.Answers.{Shaped, CodingIn, no-coding, coded, PinIn, no-pin, pinned, IsInterval}
+
+module _ (b : List ℕ) (h : Header) (entries : List ℕ) (s : Shaped b h entries) where
+  pub job-limits : InLimits (job-in b)
+  job-limits = limited (job-in b) (well-read b (job-in b) (s .taken) (s .parsed))
+
+  looked-up : LookedUp b (job-in b)
+  looked-up = looks-up b (job-in b) (s .taken) (s .parsed)
+
+  -- the header's counts are the job's
+  pub units-are : length (job-in b .units) ≡ h .units
+  unfolding header-in
+  units-are = ap (λ (k : Header). k .units) (s .header-is)
+
+  pub delay-is : job-in b .delay ≡ h .delay
+  unfolding header-in
+  delay-is = ap (λ (k : Header). k .delay) (s .header-is)
+
+  rates-are : length (job-in b .line .rates) ≡ h .rates
+  unfolding header-in
+  rates-are = ap (λ (k : Header). k .rates) (s .header-is)
+
+  choices-are : job-in b .choices ≡ h .choices
+  unfolding header-in
+  choices-are = ap (λ (k : Header). k .choices) (s .header-is)
+
+  pub intervals-are : intervals (job-in b) ≡ h .units + h .delay
+  unfolding intervals
+  intervals-are = omega (arith, units-are, delay-is)
+
+  pub few-intervals : h .units + h .delay ≤ 576
+  few-intervals = omega (arith, units-are, delay-is, job-limits .units, job-limits .delay)
+
+  pub entries-size : length entries ≡ entry-size * (h .units + h .delay)
+  unfolding shaped
+  entries-size = eqb-true _ _ (both-true _ _ (s .in-shape) .0)
+
+  module _ (i : ℕ) (l : i < h .units + h .delay) where
+    in-range : entry-fits h i (rate-byte entries i) (mark-byte entries i) ≡ true
+    unfolding shaped entries-fit
+    in-range = all-each _ (h .units + h .delay) (both-true _ _ (s .in-shape) .1) i l
+
+    rate-below : rate-byte entries i < h .rates
+    unfolding entry-fits
+    rate-below = ltb-true _ _ (both-true _ _ in-range .0)
+
+    -- up to the delay there is no choice, after it one of the job's
+    mark-fits : (if ltb i (h .delay) then eqb (mark-byte entries i) no-choice else ltb (mark-byte entries i) (h .choices)) ≡ true
+    unfolding entry-fits
+    mark-fits = both-true _ _ in-range .1
+
+    no-unit : i < h .delay → mark-byte entries i ≡ no-choice
+    unfolding if_then_else_
+    no-unit k = eqb-true _ _ (rw (lt-ltb i (h .delay) k) at mark-fits)
+
+    choice-below : h .delay ≤ i → mark-byte entries i < h .choices
+    unfolding if_then_else_
+    choice-below k = ltb-true _ _ (rw (le-ltb i (h .delay) k) at mark-fits)
+
+    pub sent-is : rate-at b (rate-byte entries i) ≡ sends (job-in b) (entry-at entries i)
+    unfolding sends entry-at
+    sent-is = looked-up .rate (rate-byte entries i) (omega (arith, rates-are, rate-below))
+
+    pub sent-most : rate-at b (rate-byte entries i) ≤ 4095
+    sent-most = rw (looked-up .rate (rate-byte entries i) (omega (arith, rates-are, rate-below))) (job-limits .rate (rate-byte entries i) (omega (arith, rates-are, rate-below)))
+
+    -- the coding that was read is the one that the interval decodes, and within its limits
+    record Codes (x : Coding) : Type 0 where
+      is : coding-of x ≡ coding (job-in b) (suc i) (choice-of (mark-byte entries i))
+      size-most : x .size ≤ 4095
+      distortion-most : x .distortion ≤ 1000000
+
+    coding-is : (x : Coding) → CodingIn b h i (mark-byte entries i) x → Codes x
+    unfolding coding coding-of
+    coding-is x (no-coding k e) = record {
+      is = rw (no-unit k, of-mark) e;
+      size-most = let z : x .size ≡ 0 = ap (λ (k : model.Coding). k .size) e in omega arith;
+      distortion-most = let z : x .distortion ≡ 0 = ap (λ (k : model.Coding). k .distortion) e in omega arith;
+    }
+    coding-is x (coded k e) =
+        let m = mark-byte entries i in
+        let below = choice-below k in
+        let u = i - h .delay + 1 in
+        let place : suc i - (job-in b .delay + 1) ≡ u - 1 = omega (arith, delay-is) in
+        let unit : (1 ≤ u) × (u ≤ length (job-in b .units)) = (omega arith, omega (arith, units-are)) in
+        let q : coding-of x ≡ codingAt (job-in b) (u - 1) m = e ∙ ap (λ (n : Header). coding-at b n u m) (sym (s .header-is)) ∙ looked-up .coding u m (unit .0) (unit .1) (omega (arith, choices-are)) in
+        let z = job-limits .sizes (u - 1) m (omega (arith, unit)) (omega (arith, choices-are)) in
+        let w = job-limits .distortions (u - 1) m (omega (arith, unit)) (omega (arith, choices-are)) in
+        let a : x .size ≡ codingAt (job-in b) (u - 1) m .size = cc in
+        let d : x .distortion ≡ codingAt (job-in b) (u - 1) m .distortion = cc in
+        record {
+          is = rw (of-choice m (λ y. omega (arith, choices-are, job-limits .choices)), place) q;
+          size-most = omega arith;
+          distortion-most = omega arith;
+        }
+
+    -- the pin that was read is the one that bears on the interval
+    pin-is : (pins : List ℕ) (x : ℕ) → length pins ≡ 512 → PinIn h pins i x → choice-of x ≡ pinAt (job-in b) (lines (h .units) pins) (suc i)
+    unfolding pinAt pinOf if_then_else_
+    pin-is pins x n (no-pin k e) = rw (le-leb (suc i) (job-in b .delay) (omega (arith, delay-is)), e, of-mark)
+    pin-is pins x n (pinned k e) =
+        let place : suc i - job-in b .delay - 1 ≡ i - h .delay = omega (arith, delay-is) in
+        rw (lt-leb (suc i) (job-in b .delay) (omega (arith, delay-is)), place, lines-at (h .units) pins (i - h .delay) (omega (arith, n, units-are, job-limits .units)) (omega arith), e)
+
+    pub interval-is : (pins : List ℕ) (coding : Coding) (pin : ℕ) → length pins ≡ 512 → CodingIn b h i (mark-byte entries i) coding → PinIn h pins i pin → IsInterval (job-in b) (lines (h .units) pins) entries i (record { sent = rate-at b (rate-byte entries i); size = coding .size; distortion = coding .distortion; pin = pin; choice = mark-byte entries i })
+    unfolding takes distorts entry-at coding-of
+    interval-is pins x pin n d q =
+        let w = coding-is x d in
+        let e = w .is in
+        record {
+          sent = sent-is;
+          size = cc;
+          distortion = cc;
+          pin = pin-is pins pin n q;
+          choice = refl;
+          limits = (sent-most, w .size-most, w .distortion-most);
+        }

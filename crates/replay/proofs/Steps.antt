@@ -1,0 +1,61 @@
+-- One interval, test by test.
+-- Assumes nothing.
+use Prim.Native.Nat.{ℕ, _+_, _-_, _<_, _≤_}
+use mathlib.Core.Path.{_≡_, refl, sym}
+use mathlib.Core.Bool.{Bool, true, false}
+use mathlib.Core.Option.{Option}
+use mathlib.Core.List.{[], _∷_, zipWith}
+use native.Mathlib.Omega.{arith}
+use lib.Dec.{eqb}
+use borrow.Author.Tests.{lt-ltb, le-ltb, eqb-true, eq-eqb, ne-eqb}
+use Rattle.model.specs.If.{if_then_else_}
+use Rattle.model.specs.Admissible.{Violation, decoder-underflow, decoder-overflow, bucket-overflow, pin-not-held}
+use Rattle.model.specs.Step.{breaks, holds, decoder-step, bucket-step, violates, reaches, poured, overfull, same-choice, pin-held, or-overflow, after-decoder, outcome-of}
+use Rattle.format.specs.Choices.{no-choice, choice-of}
+use Rattle.format.specs.JobBytes.{Header}
+use Rattle.format.proofs.Choices.{of-mark, of-choice}
+use Rattle.replay.specs.Answers.{line-of}
+
+module _ (size b c r : ℕ) where
+  pub decoder-short : b + c < r → breaks decoder-underflow ≡ decoder-step size b c r
+  unfolding decoder-step if_then_else_
+  decoder-short h = rw (lt-ltb (b + c) r h)
+
+  pub decoder-over : r ≤ b + c → size < (b + c) - r → breaks decoder-overflow ≡ decoder-step size b c r
+  unfolding decoder-step if_then_else_
+  decoder-over h k = rw (le-ltb (b + c) r h, lt-ltb size ((b + c) - r) k)
+
+  pub decoder-within : r ≤ b + c → (b + c) - r ≤ size → holds ((b + c) - r) ≡ decoder-step size b c r
+  unfolding decoder-step if_then_else_
+  decoder-within h k = rw (le-ltb (b + c) r h, le-ltb size ((b + c) - r) k)
+
+pub no-pin-holds : (pin : ℕ) (o : Option ℕ) → pin ≡ no-choice → true ≡ pin-held (choice-of pin) o
+unfolding pin-held
+no-pin-holds pin o e = rw (e, of-mark)
+
+pub pin-holds-by : (pin choice : ℕ) → (pin ≡ no-choice → ⊥) → eqb choice pin ≡ pin-held (choice-of pin) (choice-of choice)
+unfolding pin-held same-choice
+pin-holds-by pin choice h = rw (of-choice pin h) (go (eqb choice no-choice) refl)
+  where
+    go : (t : Bool) → eqb choice no-choice ≡ t → eqb choice pin ≡ same-choice (choice-of choice) pin
+    go true e = let q = eqb-true choice no-choice e in rw (q, of-mark) (ne-eqb no-choice pin (λ z. h (sym z)))
+    go false e = rw (of-choice choice (λ z. let y : _≡_ {A = ℕ} 0 1 = cc (eq-eqb choice no-choice z) in omega arith))
+
+-- an interval over the line of a header, from what its parts answered
+module _ (h : Header) (pinned choice : Option ℕ) (b l c r : ℕ) where
+  pub outcome-decoder : (v : Violation) → breaks v ≡ decoder-step (h .decoder) b c r → violates v ≡ outcome-of (line-of h) pinned choice b (l ∷ []) c r
+  unfolding outcome-of line-of after-decoder
+  outcome-decoder v e = rw (← e)
+
+  module _ (d : ℕ) (e : holds d ≡ decoder-step (h .decoder) b c r) where
+    pub outcome-bucket : h .bucket < (l + c) - h .drain → violates (bucket-overflow 0) ≡ outcome-of (line-of h) pinned choice b (l ∷ []) c r
+    unfolding outcome-of line-of after-decoder poured bucket-step zipWith overfull or-overflow if_then_else_
+    outcome-bucket k = rw (← e, lt-ltb (h .bucket) ((l + c) - h .drain) k)
+
+    pub outcome-pin : (l + c) - h .drain ≤ h .bucket → pin-held pinned choice ≡ false → violates pin-not-held ≡ outcome-of (line-of h) pinned choice b (l ∷ []) c r
+    unfolding outcome-of line-of after-decoder poured bucket-step zipWith overfull or-overflow if_then_else_
+    outcome-pin k q = rw (← e, le-ltb (h .bucket) ((l + c) - h .drain) k, q)
+
+    pub outcome-reaches : (l + c) - h .drain ≤ h .bucket → pin-held pinned choice ≡ true → reaches (record { decoder = d; buckets = ((l + c) - h .drain) ∷ [] }) ≡ outcome-of (line-of h) pinned choice b (l ∷ []) c r
+    unfolding outcome-of line-of after-decoder poured bucket-step zipWith overfull or-overflow if_then_else_
+    outcome-reaches k q = rw (← e, le-ltb (h .bucket) ((l + c) - h .drain) k, q)

@@ -1,0 +1,32 @@
+-- The table of document 01's cases, computed, and what it says of each.
+-- Assumes nothing.
+use Prim.Native.Nat.{ℕ, zero, suc, _<_}
+use mathlib.Core.Path.{_≡_, refl}
+use mathlib.Core.List.{List, [], _∷_, map}
+use native.Mathlib.Omega.{arith}
+use lib.ListN.{length, getD}
+use Rattle.model.specs.Evaluate.{evaluate}
+use Rattle.model.specs.All.{all-below}
+use Rattle.format.specs.Choices.{choice-of}
+use Rattle.format.specs.JobBytes.{computes, same-header}
+use Rattle.format.specs.JobA.{bytes-a}
+use Rattle.pinning.specs.State.{lines, unpinned, fresh}
+use Rattle.pinning.specs.Check.{byte-fits, bytes-fit, same-totals, fits, accept, checked}
+use Rattle.pinning.specs.Calls.{opened, open-call, refuse, take-in, with-pin, without-pin, pin-line, lift-line, call-in, calling, call, after, run}
+use Rattle.replaying.specs.Entries.{rate-byte, mark-byte, entry-at, plan-from, plan-of, entry-fits, entries-fit, shaped}
+use Rattle.replaying.specs.Calls as c
+use Rattle.replaying.specs.Cases.{Question, Reply, set-after, reply, questions, replies, Cases}
+
+cases : Cases
+unfolding evaluate computes all-below choice-of same-header bytes-a lines unpinned fresh byte-fits bytes-fit same-totals fits accept checked opened open-call refuse take-in with-pin without-pin pin-line lift-line call-in calling call after run rate-byte mark-byte entry-at plan-from plan-of entry-fits entries-fit shaped c.replayed c.flat c.level-count c.over c.refuse c.played c.replay-in c.on-job c.replay-call c.report-in c.report-call set-after reply questions replies
+cases = refl
+
+-- what a computed list says of each of its members
+map-at : {A B : Type 0} (f : A → B) (xs : List A) (ys : List B) (x : A) (y : B) → map f xs ≡ ys → (i : ℕ) → i < length xs → f (getD xs i x) ≡ getD ys i y
+map-at f [] ys x y e i h = absurd (omega arith)
+map-at f (a ∷ xs) ys x y e zero h = rw (← e)
+map-at f (a ∷ xs) ys x y e (suc i) h = rw (← e) (map-at f xs (map f xs) x y refl i (omega arith))
+
+-- each case of the table, by its place
+pub case-at : (i : ℕ) → i < length questions → (q : Question) (r : Reply) → reply (getD questions i q) ≡ getD replies i r
+case-at i h q r = map-at reply questions replies q r cases i h

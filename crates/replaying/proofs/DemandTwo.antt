@@ -1,0 +1,103 @@
+-- Replay answers and writes what demand 2 asks: `ReplayCalls`.
+-- Assumes nothing.
+use Prim.Native.Nat.{ℕ, suc, _+_, _*_, _≤_}
+use mathlib.Core.Path.{_≡_, refl, _∙_, ap}
+use mathlib.Core.Logic.{_↔_}
+use mathlib.Core.List.{List, [], _∷_, zipWith}
+use native.Mathlib.Omega.{arith}
+use lib.ListN.{length, getD}
+use lib.IntN.{pos}
+use borrow.Author.Tests.{le-ltb}
+use Rattle.model.specs.If.{if_then_else_}
+use Rattle.model.specs.Answer.{Answer, gives}
+use Rattle.model.specs.Job.{Bucket, Levels, Job, Entry, intervals, PlanFits}
+use Rattle.model.specs.Levels.{bucketLevel, bucketLevels}
+use Rattle.model.specs.Pins.{PinMap}
+use Rattle.model.specs.Admissible.{Violation, ending, FirstViolation, LevelsOf}
+use Rattle.model.specs.Replay.{Totals, totals, Result, clean, stopped, Replay}
+use Rattle.model.specs.Claims.{ReplayClaim}
+use Rattle.model.proofs.DemandTwo.{demand-two}
+use Rattle.model.proofs.Walks.{fits-length}
+use Rattle.format.proofs.RoundTrip.{one-only}
+use Rattle.format.proofs.Places.{well-read}
+use Rattle.pinning.specs.State.{lines}
+use Rattle.pinning.proofs.Agree.{matched}
+use Rattle.replaying.specs.Entries.{plan-of}
+use Rattle.replaying.specs.Calls.{Replayed, totals-are, violated, replayed, flat, level-count, over, played, replay-in, on-job, replay-call}
+use Rattle.replaying.specs.Claims.{Written, DemandTwo, ReplayCalls}
+use Rattle.replaying.proofs.Entries.{plan-bytes}
+use Rattle.replaying.proofs.Flat.{Single, single-each, flat-size, flat-decoder, flat-bucket, over-length, over-here, over-rest}
+
+-- the answer's case is the result's
+clean-case : (s : Totals) (x : Result) → (_≡_ {A = Answer Replayed} (gives (replayed s x)) (gives (totals-are s))) ↔ (x ≡ clean)
+unfolding replayed
+clean-case s clean = (λ e. refl, λ e. refl)
+clean-case s (stopped t v) = (λ e. let z : _≡_ {A = ℕ} 0 1 = cc in absurd (omega arith), λ e. let z : _≡_ {A = ℕ} 0 1 = cc in absurd (omega arith))
+
+stopped-case : (s : Totals) (x : Result) (t : ℕ) (v : Violation) → (_≡_ {A = Answer Replayed} (gives (replayed s x)) (gives (violated t v))) ↔ (x ≡ stopped t v)
+unfolding replayed
+stopped-case s clean t v = (λ e. let z : _≡_ {A = ℕ} 0 1 = cc in absurd (omega arith), λ e. let z : _≡_ {A = ℕ} 0 1 = cc in absurd (omega arith))
+stopped-case s (stopped u w) t v =
+    (λ e. let p : u ≡ t = cc in let q : w ≡ v = cc in rw (p, q), λ e. let p : u ≡ t = cc in let q : w ≡ v = cc in rw (p, q))
+
+-- the two directions of two equivalences
+both : {A B C : Type 0} → (A ↔ B) → (B ↔ C) → (A ↔ C)
+both p q = (λ a. q .0 (p .0 a), λ c. p .1 (q .1 c))
+
+module _ (j : Job) (m : PinMap) (p : List Entry) (one : length (j .line .buckets) ≡ 1) (one-start : length (j .start .buckets) ≡ 1) where
+  abbrev k : Bucket
+  k = getD (j .line .buckets) 0 (record { size = 0; drain = 0 })
+
+  -- the levels that the equations give have one bucket
+  one-bucket : (n : ℕ) → ending j m 0 (j .start) p n .buckets ≡ bucketLevel j 0 p k (getD (j .start .buckets) 0 0) n ∷ []
+  unfolding ending bucketLevels zipWith
+  one-bucket n = rw (one-only (j .line .buckets) (record { size = 0; drain = 0 }) one, one-only (j .start .buckets) 0 one-start)
+
+  module _ (ls : List Levels) (shows : LevelsOf j m 0 (j .start) p ls) where
+    single : Single ls
+    single = single-each ls (λ i h. (_, shows i h .buckets ∙ one-bucket (suc i)))
+
+    written : (levels : List ℕ) (n : ℕ) → length ls ≡ n → 2 * n ≤ length levels → Written j m p levels n (over (flat ls) levels)
+    unfolding ending
+    written levels n e fits =
+        let s = flat-size single in
+        let room : length (flat ls) ≤ length levels = omega arith in
+        record {
+          decoder = λ i h. ap pos (over-here (flat ls) levels room (2 * i) (omega arith) ∙ flat-decoder single i (omega arith)) ∙ shows i (omega arith) .decoder;
+          bucket = λ i h.
+              over-here (flat ls) levels room (2 * i + 1) (omega arith)
+              ∙ flat-bucket single i (omega arith)
+              ∙ ap (λ (bs : List ℕ). getD bs 0 0) (shows i (omega arith) .buckets ∙ one-bucket (suc i));
+          rest = over-rest (flat ls) levels room (2 * n) (omega arith);
+          size = over-length (flat ls) levels room;
+        }
+
+  -- of any replay of which the model's claim holds
+  demand-two-of : (levels : List ℕ) (r : Replay) → PlanFits j 0 p → 2 * intervals j ≤ length levels → ReplayClaim j m 0 (j .start) p r → DemandTwo j m p levels (record { answer = gives (replayed (totals j 0 p) (r .result)); list = over (flat (r .levels)) levels })
+  demand-two-of levels r fits room c =
+      let n = fits-length fits in
+      record {
+        clean-iff = both (clean-case (totals j 0 p) (r .result)) (c .admissible-iff fits);
+        clean-written = λ e. let w = c .clean-whole (clean-case (totals j 0 p) (r .result) .0 e) in written (r .levels) (c .levels) levels (intervals j) (omega arith) room;
+        violated-iff = λ i v. both (stopped-case (totals j 0 p) (r .result) (suc i) v) (named i v);
+        violated-written = λ i v e.
+            let q = stopped-case (totals j 0 p) (r .result) (suc i) v .0 e in
+            let a = c .stopped-after (suc i) v q in
+            let f = named i v .0 q .counted in
+            written (r .levels) (c .levels) levels i (omega arith) (omega arith);
+      }
+    where
+      named : (i : ℕ) (v : Violation) → (r .result ≡ stopped (suc i) v) ↔ FirstViolation j m 0 (j .start) p i v
+      named i v = let e : 0 + suc i ≡ suc i = omega arith in rw e at (c .stopped-iff i v)
+
+pub replay-calls : ReplayCalls
+unfolding replay-call on-job replay-in played level-count if_then_else_
+replay-calls b j n s entries levels parsed matches fit room =
+    let w = well-read b j n parsed in
+    let one = w .one-bucket in
+    let size : 2 * intervals j ≤ length levels = room-two in
+    rw (matched b j n parsed s matches, fit, le-ltb (length levels) (suc (length (j .line .buckets)) * intervals j) room)
+    (demand-two-of j (lines (length (j .units)) (s .bytes)) (plan-of j entries) one (w .one-fill) levels _ (plan-bytes b j n parsed .shaped-iff entries .0 fit .1) size (demand-two j (lines (length (j .units)) (s .bytes)) 0 (j .start) (plan-of j entries)))
+  where
+    room-two : 2 * intervals j ≤ length levels
+    room-two = let e = well-read b j n parsed .one-bucket in rw e at room

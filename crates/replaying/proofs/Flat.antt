@@ -1,0 +1,57 @@
+-- Levels as one list of numbers, of a job with one bucket.
+-- Assumes nothing.
+use Prim.Native.Nat.{ℕ, zero, suc, _+_, _*_, _<_, _≤_}
+use mathlib.Core.Path.{_≡_, refl, _∙_, ap}
+use mathlib.Core.List.{List, [], _∷_}
+use native.Mathlib.Omega.{arith}
+use lib.ListN.{length, getD, drop, length-append, length-drop, List·getD-append}
+use lib.Seq.{drop-at}
+use Rattle.model.specs.Job.{Levels}
+use Rattle.replaying.specs.Calls.{flat, over}
+
+abbrev no-levels : Levels
+no-levels = record { decoder = 0; buckets = [] }
+
+-- each has one bucket's level
+pub data Single : List Levels → Type 0 where
+  none-left : Single []
+  one-more : {b x : ℕ} {ls : List Levels} → Single ls → Single (record { decoder = b; buckets = x ∷ [] } ∷ ls)
+
+-- where each is known to have one
+pub single-each : (ls : List Levels) → ((i : ℕ) → i < length ls → (x : ℕ) × (getD ls i no-levels .buckets ≡ x ∷ [])) → Single ls
+single-each [] f = none-left
+single-each (l ∷ ls) f = let r = f 0 (omega arith) in rw (levels-is l (r .0) (r .1)) (one-more (single-each ls (λ i h. f (suc i) (omega arith))))
+  where
+    levels-is : (l : Levels) (x : ℕ) → l .buckets ≡ x ∷ [] → l ≡ record { decoder = l .decoder; buckets = x ∷ [] }
+    levels-is l x e = ap (λ (bs : List ℕ). record { decoder = l .decoder; buckets = bs }) e
+
+pub flat-size : {ls : List Levels} → Single ls → length (flat ls) ≡ 2 * length ls
+unfolding flat
+flat-size none-left = refl
+flat-size (one-more r) = let ih = flat-size r in omega arith
+
+pub flat-decoder : {ls : List Levels} → Single ls → (i : ℕ) → i < length ls → getD (flat ls) (2 * i) 0 ≡ getD ls i no-levels .decoder
+unfolding flat
+flat-decoder none-left i h = absurd (omega arith)
+flat-decoder (one-more r) zero h = refl
+flat-decoder (one-more r) (suc i) h = let e : 2 * suc i ≡ suc (suc (2 * i)) = omega arith in rw e (flat-decoder r i (omega arith))
+
+pub flat-bucket : {ls : List Levels} → Single ls → (i : ℕ) → i < length ls → getD (flat ls) (2 * i + 1) 0 ≡ getD (getD ls i no-levels .buckets) 0 0
+unfolding flat
+flat-bucket none-left i h = absurd (omega arith)
+flat-bucket (one-more r) zero h = refl
+flat-bucket (one-more r) (suc i) h = let e : 2 * suc i + 1 ≡ suc (suc (2 * i + 1)) = omega arith in rw e (flat-bucket r i (omega arith))
+
+-- a list with its first numbers replaced
+module _ (new old : List ℕ) (fits : length new ≤ length old) where
+  pub over-length : length (over new old) ≡ length old
+  unfolding over
+  over-length = length-append new (drop (length new) old) ∙ omega (arith, length-drop (length new) old)
+
+  pub over-here : (i : ℕ) → i < length new → getD (over new old) i 0 ≡ getD new i 0
+  unfolding over
+  over-here i h = List·getD-append new (drop (length new) old) 0 i h
+
+  pub over-rest : (n : ℕ) → length new ≡ n → drop n (over new old) ≡ drop n old
+  unfolding over
+  over-rest n e = rw (← e) (drop-at new (drop (length new) old) (length new) refl)

@@ -1,0 +1,6 @@
+-- What is proved of the definitions, for the proofs of crates that name this one.
+pub mod Entries
+pub mod Flat
+pub mod DemandTwo
+pub mod Reports
+pub mod Cases

@@ -1,0 +1,77 @@
+-- What is claimed of plans as bytes, of replay and of the report: each claim is a type, which a theorem of proofs/ inhabits.
+-- Assumes nothing.
+use Prim.Native.Nat.{ℕ, suc, _+_, _*_, _<_, _≤_}
+use mathlib.Core.Path.{_≡_}
+use mathlib.Core.Logic.{_↔_}
+use mathlib.Core.Bool.{true}
+use mathlib.Core.List.{List}
+use lib.ListN.{length, getD, drop}
+use lib.IntN.{pos}
+use Rattle.model.specs.Answer.{gives}
+use Rattle.model.specs.Job.{Job, Entry, intervals, PlanFits}
+use Rattle.model.specs.Levels.{decoderLevel, bucketLevel, effectiveBuffer}
+use Rattle.model.specs.Pins.{PinMap}
+use Rattle.model.specs.Admissible.{Violation, Admissible, FirstViolation}
+use Rattle.model.specs.Replay.{totals}
+use Rattle.format.specs.Parser.{refused, took}
+use Rattle.format.specs.JobBytes.{header-in, parse}
+use Rattle.pinning.specs.State.{State, lines}
+use Rattle.pinning.specs.Check.{Matches}
+use Rattle.replaying.specs.Entries.{entry-size, plan-of, shaped, entry-bytes}
+use Rattle.replaying.specs.Calls.{Replayed, totals-are, violated, level-count, Ended, refuse, replay-call, report-call}
+
+-- the shape check passes exactly the bytes of the plans in shape: T entries in range, two bytes each
+pub record Shapes (j : Job) : Type 0 where
+  pub shaped-iff : (b : List ℕ) → (shaped (header-in j) b ≡ true) ↔ ((length b ≡ entry-size * intervals j) × PlanFits j 0 (plan-of j b))
+  -- every plan in shape has its bytes
+  pub written : (p : List Entry) → PlanFits j 0 p → (shaped (header-in j) (entry-bytes p) ≡ true) × (plan-of j (entry-bytes p) ≡ p)
+
+-- demand 2, of a job with one bucket, a matching set, a plan in shape and a list that is long enough: m are the set's pins, p is the plan and r what the call answers and leaves
+module _ (j : Job) (m : PinMap) (p : List Entry) (levels : List ℕ) where
+  -- the levels of the first n intervals stand in the list, those of (16) and of Example 1 (17), and the rest of it is as before
+  pub record Written (n : ℕ) (list : List ℕ) : Type 0 where
+    pub decoder : (i : ℕ) → i < n → pos (getD list (2 * i) 0) ≡ decoderLevel j 0 p (j .start .decoder) (suc i)
+    pub bucket : (i : ℕ) → i < n → getD list (2 * i + 1) 0 ≡ bucketLevel j 0 p (getD (j .line .buckets) 0 (record { size = 0; drain = 0 })) (getD (j .start .buckets) 0 0) (suc i)
+    pub rest : drop (2 * n) list ≡ drop (2 * n) levels
+    pub size : length list ≡ length levels
+
+  pub record DemandTwo (r : Ended Replayed) : Type 0 where
+    -- no violation is found exactly where the plan is admissible; then every level is written and the answer has the totals
+    pub clean-iff : (r .answer ≡ gives (totals-are (totals j 0 p))) ↔ Admissible j m 0 (j .start) p
+    pub clean-written : r .answer ≡ gives (totals-are (totals j 0 p)) → Written (intervals j) (r .list)
+    -- a violation is named exactly where it is the first; then the levels of the intervals before it are written
+    pub violated-iff : (n : ℕ) (v : Violation) → (r .answer ≡ gives (violated (suc n) v)) ↔ FirstViolation j m 0 (j .start) p n v
+    pub violated-written : (n : ℕ) (v : Violation) → r .answer ≡ gives (violated (suc n) v) → Written n (r .list)
+
+-- in which order replay looks at what it is given
+pub record ReplayOrder (b : List ℕ) (s : State) (entries levels : List ℕ) : Type 0 where
+  pub job-first : (n : ℕ) → parse b ≡ refused n → replay-call b s entries levels ≡ refuse n levels
+  pub then-set : (j : Job) (n : ℕ) → parse b ≡ took j n → (Matches j s → ⊥) → replay-call b s entries levels ≡ refuse 6 levels
+  pub then-plan : (j : Job) (n : ℕ) → parse b ≡ took j n → Matches j s → (shaped (header-in j) entries ≡ true → ⊥) → replay-call b s entries levels ≡ refuse 14 levels
+  pub then-list : (j : Job) (n : ℕ) → parse b ≡ took j n → Matches j s → shaped (header-in j) entries ≡ true → length levels < level-count j → replay-call b s entries levels ≡ refuse 12 levels
+
+pub record ReportOrder (b entries sums : List ℕ) : Type 0 where
+  pub job-first : (n : ℕ) → parse b ≡ refused n → report-call b entries sums ≡ refuse n sums
+  pub then-plan : (j : Job) (n : ℕ) → parse b ≡ took j n → (shaped (header-in j) entries ≡ true → ⊥) → report-call b entries sums ≡ refuse 14 sums
+  pub then-list : (j : Job) (n : ℕ) → parse b ≡ took j n → shaped (header-in j) entries ≡ true → length sums < suc (length (j .units)) → report-call b entries sums ≡ refuse 12 sums
+
+-- (6) for i from 0 to N, and the rest of the list as before
+pub record Reported (j : Job) (p : List Entry) (sums : List ℕ) (r : Ended (Unit {0})) : Type 0 where
+  pub given : r .answer ≡ gives tt
+  pub sum : (i : ℕ) → i ≤ length (j .units) → getD (r .list) i 0 ≡ effectiveBuffer j p i
+  pub rest : drop (suc (length (j .units))) (r .list) ≡ drop (suc (length (j .units))) sums
+  pub size : length (r .list) ≡ length sums
+
+-- The claims, of jobs that open.
+
+abbrev pub PlanBytes : Type 0
+PlanBytes = (b : List ℕ) (j : Job) (n : ℕ) → parse b ≡ took j n → Shapes j
+
+abbrev pub ReplayCalls : Type 0
+ReplayCalls = (b : List ℕ) (j : Job) (n : ℕ) (s : State) (entries levels : List ℕ) → parse b ≡ took j n → Matches j s → shaped (header-in j) entries ≡ true → level-count j ≤ length levels → DemandTwo j (lines (length (j .units)) (s .bytes)) (plan-of j entries) levels (replay-call b s entries levels)
+
+abbrev pub Reports : Type 0
+Reports = (b : List ℕ) (j : Job) (n : ℕ) (entries sums : List ℕ) → parse b ≡ took j n → shaped (header-in j) entries ≡ true → length (j .units) < length sums → Reported j (plan-of j entries) sums (report-call b entries sums)
+
+abbrev pub Refusals : Type 0
+Refusals = (b : List ℕ) (s : State) (entries list : List ℕ) → ReplayOrder b s entries list × ReportOrder b entries list

@@ -1,0 +1,5 @@
+-- Plans as bytes, and what replaying one and reporting its effective buffer sizes answer and write. What is claimed of them is stated in `Claims` and proved in proofs/.
+pub mod Entries
+pub mod Calls
+pub mod Claims
+pub mod Cases
