@@ -10,4 +10,5 @@ pub mod Exact
 pub mod RoundTrip
 pub mod Bounds
 pub mod Places
+pub mod Opened
 pub mod Examples

@@ -4,7 +4,7 @@ use Prim.Native.Nat.{ℕ, suc, _+_, _-_, _≤_, _<_}
 use mathlib.Core.Path.{_≡_}
 use mathlib.Core.List.{List, [], _++_}
 use lib.ListN.{length, getD, take}
-use Rattle.model.specs.Job.{Job, codingAt}
+use Rattle.model.specs.Job.{bucketAt, Job, codingAt}
 use Rattle.format.specs.Fields.{Bytes}
 use Rattle.format.specs.Parser.{took}
 use Rattle.format.specs.JobBytes.{header-in, parse, encode, WellFormed}
@@ -40,7 +40,8 @@ pub record InLimits (j : Job) : Type 0 where
   pub units : (1 ≤ length (j .units)) × (length (j .units) ≤ 512)
   pub delay : j .delay ≤ 64
   pub decoder : j .line .decoder ≤ 255
-  pub start : j .start .decoder ≤ j .line .decoder
+  pub bucket : bucketAt (j .line .buckets) 0 .size ≤ 255
+  pub start : (j .start .decoder ≤ j .line .decoder) × (getD (j .start .buckets) 0 0 ≤ bucketAt (j .line .buckets) 0 .size)
   pub rates : (1 ≤ length (j .line .rates)) × (length (j .line .rates) ≤ 16)
   pub choices : (1 ≤ j .choices) × (j .choices ≤ 31)
   pub rate : (y : ℕ) → y < length (j .line .rates) → getD (j .line .rates) y 0 ≤ 4095

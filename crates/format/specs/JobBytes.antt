@@ -163,6 +163,12 @@ job-or-none (took j k) = j
 unfoldable pub job-in : List ℕ → Job
 job-in b = job-or-none (parse b)
 
+-- the bytes hold a job, and it has this header
+pub record Opens (b : List ℕ) (h : Header) : Type 0 where
+  pub taken : ℕ
+  pub parsed : parse b ≡ took (job-in b) taken
+  pub header-is : header-in (job-in b) ≡ h
+
 -- the records of a job, in their only order
 unfoldable pub unit-bytes : ℕ → List Coding → List ℕ
 unit-bytes m u = record-bytes (unit-form m) (unit-values u)

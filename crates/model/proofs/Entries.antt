@@ -18,7 +18,7 @@ use Rattle.model.specs.If.{if_then_else_}
 use Rattle.model.specs.Job.{Job, Entry, ChoiceFits, waits, decodes, EntryFits}
 use Rattle.model.specs.Best.{Order, late, ChoiceBefore, smaller, Before, pairs, entry, width, entries}
 
-pairs-member : (o : Order) (m k : ℕ) (a : Pair) → List·Memᴰ a (pairs o m k) → (a .outer < m) × (a .inner < k)
+pub pairs-member : (o : Order) (m k : ℕ) (a : Pair) → List·Memᴰ a (pairs o m k) → (a .outer < m) × (a .inner < k)
 unfolding pairs
 pairs-member late = rising-member
 

@@ -2,6 +2,7 @@
 -- Assumes nothing.
 use Prim.Native.Nat.{ℕ, suc, _≤_}
 use mathlib.Core.Path.{_≡_, refl, ap}
+use mathlib.Core.Option.{Option, some}
 use mathlib.Core.List.{List, [], _∷_, zipWith}
 use native.Mathlib.Omega.{arith}
 use lib.ListN.{length}
@@ -10,8 +11,8 @@ use Rattle.trellis.specs.Table.{Closed}
 use Rattle.model.specs.Job.{Bucket, Line, Levels, Job, sends, takes, intervals}
 use Rattle.model.specs.Pins.{PinMap, pinAt}
 use Rattle.model.specs.Admissible.{InRange, in-range, Ending, Sound, Shows}
-use Rattle.model.specs.Step.{reaches, poured, outcome}
-use Rattle.model.specs.Best.{Order, trellis-of}
+use Rattle.model.specs.Step.{reaches, poured, outcome-of, outcome}
+use Rattle.model.specs.Best.{Order, reached, trellis-of}
 use Rattle.model.specs.Table.{InLayer}
 use Rattle.model.proofs.Outcome.{Judged, good, outcome-judged}
 use Rattle.model.proofs.Walks.{reached-some}
@@ -28,13 +29,21 @@ poured-count c [] ls h = refl
 poured-count c (k ∷ ks) [] h = absurd (omega arith)
 poured-count c (k ∷ ks) (l ∷ ls) h = ap suc (poured-count c ks ls (omega arith))
 
+-- of any line, pin and choice
+module _ (line : Line) (pinned choice : Option ℕ) (c r : ℕ) (s u : Levels) where
+  pub reaches-in-layer : length (s .buckets) ≡ length (line .buckets) → outcome-of line pinned choice (s .decoder) (s .buckets) c r ≡ reaches u → InLayer line u
+  reaches-in-layer n e =
+      let f = outcome-judged line pinned choice (s .decoder) (s .buckets) c r in
+      let g = judged-good (rw e at f) in
+      record {
+        decoder = shown-within (g .0 .decoder) (g .1 .decoder);
+        count = rw (g .1 .buckets) (poured-count c (line .buckets) (s .buckets) n);
+        buckets = rw (g .1 .buckets) (g .0 .buckets);
+      }
+
+  pub outcome-closed : InLayer line s → reached (outcome-of line pinned choice (s .decoder) (s .buckets) c r) ≡ some u → InLayer line u
+  outcome-closed a k = reaches-in-layer (a .count) (reached-some (outcome-of line pinned choice (s .decoder) (s .buckets) c r) u k)
+
 pub layer-closed : (j : Job) (m : PinMap) (o : Order) → Closed (trellis-of j m o) (intervals j) (λ t s. InLayer (j .line) s)
 unfolding trellis-of outcome
-layer-closed j m o t s u e h a l k =
-    let f = outcome-judged (j .line) (pinAt j m (suc t)) (e .choice) (s .decoder) (s .buckets) (sends j e) (takes j (suc t) e) in
-    let r = judged-good (rw (reached-some (outcome j m (suc t) s e) u k) at f) in
-    record {
-      decoder = shown-within (r .0 .decoder) (r .1 .decoder);
-      count = rw (r .1 .buckets) (poured-count (sends j e) (j .line .buckets) (s .buckets) (a .count));
-      buckets = rw (r .1 .buckets) (r .0 .buckets);
-    }
+layer-closed j m o t s u e h a l k = outcome-closed (j .line) (pinAt j m (suc t)) (e .choice) (sends j e) (takes j (suc t) e) s u a k

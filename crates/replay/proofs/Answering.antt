@@ -13,8 +13,9 @@ use Rattle.model.specs.Job.{Job, intervals}
 use Rattle.model.specs.Levels.{effectiveBuffers}
 use Rattle.format.specs.Parser.{took}
 use Rattle.format.specs.Parser as P
-use Rattle.format.specs.JobBytes.{Header, header-in, parse, job-or-none, job-in}
+use Rattle.format.specs.JobBytes.{Header, header-in, parse, job-in}
 use Rattle.format.proofs.Places.{well-read}
+use Rattle.format.proofs.Opened.{held-job, opens-by}
 use Rattle.pinning.specs.State.{State, lines}
 use Rattle.pinning.specs.Check.{checked, Ready}
 use Rattle.pinning.proofs.Agree.{matched}
@@ -24,17 +25,8 @@ use Rattle.replay.specs.Answers.{Shaped}
 
 -- the bytes of a job with this header
 module _ (b : List ℕ) (h : Header) (j : Job) (k : ℕ) (parsed : parse b ≡ took j k) (header-is : header-in j ≡ h) where
-  held-job : job-in b ≡ j
-  unfolding job-in job-or-none
-  held-job = rw parsed
-
   pub shaped-plan : (entries : List ℕ) → shaped h entries ≡ true → Shaped b h entries
-  shaped-plan entries e = record {
-    taken = k;
-    parsed = parsed ∙ ap (λ (i : Job). took i k) (sym held-job);
-    header-is = ap header-in held-job ∙ header-is;
-    in-shape = e;
-  }
+  shaped-plan entries e = record { opens = opens-by b h j k parsed header-is; in-shape = e }
 
   units-are : length (j .units) ≡ h .units
   unfolding header-in
@@ -60,7 +52,7 @@ module _ (b : List ℕ) (h : Header) (j : Job) (k : ℕ) (parsed : parse b ≡ t
 
       pub report-done : (sums : List ℕ) → h .units < length list → sums ≡ over (effectiveBuffers (job-in b) (plan-of (job-in b) entries)) list → record { answer = gives tt; list = sums } ≡ report-call b entries list
       unfolding report-call on-job report-in if_then_else_
-      report-done sums l q = rw (parsed, header-is, e, le-ltb (length list) (suc (length (j .units))) (omega (arith, units-are)), q, held-job)
+      report-done sums l q = rw (parsed, header-is, e, le-ltb (length list) (suc (length (j .units))) (omega (arith, units-are)), q, held-job b j k parsed)
 
 pub report-refused : (b entries list : List ℕ) (n : ℕ) → parse b ≡ P.refused n → record { answer = refused n; list = list } ≡ report-call b entries list
 unfolding report-call on-job refuse
@@ -90,5 +82,5 @@ module _ (b : List ℕ) (h : Header) (s : State) (r : Ready b h s) (entries leve
     replay-played l =
         sym (
         replay-on
-        ∙ rw (r .header-is, e, le-ltb (length levels) (level-count (r .job)) (omega (arith, levels-are b h (r .job) (r .taken) (r .parsed) (r .header-is))), units-are b h (r .job) (r .taken) (r .parsed) (r .header-is), held-job b h (r .job) (r .taken) (r .parsed) (r .header-is))
+        ∙ rw (r .header-is, e, le-ltb (length levels) (level-count (r .job)) (omega (arith, levels-are b h (r .job) (r .taken) (r .parsed) (r .header-is))), units-are b h (r .job) (r .taken) (r .parsed) (r .header-is), held-job b (r .job) (r .taken) (r .parsed))
         )

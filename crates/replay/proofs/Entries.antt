@@ -10,17 +10,15 @@ use lib.ListN.{length}
 use borrow.Author.Tests.{eqb-true, ltb-true, lt-ltb, le-ltb, le-leb, lt-leb}
 use Rattle.model.specs.If.{if_then_else_}
 use Rattle.model.specs.Job as model
-use Rattle.model.specs.Job.{codingAt, coding, sends, takes, distorts, intervals}
+use Rattle.model.specs.Job.{codingAt, coding, sends, takes, distorts}
 use Rattle.model.specs.Pins.{pinOf, pinAt}
 use Rattle.model.proofs.Tests.{both-true}
 use Rattle.model.proofs.All.{all-each}
 use Rattle.format.specs.Choices.{no-choice, choice-of}
-use Rattle.format.specs.JobBytes.{Header, header-in, job-in}
+use Rattle.format.specs.JobBytes.{Header, job-in}
 use Rattle.format.specs.Places.{rate-at, coding-at}
-use Rattle.format.specs.Claims.{InLimits, LookedUp}
 use Rattle.format.proofs.Choices.{of-mark, of-choice}
-use Rattle.format.proofs.Bounds.{limited}
-use Rattle.format.proofs.Places.{well-read, looks-up}
+use Rattle.format.proofs.Opened.{job-limits, looked-up, units-are, delay-is, rates-are, choices-are}
 use Rattle.job.specs.declared.Coding.{Coding}
 use Rattle.job.specs.Answers.{coding-of}
 use Rattle.pinning.specs.State.{lines}
@@ -29,36 +27,6 @@ use Rattle.replaying.specs.Entries.{entry-size, rate-byte, mark-byte, entry-at,
 use Rattle.replay.specs.Answers.{Shaped, CodingIn, no-coding, coded, PinIn, no-pin, pinned, IsInterval}
 
 module _ (b : List ℕ) (h : Header) (entries : List ℕ) (s : Shaped b h entries) where
-  pub job-limits : InLimits (job-in b)
-  job-limits = limited (job-in b) (well-read b (job-in b) (s .taken) (s .parsed))
-
-  looked-up : LookedUp b (job-in b)
-  looked-up = looks-up b (job-in b) (s .taken) (s .parsed)
-
-  -- the header's counts are the job's
-  pub units-are : length (job-in b .units) ≡ h .units
-  unfolding header-in
-  units-are = ap (λ (k : Header). k .units) (s .header-is)
-
-  pub delay-is : job-in b .delay ≡ h .delay
-  unfolding header-in
-  delay-is = ap (λ (k : Header). k .delay) (s .header-is)
-
-  rates-are : length (job-in b .line .rates) ≡ h .rates
-  unfolding header-in
-  rates-are = ap (λ (k : Header). k .rates) (s .header-is)
-
-  choices-are : job-in b .choices ≡ h .choices
-  unfolding header-in
-  choices-are = ap (λ (k : Header). k .choices) (s .header-is)
-
-  pub intervals-are : intervals (job-in b) ≡ h .units + h .delay
-  unfolding intervals
-  intervals-are = omega (arith, units-are, delay-is)
-
-  pub few-intervals : h .units + h .delay ≤ 576
-  few-intervals = omega (arith, units-are, delay-is, job-limits .units, job-limits .delay)
-
   pub entries-size : length entries ≡ entry-size * (h .units + h .delay)
   unfolding shaped
   entries-size = eqb-true _ _ (both-true _ _ (s .in-shape) .0)
@@ -87,10 +55,10 @@ module _ (b : List ℕ) (h : Header) (entries : List ℕ) (s : Shaped b h entrie
 
     pub sent-is : rate-at b (rate-byte entries i) ≡ sends (job-in b) (entry-at entries i)
     unfolding sends entry-at
-    sent-is = looked-up .rate (rate-byte entries i) (omega (arith, rates-are, rate-below))
+    sent-is = (looked-up b h (s .opens)) .rate (rate-byte entries i) (omega (arith, (rates-are b h (s .opens)), rate-below))
 
     pub sent-most : rate-at b (rate-byte entries i) ≤ 4095
-    sent-most = rw (looked-up .rate (rate-byte entries i) (omega (arith, rates-are, rate-below))) (job-limits .rate (rate-byte entries i) (omega (arith, rates-are, rate-below)))
+    sent-most = rw ((looked-up b h (s .opens)) .rate (rate-byte entries i) (omega (arith, (rates-are b h (s .opens)), rate-below))) ((job-limits b h (s .opens)) .rate (rate-byte entries i) (omega (arith, (rates-are b h (s .opens)), rate-below)))
 
     -- the coding that was read is the one that the interval decodes, and within its limits
     record Codes (x : Coding) : Type 0 where
@@ -109,15 +77,15 @@ module _ (b : List ℕ) (h : Header) (entries : List ℕ) (s : Shaped b h entrie
         let m = mark-byte entries i in
         let below = choice-below k in
         let u = i - h .delay + 1 in
-        let place : suc i - (job-in b .delay + 1) ≡ u - 1 = omega (arith, delay-is) in
-        let unit : (1 ≤ u) × (u ≤ length (job-in b .units)) = (omega arith, omega (arith, units-are)) in
-        let q : coding-of x ≡ codingAt (job-in b) (u - 1) m = e ∙ ap (λ (n : Header). coding-at b n u m) (sym (s .header-is)) ∙ looked-up .coding u m (unit .0) (unit .1) (omega (arith, choices-are)) in
-        let z = job-limits .sizes (u - 1) m (omega (arith, unit)) (omega (arith, choices-are)) in
-        let w = job-limits .distortions (u - 1) m (omega (arith, unit)) (omega (arith, choices-are)) in
+        let place : suc i - (job-in b .delay + 1) ≡ u - 1 = omega (arith, (delay-is b h (s .opens))) in
+        let unit : (1 ≤ u) × (u ≤ length (job-in b .units)) = (omega arith, omega (arith, (units-are b h (s .opens)))) in
+        let q : coding-of x ≡ codingAt (job-in b) (u - 1) m = e ∙ ap (λ (n : Header). coding-at b n u m) (sym (s .opens .header-is)) ∙ (looked-up b h (s .opens)) .coding u m (unit .0) (unit .1) (omega (arith, (choices-are b h (s .opens)))) in
+        let z = (job-limits b h (s .opens)) .sizes (u - 1) m (omega (arith, unit)) (omega (arith, (choices-are b h (s .opens)))) in
+        let w = (job-limits b h (s .opens)) .distortions (u - 1) m (omega (arith, unit)) (omega (arith, (choices-are b h (s .opens)))) in
         let a : x .size ≡ codingAt (job-in b) (u - 1) m .size = cc in
         let d : x .distortion ≡ codingAt (job-in b) (u - 1) m .distortion = cc in
         record {
-          is = rw (of-choice m (λ y. omega (arith, choices-are, job-limits .choices)), place) q;
+          is = rw (of-choice m (λ y. omega (arith, (choices-are b h (s .opens)), (job-limits b h (s .opens)) .choices)), place) q;
           size-most = omega arith;
           distortion-most = omega arith;
         }
@@ -125,10 +93,10 @@ module _ (b : List ℕ) (h : Header) (entries : List ℕ) (s : Shaped b h entrie
     -- the pin that was read is the one that bears on the interval
     pin-is : (pins : List ℕ) (x : ℕ) → length pins ≡ 512 → PinIn h pins i x → choice-of x ≡ pinAt (job-in b) (lines (h .units) pins) (suc i)
     unfolding pinAt pinOf if_then_else_
-    pin-is pins x n (no-pin k e) = rw (le-leb (suc i) (job-in b .delay) (omega (arith, delay-is)), e, of-mark)
+    pin-is pins x n (no-pin k e) = rw (le-leb (suc i) (job-in b .delay) (omega (arith, (delay-is b h (s .opens)))), e, of-mark)
     pin-is pins x n (pinned k e) =
-        let place : suc i - job-in b .delay - 1 ≡ i - h .delay = omega (arith, delay-is) in
-        rw (lt-leb (suc i) (job-in b .delay) (omega (arith, delay-is)), place, lines-at (h .units) pins (i - h .delay) (omega (arith, n, units-are, job-limits .units)) (omega arith), e)
+        let place : suc i - job-in b .delay - 1 ≡ i - h .delay = omega (arith, (delay-is b h (s .opens))) in
+        rw (lt-leb (suc i) (job-in b .delay) (omega (arith, (delay-is b h (s .opens)))), place, lines-at (h .units) pins (i - h .delay) (omega (arith, n, (units-are b h (s .opens)), (job-limits b h (s .opens)) .units)) (omega arith), e)
 
     pub interval-is : (pins : List ℕ) (coding : Coding) (pin : ℕ) → length pins ≡ 512 → CodingIn b h i (mark-byte entries i) coding → PinIn h pins i pin → IsInterval (job-in b) (lines (h .units) pins) entries i (record { sent = rate-at b (rate-byte entries i); size = coding .size; distortion = coding .distortion; pin = pin; choice = mark-byte entries i })
     unfolding takes distorts entry-at coding-of

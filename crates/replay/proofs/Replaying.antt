@@ -1,7 +1,7 @@
 -- Replay, interval after interval: what is done and what is left.
 -- Assumes nothing.
 use Prim.Native.Nat.{ℕ, suc, _+_, _-_, _*_, _<_, _≤_}
-use mathlib.Core.Path.{_≡_, refl, sym, _∙_, ap, ap₂}
+use mathlib.Core.Path.{_≡_, refl, sym, _∙_, ap}
 use mathlib.Core.List.{List, [], _∷_, _++_, append-assoc, append-nil}
 use native.Mathlib.Numerals.{add-one}
 use native.Mathlib.Omega.{arith}
@@ -16,37 +16,21 @@ use Rattle.model.specs.Step.{violates, reaches, outcome-of, outcome}
 use Rattle.model.specs.Replay.{Replay, stopped, written, go-on, replay, with-entry, totals, none-yet}
 use Rattle.model.specs.Replay as r
 use Rattle.format.specs.Choices.{choice-of}
-use Rattle.format.specs.JobBytes.{Header, header-in, job-in}
-use Rattle.format.proofs.RoundTrip.{one-only}
-use Rattle.format.proofs.Places.{well-read}
+use Rattle.format.specs.JobBytes.{Header, job-in, Opens}
+use Rattle.format.proofs.Opened.{decoder-is, buckets-are}
 use Rattle.replaying.specs.Entries.{entry-at, plan-from, plan-of}
 use Rattle.replaying.specs.Calls.{totals-are, violated, replayed, flat, over, played}
 use Rattle.replaying.proofs.Flat.{Single, none-left, one-more, flat-size}
 use Rattle.replay.specs.declared.Interval.{Interval}
 use Rattle.replay.specs.declared.Levels.{Levels}
 use Rattle.replay.specs.declared.Totals.{Totals}
-use Rattle.replay.specs.Answers.{levels-of, totals-of, line-of, added, Shaped, IsInterval}
+use Rattle.replay.specs.Answers.{levels-of, totals-of, line-of, added, IsInterval}
 
--- the line and the starting levels of a job are those of its header
-module _ (b : List ℕ) (h : Header) (entries : List ℕ) (s : Shaped b h entries) where
-  buckets-are : job-in b .line .buckets ≡ record { size = h .bucket; drain = h .drain } ∷ []
-  unfolding header-in line-of
-  buckets-are =
-      let w = well-read b (job-in b) (s .taken) (s .parsed) in
-      one-only (job-in b .line .buckets) (record { size = 0; drain = 0 }) (w .one-bucket)
-      ∙ ap (λ (k : Header). line-of k .buckets) (s .header-is)
-
-  pub start-is : job-in b .start ≡ record { decoder = h .level; buckets = h .fill ∷ [] }
-  unfolding header-in
-  start-is =
-      let w = well-read b (job-in b) (s .taken) (s .parsed) in
-      ap₂ (λ (d : ℕ) (ks : List ℕ). record { decoder = d; buckets = ks }) (ap (λ (k : Header). k .level) (s .header-is))
-      (one-only (job-in b .start .buckets) 0 (w .one-fill) ∙ ap (λ (k : Header). k .fill ∷ []) (s .header-is))
-
+module _ (b : List ℕ) (h : Header) (entries : List ℕ) (o : Opens b h) where
   -- a step over the header's line is the interval's outcome
   pub outcome-is-job : (m : PinMap) (i : ℕ) (x : Interval) (at : Levels) → IsInterval (job-in b) m entries i x → outcome-of (line-of h) (choice-of (x .pin)) (choice-of (x .choice)) (at .decoder) (at .bucket ∷ []) (x .sent) (x .size) ≡ outcome (job-in b) m (suc i) (levels-of at) (entry-at entries i)
-  unfolding outcome outcome-of line-of levels-of header-in
-  outcome-is-job m i x at d = rw (d .pin, d .choice, d .sent, d .size, buckets-are, ← ap (λ (k : Header). k .decoder) (s .header-is))
+  unfolding outcome outcome-of line-of levels-of
+  outcome-is-job m i x at d = rw (d .pin, d .choice, d .sent, d .size, buckets-are b h o, decoder-is b h o)
 
 -- a replay behind levels that are written
 unfoldable pub before : List model.Levels → Replay → Replay

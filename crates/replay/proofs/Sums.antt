@@ -1,21 +1,21 @@
 -- The sums of the effective buffer report, one rate and one sum after another.
 -- Assumes nothing.
 use Prim.Native.Nat.{ℕ, zero, suc, _+_, _<_}
-use mathlib.Core.Path.{_≡_, sym, _∙_, ap}
-use mathlib.Core.List.{List, [], _∷_, _++_, append-assoc}
+use mathlib.Core.Path.{_≡_}
+use mathlib.Core.List.{List, _++_}
 use native.Mathlib.Numerals.{add-one}
 use native.Mathlib.Omega.{arith}
-use lib.ListN.{length, getD, drop, set}
-use lib.Seq.{drop-cons, set-at}
+use lib.ListN.{length, getD, drop}
 use Rattle.model.specs.Job.{Job, Entry, intervals}
 use Rattle.model.specs.Levels.{no-entry, entryOf, sent, sentAfter, effectiveBuffer, build, effectiveBuffers}
+use Rattle.model.proofs.Builds.{build-length}
 use Rattle.format.specs.JobBytes.{Header, job-in}
 use Rattle.format.specs.Places.{rate-at}
+use Rattle.format.proofs.Opened.{intervals-are}
 use Rattle.replaying.specs.Entries.{rate-byte, entry-at, plan-from, plan-of}
 use Rattle.replaying.specs.Calls.{over}
-use Rattle.replaying.proofs.Reports.{build-length}
 use Rattle.replay.specs.Answers.{Shaped}
-use Rattle.replay.proofs.Entries.{intervals-are, sent-is}
+use Rattle.replay.proofs.Entries.{sent-is}
 
 plan-at : (entries : List ℕ) (i n k : ℕ) → k < n → getD (plan-from entries i n) k no-entry ≡ entry-at entries (i + k)
 unfolding plan-from
@@ -30,15 +30,7 @@ module _ (b : List ℕ) (h : Header) (entries : List ℕ) (s : Shaped b h entrie
   sum-more i n l sum e =
       let k : i + suc n ≡ suc (i + n) = omega arith in
       let z : 0 + (i + n) ≡ i + n = omega arith in
-      rw (add-one n, k, plan-at entries 0 (intervals (job-in b)) (i + n) (omega (arith, intervals-are b h entries s)), z, ← sent-is b h entries s (i + n) l, e)
-
--- one number more of a list that is built
-pub build-more : (f : ℕ → ℕ) (l : List ℕ) (i x : ℕ) → i < length l → x ≡ f i → set (build i f ++ drop i l) i x ≡ build (i + 1) f ++ drop (i + 1) l
-unfolding build
-build-more f l i x h e =
-    ap (λ (t : List ℕ). set (build i f ++ t) i x) (drop-cons l i 0 h)
-    ∙ set-at (build i f) (getD l i 0) (drop (suc i) l) x i (build-length i f)
-    ∙ rw (add-one i, e) (sym (append-assoc (build i f) (f i ∷ []) (drop (suc i) l)))
+      rw (add-one n, k, plan-at entries 0 (intervals (job-in b)) (i + n) (omega (arith, intervals-are b h (s .opens))), z, ← sent-is b h entries s (i + n) l, e)
 
 -- all sums
 pub sums-end : (j : Job) (p : List Entry) (l : List ℕ) (i : ℕ) → i ≡ suc (length (j .units)) → build i (effectiveBuffer j p) ++ drop i l ≡ over (effectiveBuffers j p) l

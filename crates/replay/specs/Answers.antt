@@ -12,9 +12,8 @@ use Rattle.model.specs.Admissible as model-violation
 use Rattle.model.specs.Step as model-step
 use Rattle.model.specs.Replay as model-replay
 use Rattle.format.specs.Choices.{no-choice, choice-of}
-use Rattle.format.specs.Parser.{took}
 use Rattle.format.specs.Places.{coding-at}
-use Rattle.format.specs.JobBytes.{header-in, parse, job-in}
+use Rattle.format.specs.JobBytes.{Opens}
 use Rattle.format.specs.JobBytes as format
 use Rattle.job.specs.declared.Coding.{Coding}
 use Rattle.job.specs.Answers.{coding-of}
@@ -80,9 +79,7 @@ line-of h = record { decoder = h .decoder; buckets = record { size = h .bucket; 
 
 -- the bytes are those of a job with this header, and the entries a plan of it in shape
 pub record Shaped (b : List ℕ) (h : format.Header) (entries : List ℕ) : Type 0 where
-  pub taken : ℕ
-  pub parsed : parse b ≡ took (job-in b) taken
-  pub header-is : header-in (job-in b) ≡ h
+  pub opens : Opens b h
   pub in-shape : shaped h entries ≡ true
 
 -- the coding of the interval in a place, as it stands in the bytes

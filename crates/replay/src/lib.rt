@@ -108,7 +108,7 @@ pub fn bucket_step(drain: u16, level: u16, sent: u16) -> u32
 }
 
 // Whether there is no pin, or the choice is the pinned one.
-fn pin_holds(pin: u8, choice: u8) -> bool
+pub fn pin_holds(pin: u8, choice: u8) -> bool
     ensures { λ r. ⌜ r ≡ pin-held (choice-of pin) (choice-of choice) ⌝ }
 {
     if pin == NO_UNIT {

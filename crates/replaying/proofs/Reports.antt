@@ -1,36 +1,20 @@
 -- The report writes the effective buffer sizes of (6): `Reports`; and in which order replay and report refuse: `Refusals`.
 -- Assumes nothing.
-use Prim.Native.Nat.{ℕ, zero, suc, _<_, _≤_}
+use Prim.Native.Nat.{suc, _≤_}
 use mathlib.Core.Path.{_≡_, refl, _∙_}
 use mathlib.Core.Bool.{Bool, true, false}
-use mathlib.Core.List.{[], _∷_, _++_}
-use native.Mathlib.Decide.{decLt}
 use native.Mathlib.Omega.{arith}
-use lib.ListN.{length, getD, length-append, List·getD-append}
-use lib.Seq.{getD-at}
+use lib.ListN.{length}
 use borrow.Author.Tests.{lt-ltb, le-ltb}
 use Rattle.model.specs.If.{if_then_else_}
 use Rattle.model.specs.Levels.{effectiveBuffer, build, effectiveBuffers}
+use Rattle.model.proofs.Builds.{build-length, build-at}
 use Rattle.format.specs.JobBytes.{header-in}
 use Rattle.pinning.proofs.Agree.{matched, unmatched, checked-refused}
 use Rattle.replaying.specs.Entries.{plan-of, shaped}
 use Rattle.replaying.specs.Calls.{replay-in, on-job, replay-call, report-in, report-call}
 use Rattle.replaying.specs.Claims.{Reports, Refusals}
 use Rattle.replaying.proofs.Flat.{over-length, over-here, over-rest}
-
-pub build-length : (n : ℕ) (f : ℕ → ℕ) → length (build n f) ≡ n
-unfolding build
-build-length zero f = refl
-build-length (suc n) f = length-append (build n f) (f n ∷ []) ∙ omega (arith, build-length n f)
-
-pub build-at : (n : ℕ) (f : ℕ → ℕ) (i : ℕ) → i < n → getD (build n f) i 0 ≡ f i
-unfolding build
-build-at zero f i h = absurd (omega arith)
-build-at (suc n) f i h = go (λ k. build-at n f i k) (decLt i n)
-  where
-    go : (i < n → getD (build n f) i 0 ≡ f i) → Dec (i < n) → getD (build n f ++ (f n ∷ [])) i 0 ≡ f i
-    go ih (yes k) = List·getD-append (build n f) (f n ∷ []) 0 i (omega (arith, build-length n f)) ∙ ih k
-    go ih (no k) = let e : i ≡ n = omega arith in rw e (getD-at (build n f) (f n) [] 0 n (build-length n f))
 
 pub reports : Reports
 unfolding report-call on-job report-in effectiveBuffers if_then_else_

@@ -2,7 +2,8 @@ use native.Mathlib.Omega.{arith}
 use Prim.Native.Nat.{_*_}
 use Rattle.job.specs.Answers.{plain}
 use Rattle.replaying.specs.Entries.{rate-byte, mark-byte}
-use Rattle.replay.proofs.Entries.{job-limits, units-are, delay-is, entries-size, interval-is}
+use Rattle.format.proofs.Opened.{job-limits, units-are, delay-is}
+use Rattle.replay.proofs.Entries.{entries-size, interval-is}
 use borrow.Author.Needs.{needs}
 use Rattle.replay.proofs.interval_at.Statement.{statement}
 use Rattle.replay.proofs.interval_at.Tie as tie
@@ -23,7 +24,7 @@ shared-slice-read-choice c = let a = c .before .before .before .before in omega 
 
 coding-in-requires : tie.Need-coding-in-requires
 unfolding plain
-coding-in-requires c κs = let a = c .before .before .before .before in omega (arith, units-are _ _ _ (a .pre .0), delay-is _ _ _ (a .pre .0), job-limits _ _ _ (a .pre .0) .units, job-limits _ _ _ (a .pre .0) .delay)
+coding-in-requires c κs = let a = c .before .before .before .before in omega (arith, units-are _ _ (a .pre .0 .opens), delay-is _ _ (a .pre .0 .opens), job-limits _ _ (a .pre .0 .opens) .units, job-limits _ _ (a .pre .0 .opens) .delay)
 
 cast-rate-at : tie.Need-cast-rate-at
 unfolding plain
@@ -34,7 +35,7 @@ rate-at-requires c κs = search needs
 
 pin-in-requires : tie.Need-pin-in-requires
 unfolding plain
-pin-in-requires c κs = let a = c .before .before .before .before .before .before in omega (arith, units-are _ _ _ (a .pre .0), job-limits _ _ _ (a .pre .0) .units)
+pin-in-requires c κs = let a = c .before .before .before .before .before .before in omega (arith, units-are _ _ (a .pre .0 .opens), job-limits _ _ (a .pre .0 .opens) .units)
 
 returns : tie.Need-returns
 unfolding plain rate-byte mark-byte

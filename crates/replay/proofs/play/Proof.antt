@@ -1,5 +1,5 @@
-use Rattle.replay.proofs.Replaying.{start-is, outcome-is-job, Going, going-start, going-on, going-stop, going-end}
-use Rattle.replay.proofs.Entries.{few-intervals, intervals-are}
+use Rattle.replay.proofs.Replaying.{outcome-is-job, Going, going-start, going-on, going-stop, going-end}
+use Rattle.format.proofs.Opened.{few-intervals, intervals-are, start-is}
 use Rattle.replay.specs.Answers.{levels-of, totals-of, outcome-is, answered, ended}
 use Rattle.pinning.specs.State.{lines}
 use Rattle.job.specs.Answers.{plain}
@@ -25,7 +25,7 @@ loop-holds : tie.Need-loop-holds Inv-loop μ-loop
 unfolding plain levels-of totals-of
 loop-holds c =
     let a = c .before .before .before .before in
-    (search needs, going-start _ _ _ _ _ _ (sym (start-is _ _ _ (a .pre .plan))) refl)
+    (search needs, going-start _ _ _ _ _ _ (sym (start-is _ _ (a .pre .plan .opens))) refl)
 
 interval-at-requires : tie.Need-interval-at-requires Inv-loop μ-loop
 interval-at-requires c κs =
@@ -47,7 +47,7 @@ unfolding plain
 cast-interval c =
     let l = c .before .before .before .before .before .before in
     let a = l .before .before .before .before .before in
-    record { fits = omega (arith, l .before .intervals .ensures, few-intervals _ _ _ (a .pre .plan)) }
+    record { fits = omega (arith, l .before .intervals .ensures, few-intervals _ _ (a .pre .plan .opens)) }
 
 same-length : tie.Need-same-length Inv-loop μ-loop
 same-length c = search needs
@@ -60,8 +60,8 @@ returns c =
     let x = t .before in
     let l = x .before .before in
     let a = l .before .before .before .before .before in
-    let o = sym (outcome-is-job _ _ _ (a .pre .plan) _ _ _ (l .loop .at) (x .interval-at .ensures)) ∙ sym (t .step .ensures) ∙ ap outcome-is (w .violation .given .1) in
-    rw add-one (going-stop _ _ _ _ (l .loop .place) (l .loop .at) (l .loop .sum) _ (l .loop .inv .1) (omega (arith, l .before .intervals .ensures, intervals-are _ _ _ (a .pre .plan))) _ o)
+    let o = sym (outcome-is-job _ _ _ (a .pre .plan .opens) _ _ _ (l .loop .at) (x .interval-at .ensures)) ∙ sym (t .step .ensures) ∙ ap outcome-is (w .violation .given .1) in
+    rw add-one (going-stop _ _ _ _ (l .loop .place) (l .loop .at) (l .loop .sum) _ (l .loop .inv .1) (omega (arith, l .before .intervals .ensures, intervals-are _ _ (a .pre .plan .opens))) _ o)
 
 enum-known-next : tie.Need-enum-known-next Inv-loop μ-loop
 enum-known-next c = search needs
@@ -73,7 +73,7 @@ put-levels-requires c κs =
     let t = n .before .before in
     let l = t .before .before .before in
     let a = l .before .before .before .before .before in
-    (omega (arith, l .before .intervals .ensures, few-intervals _ _ _ (a .pre .plan)), omega (arith, l .before .intervals .ensures, a .pre .room, l .loop .inv .1 .size))
+    (omega (arith, l .before .intervals .ensures, few-intervals _ _ (a .pre .plan .opens)), omega (arith, l .before .intervals .ensures, a .pre .room, l .loop .inv .1 .size))
 
 with-interval-requires : tie.Need-with-interval-requires Inv-loop μ-loop
 unfolding plain
@@ -83,7 +83,7 @@ with-interval-requires c κs =
     let x = t .before in
     let l = x .before .before in
     let a = l .before .before .before .before .before in
-    let b : l .loop .place < 576 = omega (arith, l .before .intervals .ensures, few-intervals _ _ _ (a .pre .plan)) in
+    let b : l .loop .place < 576 = omega (arith, l .before .intervals .ensures, few-intervals _ _ (a .pre .plan .opens)) in
     let g = l .loop .inv .1 .small in
     let m = x .interval-at .ensures .limits in
     record { distortion = omega arith; source = omega arith; channel = omega arith }
@@ -103,10 +103,10 @@ loop-again c =
     let x = t .before in
     let l = x .before .before in
     let a = l .before .before .before .before .before in
-    let o = sym (outcome-is-job _ _ _ (a .pre .plan) _ _ _ (l .loop .at) (x .interval-at .ensures)) ∙ sym (t .step .ensures) ∙ ap outcome-is (n .next .given .1) in (
+    let o = sym (outcome-is-job _ _ _ (a .pre .plan .opens) _ _ _ (l .loop .at) (x .interval-at .ensures)) ∙ sym (t .step .ensures) ∙ ap outcome-is (n .next .given .1) in (
       omega arith,
       rw (put .put-levels .ensures)
-          (going-on _ _ _ _ (l .loop .place) (l .loop .at) (l .loop .sum) _ (l .loop .inv .1) (omega (arith, l .before .intervals .ensures, intervals-are _ _ _ (a .pre .plan))) _ _ _ o (x .interval-at .ensures) (c .with-interval .ensures) (omega (arith, l .before .intervals .ensures, a .pre .room))),
+          (going-on _ _ _ _ (l .loop .place) (l .loop .at) (l .loop .sum) _ (l .loop .inv .1) (omega (arith, l .before .intervals .ensures, intervals-are _ _ (a .pre .plan .opens))) _ _ _ o (x .interval-at .ensures) (c .with-interval .ensures) (omega (arith, l .before .intervals .ensures, a .pre .room))),
     )
 
 same-length-2 : tie.Need-same-length-2 Inv-loop μ-loop
@@ -117,7 +117,7 @@ unfolding plain ended answered
 returns-2 c =
     let l = c .before in
     let a = l .before .before .before .before .before in
-    going-end _ _ _ _ (l .loop .place) (l .loop .at) (l .loop .sum) _ (l .loop .inv .1) (omega (arith, l .before .intervals .ensures, intervals-are _ _ _ (a .pre .plan)))
+    going-end _ _ _ _ (l .loop .place) (l .loop .at) (l .loop .sum) _ (l .loop .inv .1) (omega (arith, l .before .intervals .ensures, intervals-are _ _ (a .pre .plan .opens)))
 
 pub play-spec : {M : Type 1} → statement M
 play-spec =

@@ -1,5 +1,6 @@
-use Rattle.replay.proofs.Sums.{build-more, sums-end}
-use Rattle.replay.proofs.Entries.{units-are, delay-is}
+use Rattle.replay.proofs.Sums.{sums-end}
+use Rattle.format.proofs.Opened.{units-are, delay-is}
+use Rattle.model.proofs.Builds.{build-more}
 use Rattle.replaying.specs.Entries.{plan-of}
 use Rattle.job.specs.Answers.{plain}
 use Rattle.format.specs.JobBytes.{job-in}
@@ -56,7 +57,7 @@ loop-again c =
     let a = l .before .before .before .before .before .before in (
       omega arith,
       rw (l .loop .inv .1)
-          (build-more _ (a .args .sums .now) (l .loop .i) _ (omega (arith, a .pre .room)) (c .sent-after .ensures ∙ ap (sentAfter _ _ (l .loop .i)) (sym (delay-is _ _ _ (a .pre .plan))))),
+          (build-more _ (a .args .sums .now) (l .loop .i) _ (omega (arith, a .pre .room)) (c .sent-after .ensures ∙ ap (sentAfter _ _ (l .loop .i)) (sym (delay-is _ _ (a .pre .plan .opens))))),
       simp length-set (l .loop .inv .2),
     )
 
@@ -68,7 +69,7 @@ unfolding plain
 returns c =
     let l = c .before in
     let a = l .before .before .before .before .before .before in
-    l .loop .inv .1 ∙ sums-end _ _ _ (l .loop .i) (omega (arith, units-are _ _ _ (a .pre .plan)))
+    l .loop .inv .1 ∙ sums-end _ _ _ (l .loop .i) (omega (arith, units-are _ _ (a .pre .plan .opens)))
 
 pub put-sums-spec : {M : Type 1} → statement M
 put-sums-spec =

@@ -1,5 +1,6 @@
 use Rattle.replay.proofs.Sums.{sum-more}
-use Rattle.replay.proofs.Entries.{few-intervals, entries-size}
+use Rattle.format.proofs.Opened.{few-intervals}
+use Rattle.replay.proofs.Entries.{entries-size}
 use Rattle.replaying.specs.Entries.{rate-byte, plan-of}
 use Rattle.job.specs.Answers.{plain}
 use Rattle.format.specs.JobBytes.{job-in}
@@ -23,11 +24,11 @@ loop-holds c = search needs
 
 add-at : tie.Need-add-at Inv-loop μ-loop
 unfolding plain
-add-at c = let a = c .before .before .before .before in omega (arith, a .pre .1, few-intervals _ _ _ (a .pre .0))
+add-at c = let a = c .before .before .before .before in omega (arith, a .pre .1, few-intervals _ _ (a .pre .0 .opens))
 
 mul-at : tie.Need-mul-at Inv-loop μ-loop
 unfolding plain
-mul-at c = let a = c .before .before .before .before in omega (arith, a .pre .1, few-intervals _ _ _ (a .pre .0))
+mul-at c = let a = c .before .before .before .before in omega (arith, a .pre .1, few-intervals _ _ (a .pre .0 .opens))
 
 shared-slice-read-rate-at : tie.Need-shared-slice-read-rate-at Inv-loop μ-loop
 unfolding plain
@@ -44,7 +45,7 @@ cast-sum c = search needs
 
 add-sum : tie.Need-add-sum Inv-loop μ-loop
 unfolding plain
-add-sum c = let a = c .before .before .before .before .before .before in omega (arith, a .pre .1, few-intervals _ _ _ (a .pre .0))
+add-sum c = let a = c .before .before .before .before .before .before in omega (arith, a .pre .1, few-intervals _ _ (a .pre .0 .opens))
 
 add-k : tie.Need-add-k Inv-loop μ-loop
 add-k c = search needs
