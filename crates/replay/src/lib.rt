@@ -153,7 +153,7 @@ fn entry_fits(header: Header, place: usize, rate: u8, choice: u8) -> bool
 }
 
 // T, the number of intervals.
-fn intervals(header: Header) -> usize
+pub fn intervals(header: Header) -> usize
     ensures { λ r. ⌜ r ≡ header .units + header .delay ⌝ }
 {
     header.units as usize + header.delay as usize

@@ -22,7 +22,7 @@ unfolding evaluate computes all-below choice-of same-header bytes-a lines unpinn
 cases = refl
 
 -- what a computed list says of each of its members
-map-at : {A B : Type 0} (f : A → B) (xs : List A) (ys : List B) (x : A) (y : B) → map f xs ≡ ys → (i : ℕ) → i < length xs → f (getD xs i x) ≡ getD ys i y
+pub map-at : {A B : Type 0} (f : A → B) (xs : List A) (ys : List B) (x : A) (y : B) → map f xs ≡ ys → (i : ℕ) → i < length xs → f (getD xs i x) ≡ getD ys i y
 map-at f [] ys x y e i h = absurd (omega arith)
 map-at f (a ∷ xs) ys x y e zero h = rw (← e)
 map-at f (a ∷ xs) ys x y e (suc i) h = rw (← e) (map-at f xs (map f xs) x y refl i (omega arith))

@@ -1,11 +1,11 @@
 -- Plans and their bytes: `PlanBytes`.
 -- Assumes nothing.
 use Prim.Native.Nat.{ℕ, zero, suc, _+_, _*_, _<_, _≤_}
-use mathlib.Core.Path.{_≡_, refl, _∙_, ap₂}
+use mathlib.Core.Path.{_≡_, refl, sym, _∙_, ap, ap₂}
 use mathlib.Core.Logic.{_↔_}
 use mathlib.Core.Bool.{Bool, true}
 use mathlib.Core.Option.{Option}
-use mathlib.Core.List.{List, [], _∷_}
+use mathlib.Core.List.{List, [], _∷_, _++_, append-nil}
 use native.Mathlib.Decide.{decLt}
 use native.Mathlib.Omega.{arith}
 use lib.Dec.{eqb, ltb}
@@ -87,7 +87,7 @@ unfolding plan-from
 later-entries x y b i zero = refl
 later-entries x y b i (suc n) = ap₂ _∷_ (later-entry x y b i) (later-entries x y b (suc i) n)
 
-bytes-size : (p : List Entry) → length (entry-bytes p) ≡ entry-size * length p
+pub bytes-size : (p : List Entry) → length (entry-bytes p) ≡ entry-size * length p
 unfolding entry-bytes
 bytes-size [] = refl
 bytes-size (e ∷ p) = let ih = bytes-size p in omega arith
@@ -98,24 +98,25 @@ module _ (j : Job) (few : j .choices ≤ 255) where
   choice-back (waits h) = of-mark
   choice-back (decodes {x} h k) = of-choice x (λ e. omega arith)
 
-  bytes-back : {t : ℕ} {p : List Entry} → PlanFits j t p → plan-from (entry-bytes p) 0 (length p) ≡ p
+  bytes-back : {t : ℕ} {p : List Entry} (rest : List ℕ) → PlanFits j t p → plan-from (entry-bytes p ++ rest) 0 (length p) ≡ p
   unfolding plan-from entry-bytes
-  bytes-back (ends e) = refl
-  bytes-back (goes {e = e} {p = p} f r) =
-      ap₂ _∷_ first (later-entries (e .rate) (choice-byte (e .choice)) (entry-bytes p) 0 (length p) ∙ bytes-back r)
+  bytes-back rest (ends e) = refl
+  bytes-back rest (goes {e = e} {p = p} f r) =
+      ap₂ _∷_ first (later-entries (e .rate) (choice-byte (e .choice)) (entry-bytes p ++ rest) 0 (length p) ∙ bytes-back rest r)
     where
-      first : entry-at (e .rate ∷ choice-byte (e .choice) ∷ entry-bytes p) 0 ≡ e
+      first : entry-at (e .rate ∷ choice-byte (e .choice) ∷ (entry-bytes p ++ rest)) 0 ≡ e
       first = unfold entry-at rate-byte mark-byte in (rw (choice-back (f .choice)))
 
-  plan-back : (p : List Entry) → PlanFits j 0 p → plan-of j (entry-bytes p) ≡ p
+  -- whatever stands behind the bytes of a plan
+  pub plan-back : (p : List Entry) (rest : List ℕ) → PlanFits j 0 p → plan-of j (entry-bytes p ++ rest) ≡ p
   unfolding plan-of
-  plan-back p f = let n = fits-length f in let e : intervals j ≡ length p = omega arith in rw e (bytes-back f)
+  plan-back p rest f = let n = fits-length f in let e : intervals j ≡ length p = omega arith in rw e (bytes-back rest f)
 
   pub shapes : Shapes j
   shapes = record {
     shaped-iff = shaped-iff j few;
     written = λ p f.
-        let e = plan-back p f in
+        let e = ap (plan-of j) (sym (append-nil (entry-bytes p))) ∙ plan-back p [] f in
         let n = fits-length f in
         let l : length (entry-bytes p) ≡ entry-size * intervals j = bytes-size p ∙ omega arith in
         (shaped-iff j few (entry-bytes p) .1 (l, rw e f), e);

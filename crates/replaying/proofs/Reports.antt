@@ -1,19 +1,28 @@
--- The report writes the effective buffer sizes of (6): `Reports`; and in which order replay and report refuse: `Refusals`.
+-- The report writes the effective buffer sizes of (6): `Reports`; and in which order replay and report refuse, and that a refusal keeps the list: `Refusals`.
 -- Assumes nothing.
-use Prim.Native.Nat.{suc, _≤_}
+use Prim.Native.Nat.{ℕ, suc, _≤_}
 use mathlib.Core.Path.{_≡_, refl, _∙_}
 use mathlib.Core.Bool.{Bool, true, false}
+use mathlib.Core.List.{List}
 use native.Mathlib.Omega.{arith}
+use lib.Dec.{ltb}
 use lib.ListN.{length}
 use borrow.Author.Tests.{lt-ltb, le-ltb}
 use Rattle.model.specs.If.{if_then_else_}
+use Rattle.model.specs.Answer.{gives}
+use Rattle.model.specs.Job.{Job}
 use Rattle.model.specs.Levels.{effectiveBuffer, build, effectiveBuffers}
 use Rattle.model.proofs.Builds.{build-length, build-at}
-use Rattle.format.specs.JobBytes.{header-in}
+use Rattle.model.proofs.Tests.{branch}
+use Rattle.model.proofs.Answers.{not-refused}
+use Rattle.format.specs.Parser as P
+use Rattle.format.specs.JobBytes.{header-in, parse}
+use Rattle.pinning.specs.State.{lines}
+use Rattle.pinning.specs.Check.{checked}
 use Rattle.pinning.proofs.Agree.{matched, unmatched, checked-refused}
 use Rattle.replaying.specs.Entries.{plan-of, shaped}
-use Rattle.replaying.specs.Calls.{replay-in, on-job, replay-call, report-in, report-call}
-use Rattle.replaying.specs.Claims.{Reports, Refusals}
+use Rattle.replaying.specs.Calls.{Ended, refuse, level-count, played, replay-in, on-job, replay-call, report-in, report-call}
+use Rattle.replaying.specs.Claims.{Keeping, Reports, Refusals}
 use Rattle.replaying.proofs.Flat.{over-length, over-here, over-rest}
 
 pub reports : Reports
@@ -34,8 +43,25 @@ not-passed : (t : Bool) → (t ≡ true → ⊥) → t ≡ false
 not-passed true f = absurd (f refl)
 not-passed false f = refl
 
+module _ (list : List ℕ) where
+  refuse-keeps : {A : Type 0} (n : ℕ) → Keeping {A = A} list (refuse n list)
+  unfolding refuse
+  refuse-keeps n k e = refl
+
+  gives-keeps : {A : Type 0} (a : A) (l : List ℕ) → Keeping list (record { answer = gives a; list = l })
+  gives-keeps a l n e = absurd (not-refused e)
+
+  on-job-keeps : {A : Type 0} (f : Job → Ended A) (r : P.Result Job) → ((j : Job) → Keeping list (f j)) → Keeping list (on-job r list f)
+  unfolding on-job
+  on-job-keeps f (P.refused n) h = refuse-keeps n
+  on-job-keeps f (P.took j k) h = h j
+
+  -- 14, then 12, then what is given
+  tests-keep : {A : Type 0} (t u : Bool) (r : Ended A) → Keeping list r → Keeping list (if t then if u then refuse 12 list else r else refuse 14 list)
+  tests-keep t u r h = branch (Keeping list) t (λ e. branch (Keeping list) u (λ q. refuse-keeps 12) (λ q. h)) (λ e. refuse-keeps 14)
+
 pub refusals : Refusals
-unfolding replay-call report-call on-job replay-in report-in if_then_else_
+unfolding replay-call report-call on-job replay-in report-in played if_then_else_
 refusals b s entries list = (
   record {
     job-first = λ n e. rw (checked-refused b s n e);
@@ -48,4 +74,6 @@ refusals b s entries list = (
     then-plan = λ j n e f. rw (e, not-passed (shaped (header-in j) entries) f);
     then-list = λ j n e f l. rw (e, f, lt-ltb _ _ l);
   },
+  on-job-keeps list (λ j. replay-in j s entries list) (checked b s) (λ j. tests-keep list (shaped (header-in j) entries) (ltb (length list) (level-count j)) (played j (lines (length (j .units)) (s .bytes)) entries list) (gives-keeps list _ _)),
+  on-job-keeps list (λ j. report-in j entries list) (parse b) (λ j. tests-keep list (shaped (header-in j) entries) (ltb (length list) (suc (length (j .units)))) _ (gives-keeps list _ _)),
 )

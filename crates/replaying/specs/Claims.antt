@@ -7,6 +7,7 @@ use mathlib.Core.Bool.{true}
 use mathlib.Core.List.{List}
 use lib.ListN.{length, getD, drop}
 use lib.IntN.{pos}
+use Rattle.model.specs.Answer as answer
 use Rattle.model.specs.Answer.{gives}
 use Rattle.model.specs.Job.{Job, Entry, intervals, PlanFits}
 use Rattle.model.specs.Levels.{decoderLevel, bucketLevel, effectiveBuffer}
@@ -55,6 +56,10 @@ pub record ReportOrder (b entries sums : List ℕ) : Type 0 where
   pub then-plan : (j : Job) (n : ℕ) → parse b ≡ took j n → (shaped (header-in j) entries ≡ true → ⊥) → report-call b entries sums ≡ refuse 14 sums
   pub then-list : (j : Job) (n : ℕ) → parse b ≡ took j n → shaped (header-in j) entries ≡ true → length sums < suc (length (j .units)) → report-call b entries sums ≡ refuse 12 sums
 
+-- a refusal leaves the list as it came
+abbrev pub Keeping : {A : Type 0} → List ℕ → Ended A → Type 0
+Keeping list r = (n : ℕ) → r .answer ≡ answer.refused n → r .list ≡ list
+
 -- (6) for i from 0 to N, and the rest of the list as before
 pub record Reported (j : Job) (p : List Entry) (sums : List ℕ) (r : Ended (Unit {0})) : Type 0 where
   pub given : r .answer ≡ gives tt
@@ -74,4 +79,4 @@ abbrev pub Reports : Type 0
 Reports = (b : List ℕ) (j : Job) (n : ℕ) (entries sums : List ℕ) → parse b ≡ took j n → shaped (header-in j) entries ≡ true → length (j .units) < length sums → Reported j (plan-of j entries) sums (report-call b entries sums)
 
 abbrev pub Refusals : Type 0
-Refusals = (b : List ℕ) (s : State) (entries list : List ℕ) → ReplayOrder b s entries list × ReportOrder b entries list
+Refusals = (b : List ℕ) (s : State) (entries list : List ℕ) → ReplayOrder b s entries list × ReportOrder b entries list × Keeping list (replay-call b s entries list) × Keeping list (report-call b entries list)

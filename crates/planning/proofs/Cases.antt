@@ -1,0 +1,29 @@
+-- The table of document 01's cases of planning, computed, and what it says of each.
+-- Assumes nothing.
+use Prim.Native.Nat.{ℕ, _<_}
+use mathlib.Core.Path.{_≡_, refl}
+use lib.ListN.{length, getD}
+use Rattle.trellis.specs.Table.{encode}
+use Rattle.model.specs.Evaluate.{evaluate}
+use Rattle.model.specs.All.{all-below}
+use Rattle.format.specs.Choices.{choice-of, choice-byte}
+use Rattle.format.specs.JobBytes.{computes, same-header}
+use Rattle.format.specs.JobA.{bytes-a}
+use Rattle.pinning.specs.State.{lines, unpinned, fresh}
+use Rattle.pinning.specs.Check.{byte-fits, bytes-fit, same-totals, fits, accept, checked}
+use Rattle.pinning.specs.Calls.{opened, open-call, refuse, take-in, with-pin, without-pin, pin-line, lift-line, call-in, calling, call, after, run}
+use Rattle.replaying.specs.Entries.{entry-bytes}
+use Rattle.replaying.specs.Calls.{over}
+use Rattle.replaying.specs.Cases.{set-after}
+use Rattle.replaying.proofs.Cases.{map-at}
+use Rattle.planning.specs.Words.{layer, layers, table-of}
+use Rattle.planning.specs.Calls as c
+use Rattle.planning.specs.Cases.{Question, Reply, reply, questions, replies, Cases}
+
+cases : Cases
+unfolding evaluate computes all-below choice-of choice-byte same-header bytes-a lines unpinned fresh byte-fits bytes-fit same-totals fits accept checked opened open-call refuse take-in with-pin without-pin pin-line lift-line call-in calling call after run entry-bytes over set-after encode layer layers table-of c.refuse c.searched c.search-in c.plan-in c.on-job c.plan-call reply questions replies
+cases = refl
+
+-- each case of the table, by its place
+pub case-at : (i : ℕ) → i < length questions → (q : Question) (r : Reply) → reply (getD questions i q) ≡ getD replies i r
+case-at i h q r = map-at reply questions replies q r cases i h

@@ -1,0 +1,84 @@
+-- The rule of a line and the codings that may be chosen is the rule of the job's trellis.
+-- Assumes nothing.
+use Prim.Native.Nat.{ℕ, suc, _+_, _<_}
+use mathlib.Core.Path.{_≡_, refl, sym, _∙_, ap}
+use mathlib.Core.Bool.{Bool, true, false}
+use mathlib.Core.Option.{Option, none, some, Option·map}
+use mathlib.Core.List.{List, List·Memᴰ}
+use lib.Dec.{leb}
+use lib.ListN.{length, getD}
+use Rattle.trellis.specs.Pairs.{Pair}
+use Rattle.trellis.specs.Table.{lowest, first-at, fare, marked-offer, marked-stage}
+use Rattle.trellis.proofs.Congruence.{lowest-cong, lowest-map, first-at-cong, first-at-map, fare-cong}
+use Rattle.model.specs.If.{if_then_else_}
+use Rattle.model.specs.Job.{Line, Coding, Levels, Job, coding, sends, takes, distorts}
+use Rattle.model.specs.Pins.{PinMap, pinAt}
+use Rattle.model.specs.Step.{Decoded, breaks, holds, decoder-step, poured, overfull, pin-held, or-overflow, after-decoder, outcome-of, outcome, reaches, violates}
+use Rattle.model.specs.Admissible.{pin-not-held}
+use Rattle.model.specs.Best.{Order, late, pairs, entry, width, entries, reached, trellis-of}
+use Rattle.model.specs.Table.{mark, bound, InLayer}
+use Rattle.model.proofs.Entries.{pairs-member}
+use Rattle.model.proofs.Steps.{outcome-closed}
+use Rattle.planning.specs.Rule.{Allowed, coding-offer, pair-offer, least-offer, choice-in, allowed-in}
+
+-- a step with a pin: where the pin is held, the step without pins
+reached-pinned : (line : Line) (pinned choice : Option ℕ) (b : ℕ) (ls : List ℕ) (c r : ℕ) → reached (outcome-of line pinned choice b ls c r) ≡ (if pin-held pinned choice then reached (outcome-of line none none b ls c r) else none)
+unfolding outcome-of reached after-decoder or-overflow if_then_else_ pin-held
+reached-pinned line pinned choice b ls c r = go (decoder-step (line .decoder) b c r) (overfull (line .buckets) (poured c (line .buckets) ls)) (pin-held pinned choice)
+  where
+    go : (d : Decoded) (o : Option ℕ) (t : Bool) → reached (after-decoder d (λ x. or-overflow o (if t then reaches (record { decoder = x; buckets = poured c (line .buckets) ls }) else violates pin-not-held))) ≡ (if t then reached (after-decoder d (λ x. or-overflow o (reaches (record { decoder = x; buckets = poured c (line .buckets) ls })))) else none)
+    go (breaks v) o true = refl
+    go (breaks v) o false = refl
+    go (holds x) none true = refl
+    go (holds x) none false = refl
+    go (holds x) (some i) true = refl
+    go (holds x) (some i) false = refl
+
+module _ (j : Job) (m : PinMap) (t : ℕ) (W : Levels → ℕ) (s : Levels) where
+  -- of each pair
+  offer-is : (o : Order) (a : Pair) → marked-offer (trellis-of j m o) _+_ mark bound t W s (entry j (suc t) a) ≡ pair-offer (j .line) (allowed-in j m (suc t)) W s a
+  unfolding marked-offer trellis-of outcome pair-offer allowed-in choice-in entry sends takes distorts
+  offer-is o a =
+      let x = (if leb′ then none else some (a .inner)) in
+      ap (λ (u : Option Levels). fare mark bound _+_ (coding j (suc t) x .distortion) u W) (reached-pinned (j .line) (pinAt j m (suc t)) x (s .decoder) (s .buckets) (getD (j .line .rates) (a .outer) 0) (coding j (suc t) x .size))
+      ∙ go x (pin-held (pinAt j m (suc t)) x)
+    where
+      leb′ : Bool
+      leb′ = leb (suc t) (j .delay)
+
+      go : (x : Option ℕ) (p : Bool) → fare mark bound _+_ (coding j (suc t) x .distortion) (if p then reached (outcome-of (j .line) none none (s .decoder) (s .buckets) (getD (j .line .rates) (a .outer) 0) (coding j (suc t) x .size)) else none) W ≡ coding-offer (j .line) W s (getD (j .line .rates) (a .outer) 0) (if p then some (coding j (suc t) x) else none)
+      go x true = unfold if_then_else_ coding-offer in refl
+      go x false = unfold if_then_else_ coding-offer fare in refl
+
+  -- the least, and the first that offers a number
+  pub stage-is : marked-stage (trellis-of j m late) _+_ mark bound t W s ≡ least-offer (j .line) (width j (suc t)) (allowed-in j m (suc t)) W s
+  unfolding marked-stage trellis-of entries least-offer
+  stage-is =
+      let ps = pairs late (length (j .line .rates)) (width j (suc t)) in
+      lowest-map (entry j (suc t)) mark (marked-offer (trellis-of j m late) _+_ mark bound t W s) ps
+      ∙ lowest-cong mark (λ a. marked-offer (trellis-of j m late) _+_ mark bound t W s (entry j (suc t) a)) (pair-offer (j .line) (allowed-in j m (suc t)) W s) ps (λ a k. offer-is late a)
+
+  pub first-is : (o : Order) (v : ℕ) → first-at (marked-offer (trellis-of j m o) _+_ mark bound t W s) v (entries o j (suc t)) ≡ Option·map (entry j (suc t)) (first-at (pair-offer (j .line) (allowed-in j m (suc t)) W s) v (pairs o (length (j .line .rates)) (width j (suc t))))
+  unfolding entries
+  first-is o v =
+      let ps = pairs o (length (j .line .rates)) (width j (suc t)) in
+      first-at-map (entry j (suc t)) (marked-offer (trellis-of j m o) _+_ mark bound t W s) v ps
+      ∙ ap (Option·map (entry j (suc t))) (first-at-cong (λ a. marked-offer (trellis-of j m o) _+_ mark bound t W s (entry j (suc t) a)) (pair-offer (j .line) (allowed-in j m (suc t)) W s) v ps (λ a k. offer-is o a))
+
+-- offers read only the words of states in the layer, and only the choices that there are
+module _ (line : Line) (n : ℕ) (a b : Allowed) (W L : Levels → ℕ) (s : Levels) (inside : InLayer line s) (same : (x : ℕ) → x < n → a x ≡ b x) (words : (u : Levels) → InLayer line u → W u ≡ L u) where
+  coding-offer-cong : (c : ℕ) (k : Option Coding) → coding-offer line W s c k ≡ coding-offer line L s c k
+  unfolding coding-offer
+  coding-offer-cong c none = refl
+  coding-offer-cong c (some k) = fare-cong mark bound _+_ (k .distortion) (reached (outcome-of line none none (s .decoder) (s .buckets) c (k .size))) W L (λ u e. words u (outcome-closed line none none c (k .size) s u inside e))
+
+  pair-offer-cong : (p : Pair) → p .inner < n → pair-offer line a W s p ≡ pair-offer line b L s p
+  unfolding pair-offer
+  pair-offer-cong p l = rw (same (p .inner) l) (coding-offer-cong (getD (line .rates) (p .outer) 0) (b (p .inner)))
+
+  pub least-offer-cong : least-offer line n a W s ≡ least-offer line n b L s
+  unfolding least-offer
+  least-offer-cong = lowest-cong mark (pair-offer line a W s) (pair-offer line b L s) (pairs late (length (line .rates)) n) (λ p k. pair-offer-cong p (pairs-member late (length (line .rates)) n p k .1))
+
+  pub first-offer-cong : (v : ℕ) → first-at (pair-offer line a W s) v (pairs late (length (line .rates)) n) ≡ first-at (pair-offer line b L s) v (pairs late (length (line .rates)) n)
+  first-offer-cong v = first-at-cong (pair-offer line a W s) (pair-offer line b L s) v (pairs late (length (line .rates)) n) (λ p k. pair-offer-cong p (pairs-member late (length (line .rates)) n p k .1))

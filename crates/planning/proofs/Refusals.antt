@@ -1,0 +1,54 @@
+-- In which order planning refuses, and what a refusal leaves: `Refusals`.
+-- Assumes nothing.
+use Prim.Native.Nat.{ℕ, _*_}
+use mathlib.Core.Path.{_≡_, refl, sym}
+use mathlib.Core.Bool.{Bool}
+use mathlib.Core.Option.{Option, none, some}
+use mathlib.Core.List.{List}
+use lib.Dec.{ltb}
+use lib.ListN.{length}
+use borrow.Author.Tests.{lt-ltb, le-ltb}
+use Rattle.model.specs.If.{if_then_else_}
+use Rattle.model.specs.Answer.{refused, gives}
+use Rattle.model.specs.Job.{Job, intervals}
+use Rattle.model.specs.Pins.{PinMap}
+use Rattle.model.specs.Best.{least-total}
+use Rattle.model.specs.Table.{words}
+use Rattle.model.proofs.Tests.{branch}
+use Rattle.model.proofs.Answers.{refused-same, not-refused}
+use Rattle.format.specs.Parser as P
+use Rattle.pinning.specs.State.{State, lines}
+use Rattle.pinning.specs.Check.{checked}
+use Rattle.pinning.proofs.Agree.{matched, unmatched, checked-refused}
+use Rattle.replaying.specs.Entries.{entry-size}
+use Rattle.planning.specs.Calls.{refuse, searched, search-in, on-job, plan-in, plan-call}
+use Rattle.planning.specs.Claims.{Keeping, Refusals}
+
+module _ (table entries : List ℕ) where
+  refuse-keeps : (n : ℕ) → Keeping table entries (refuse n table entries)
+  unfolding refuse
+  refuse-keeps n = record { entries-kept = λ k e. refl; table-kept = λ k e f. refl }
+
+  searched-keeps : (j : Job) (m : PinMap) (o : Option ℕ) → Keeping table entries (searched j m o table entries)
+  unfolding searched
+  searched-keeps j m none = record { entries-kept = λ k e. refl; table-kept = λ k e f. absurd (f (sym (refused-same e))) }
+  searched-keeps j m (some v) = record { entries-kept = λ k e. absurd (not-refused e); table-kept = λ k e f. absurd (not-refused e) }
+
+  call-keeps : (s : State) (r : P.Result Job) → Keeping table entries (on-job r table entries (λ j. plan-in j s table entries))
+  unfolding on-job plan-in search-in
+  call-keeps s (P.refused n) = refuse-keeps n
+  call-keeps s (P.took j k) =
+      branch (Keeping table entries) (ltb (length table) (words j)) (λ e. refuse-keeps 11)
+      (λ e. branch (Keeping table entries) (ltb (length entries) (entry-size * intervals j)) (λ q. refuse-keeps 12) (λ q. searched-keeps j (lines (length (j .units)) (s .bytes)) (least-total j (lines (length (j .units)) (s .bytes)) 0 (j .start))))
+
+pub refusals : Refusals
+unfolding plan-call on-job plan-in if_then_else_
+refusals b s table entries = (
+  record {
+    job-first = λ n e. rw (checked-refused b s n e);
+    then-set = λ j n e f. rw (unmatched b j n e s f);
+    then-table = λ j n e m l. rw (matched b j n e s m, lt-ltb _ _ l);
+    then-entries = λ j n e m k l. rw (matched b j n e s m, le-ltb (length table) (words j) k, lt-ltb _ _ l);
+  },
+  call-keeps table entries s (checked b s),
+)

@@ -1,0 +1,43 @@
+-- One layer of the table from the next, of a line and the codings that may be chosen in the interval between them: no job, no pins (document 01, "The best plan").
+-- Assumes nothing.
+use Prim.Native.Nat.{ℕ, _+_}
+use mathlib.Core.Option.{Option, none, some}
+use mathlib.Core.List.{List}
+use lib.ListN.{length, getD}
+use Rattle.trellis.specs.Table.{lowest, fare}
+use Rattle.trellis.specs.Pairs.{Pair, pair}
+use Rattle.model.specs.If.{if_then_else_}
+use Rattle.model.specs.Job.{Line, Coding, Levels, Job, coding}
+use Rattle.model.specs.Levels.{build}
+use Rattle.model.specs.Pins.{PinMap, pinAt}
+use Rattle.model.specs.Step.{outcome-of, pin-held}
+use Rattle.model.specs.Best.{late, pairs, entry, reached}
+use Rattle.model.specs.Table.{mark, bound, layerWords, stateAt, wordIn}
+
+-- the coding of each choice, none where a pin rules the choice out
+abbrev pub Allowed : Type 0
+Allowed = ℕ → Option Coding
+
+-- what an interval that sends c and decodes this coding offers to a state: the coding's distortion and the word of the levels that it leads to, or the mark. The pins are in the coding already
+unfoldable pub coding-offer : Line → (Levels → ℕ) → Levels → ℕ → Option Coding → ℕ
+coding-offer line W s c none = mark
+coding-offer line W s c (some k) = fare mark bound _+_ (k .distortion) (reached (outcome-of line none none (s .decoder) (s .buckets) c (k .size))) W
+
+-- of a rate index and a choice index
+unfoldable pub pair-offer : Line → Allowed → (Levels → ℕ) → Levels → Pair → ℕ
+pair-offer line allowed W s a = coding-offer line W s (getD (line .rates) (a .outer) 0) (allowed (a .inner))
+
+-- a state's word: the least that the rates and n choices offer
+unfoldable pub least-offer : Line → ℕ → Allowed → (Levels → ℕ) → Levels → ℕ
+least-offer line n allowed W s = lowest mark (pair-offer line allowed W s) (pairs late (length (line .rates)) n)
+
+-- a layer's words, from those of the next
+unfoldable pub layer-from : Line → ℕ → Allowed → List ℕ → List ℕ
+layer-from line n allowed next = build (layerWords line) (λ i. least-offer line n allowed (wordIn line next) (stateAt line i))
+
+-- the choice that an index names in interval t, and its coding where the pin of the interval is held
+unfoldable pub choice-in : Job → ℕ → ℕ → Option ℕ
+choice-in j t x = entry j t (pair 0 x) .choice
+
+unfoldable pub allowed-in : Job → PinMap → ℕ → Allowed
+allowed-in j m t x = if pin-held (pinAt j m t) (choice-in j t x) then some (coding j t (choice-in j t x)) else none
