@@ -1,16 +1,17 @@
 -- What a well-formed job's values keep to, index by index: `Limited`.
 -- Assumes nothing.
-use Prim.Native.Nat.{ℕ, zero, suc, _+_, _≤_, _<_}
+use Prim.Native.Nat.{ℕ, zero, suc, _+_, _-_, _≤_, _<_}
+use mathlib.Core.Option.{Option, none, some}
 use mathlib.Core.List.{List, [], _∷_}
 use native.Mathlib.Omega.{arith}
 use lib.ListN.{length, getD}
-use Rattle.model.specs.Job.{Coding, Job, nothing, codingAt}
+use Rattle.model.specs.Job.{Coding, Job, intervals, nothing, codingAt, coding, ChoiceFits, waits, decodes}
 use Rattle.model.specs.Table.{Bounded}
 use Rattle.format.specs.Limits.{AllKept}
 use Rattle.format.specs.Parser.{Each}
 use Rattle.format.specs.Parser as P
 use Rattle.format.specs.JobBytes.{rate-limits, coding-limits, header-in, UnitKept, WellFormed}
-use Rattle.format.specs.Claims.{Limited}
+use Rattle.format.specs.Claims.{InLimits, Limited}
 
 module _ (low : ℕ) where
   rate-low : (rs : List ℕ) → AllKept (rate-limits low rs) → 0 < length rs → low ≤ getD rs 0 0
@@ -27,9 +28,9 @@ rising-from low [] k y h = absurd (omega arith)
 rising-from low (r ∷ rs) k zero h = rate-low (suc r) rs (k .1) (omega arith)
 rising-from low (r ∷ rs) k (suc y) h = rising-from (suc r) rs (k .1) y (omega arith)
 
-record CodingKept (c : Coding) : Type 0 where
-  size : c .size ≤ 4095
-  distortion : c .distortion ≤ 1000000
+pub record CodingKept (c : Coding) : Type 0 where
+  pub size : c .size ≤ 4095
+  pub distortion : c .distortion ≤ 1000000
 
 coding-kept : (u : List Coding) → AllKept (coding-limits u) → (x : ℕ) → x < length u → CodingKept (getD u x nothing)
 coding-kept [] k x h = absurd (omega arith)
@@ -65,3 +66,11 @@ limited j w =
 -- what the table law asks of a job
 pub bounded : (j : Job) → WellFormed j → Bounded j
 bounded j w = let l = limited j w in record { units = l .units .1; distortions = l .distortions }
+
+-- of a choice in range, what an interval decodes
+pub coding-within : (j : Job) → InLimits j → (t : ℕ) → t ≤ intervals j → (c : Option ℕ) → ChoiceFits j t c → CodingKept (coding j t c)
+unfolding coding intervals
+coding-within j l t h none (waits k) = record { size = omega arith; distortion = omega arith }
+coding-within j l t h (some x) (decodes k y) =
+    let i : t - (j .delay + 1) < length (j .units) = omega arith in
+    record { size = l .sizes (t - (j .delay + 1)) x i y; distortion = l .distortions (t - (j .delay + 1)) x i y }

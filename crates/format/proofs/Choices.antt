@@ -7,7 +7,7 @@ use mathlib.Core.Option.{none, some, Option·some-injective, Option·none-ne-som
 use lib.Dec.{eqb}
 use borrow.Author.Tests.{eqb-true, ne-eqb}
 use Rattle.model.specs.If.{if_then_else_}
-use Rattle.format.specs.Choices.{no-choice, choice-of}
+use Rattle.format.specs.Choices.{no-choice, choice-of, choice-byte}
 
 -- none is the mark, and a choice is its byte
 pub byte-none : (x : ℕ) → choice-of x ≡ none → x ≡ no-choice
@@ -25,6 +25,14 @@ byte-some x y e = go (eqb x no-choice) e
     go : (t : Bool) → (if t then none else some x) ≡ some y → x ≡ y
     go true r = absurd (Option·none-ne-some y r)
     go false r = Option·some-injective x y r
+
+pub byte-back : (x : ℕ) → choice-byte (choice-of x) ≡ x
+unfolding choice-of choice-byte if_then_else_
+byte-back x = go (eqb x no-choice) refl
+  where
+    go : (t : Bool) → eqb x no-choice ≡ t → choice-byte (if t then none else some x) ≡ x
+    go true q = sym (eqb-true x no-choice q)
+    go false q = refl
 
 pub of-mark : choice-of no-choice ≡ none
 unfolding choice-of if_then_else_

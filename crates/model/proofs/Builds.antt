@@ -1,13 +1,13 @@
 -- Lists that are built number after number, as a loop writes them.
 -- Assumes nothing.
-use Prim.Native.Nat.{ℕ, zero, suc, _+_, _<_, _≤_}
+use Prim.Native.Nat.{ℕ, zero, suc, _+_, _-_, _<_, _≤_}
 use mathlib.Core.Path.{_≡_, refl, sym, _∙_, ap}
 use mathlib.Core.List.{List, [], _∷_, _++_, append-assoc}
 use native.Mathlib.Decide.{decLt}
 use native.Mathlib.Numerals.{add-one}
 use native.Mathlib.Omega.{arith}
-use lib.ListN.{length, getD, drop, set, replicate, length-append, List·getD-append}
-use lib.Seq.{getD-at, drop-cons, set-at}
+use lib.ListN.{length, getD, drop, set, length-append, List·getD-append}
+use lib.Seq.{getD-at, drop-cons, drop-append-add, drop-drop, set-at}
 use Rattle.model.specs.Levels.{build}
 
 pub build-length : (n : ℕ) (f : ℕ → ℕ) → length (build n f) ≡ n
@@ -36,3 +36,13 @@ build-more f l i x h e =
     ap (λ (t : List ℕ). set (build i f ++ t) i x) (drop-cons l i 0 h)
     ∙ set-at (build i f) (getD l i 0) (drop (suc i) l) x i (build-length i f)
     ∙ rw (add-one i, e) (sym (append-assoc (build i f) (f i ∷ []) (drop (suc i) l)))
+
+-- what follows stays
+pub build-drop : (f : ℕ → ℕ) (l : List ℕ) (i n : ℕ) → i ≤ n → drop n (build i f ++ drop i l) ≡ drop n l
+build-drop f l i n h =
+    let e : length (build i f) + (n - i) ≡ n = omega (arith, build-length i f) in
+    let k : i + (n - i) ≡ n = omega arith in
+    ap (λ (a : ℕ). drop a (build i f ++ drop i l)) (sym e)
+    ∙ drop-append-add (build i f) (drop i l) (n - i)
+    ∙ drop-drop (n - i) i l
+    ∙ ap (λ (a : ℕ). drop a l) k

@@ -3,11 +3,11 @@
 use Prim.Native.Nat.{ℕ, suc, _+_, _*_}
 use mathlib.Core.Path.{_≡_, sym, _∙_, ap}
 use mathlib.Core.List.{List}
-use lib.ListN.{drop}
+use lib.ListN.{getD, drop}
 use lib.Seq.{getD-take, getD-drop}
 use Rattle.trellis.specs.Table.{marked-stage, Marked}
 use Rattle.trellis.proofs.Congruence.{marked-stage-cong}
-use Rattle.model.specs.Job.{Levels, Job, intervals}
+use Rattle.model.specs.Job.{Line, Levels, Job, intervals}
 use Rattle.model.specs.Pins.{PinMap}
 use Rattle.model.specs.Best.{late, trellis-of}
 use Rattle.model.specs.Table.{mark, bound, tops, place, flat, InLayer, layerWords, wordAt, layerOf, wordIn, FollowsRule}
@@ -15,12 +15,16 @@ use Rattle.model.proofs.Places.{layer-each, place-below, state-place}
 use Rattle.model.proofs.Steps.{layer-closed}
 
 -- a state's word in the table is its word in its layer
-pub word-in-layer : (j : Job) (table : List ℕ) (t : ℕ) (s : Levels) → InLayer (j .line) s → wordAt j table t s ≡ wordIn (j .line) (layerOf (j .line) table t) s
-unfolding wordAt wordIn layerOf
-word-in-layer j table t s a =
-    let n = layerWords (j .line) in
-    let i = place (tops (j .line)) (flat s) in
+pub word-is : (line : Line) (table : List ℕ) (t : ℕ) (s : Levels) → InLayer line s → getD table (t * layerWords line + place (tops line) (flat s)) 0 ≡ wordIn line (layerOf line table t) s
+unfolding wordIn layerOf
+word-is line table t s a =
+    let n = layerWords line in
+    let i = place (tops line) (flat s) in
     sym (getD-take n (drop (t * n) table) i 0 (place-below (layer-each a)) ∙ getD-drop (t * n) table i 0)
+
+pub word-in-layer : (j : Job) (table : List ℕ) (t : ℕ) (s : Levels) → InLayer (j .line) s → wordAt j table t s ≡ wordIn (j .line) (layerOf (j .line) table t) s
+unfolding wordAt
+word-in-layer j table t s a = word-is (j .line) table t s a
 
 module _ (j : Job) (m : PinMap) (table : List ℕ) where
   pub follows-marked : FollowsRule j m table → Marked (trellis-of j m late) _+_ mark bound (intervals j) (λ t s. InLayer (j .line) s) (wordAt j table)

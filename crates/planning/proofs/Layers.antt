@@ -2,7 +2,7 @@
 -- Assumes nothing.
 use Prim.Native.Nat.{ℕ, zero, suc, _+_, _-_, _*_, _<_, _≤_}
 use mathlib.Core.Path.{_≡_, refl, sym, _∙_, ap}
-use mathlib.Core.List.{List, [], _++_, append-assoc}
+use mathlib.Core.List.{List, [], _++_, append-assoc, append-nil}
 use native.Mathlib.Omega.{arith}
 use native.Mathlib.Nat.{suc-mul}
 use lib.ListN.{length, getD, take, drop, length-append}
@@ -31,7 +31,7 @@ module _ (j : Job) (m : PinMap) where
   unfolding layer
   layer-length t = build-length (layerWords (j .line)) (λ i. encode mark (least-total j m t (stateAt (j .line) i)))
 
-  layers-length : (t n : ℕ) → length (layers j m t n) ≡ n * layerWords (j .line)
+  pub layers-length : (t n : ℕ) → length (layers j m t n) ≡ n * layerWords (j .line)
   unfolding layers
   layers-length t zero = omega arith
   layers-length t (suc n) = length-append (layer j m t) (layers j m (suc t) n) ∙ omega (arith, layer-length t, layers-length (suc t) n, suc-mul n (layerWords (j .line)))
@@ -65,6 +65,14 @@ module _ (j : Job) (m : PinMap) where
       drop-past a b c w k e =
           let z : suc k * w ≡ w + k * w = omega (arith, suc-mul k w) in
           ap (λ (n : ℕ). drop n ((a ++ b) ++ c)) z ∙ sym (drop-drop (k * w) w ((a ++ b) ++ c)) ∙ ap (drop (k * w)) (ap (drop w) (append-assoc a b c) ∙ drop-at a (b ++ c) w e)
+
+  -- one layer more behind them
+  pub layers-more : (t n : ℕ) → layers j m t (suc n) ≡ layers j m t n ++ layer j m (t + n)
+  unfolding layers
+  layers-more t zero = let e : t + 0 ≡ t = omega arith in rw (e, append-nil)
+  layers-more t (suc n) =
+      let e : t + suc n ≡ suc t + n = omega arith in
+      ap (λ (l : List ℕ). layer j m t ++ l) (layers-more (suc t) n) ∙ rw e (sym (append-assoc (layer j m t) (layers j m (suc t) n) (layer j m (suc t + n))))
 
   -- each layer of a table that was written over other words
   pub layer-over : (table : List ℕ) (t : ℕ) → t ≤ intervals j → layerOf (j .line) (over (table-of j m) table) t ≡ layer j m t

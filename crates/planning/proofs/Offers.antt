@@ -3,7 +3,7 @@
 use Prim.Native.Nat.{ℕ, suc, _+_, _<_}
 use mathlib.Core.Path.{_≡_, refl, sym, _∙_, ap}
 use mathlib.Core.Bool.{Bool, true, false}
-use mathlib.Core.Option.{Option, none, some, Option·map}
+use mathlib.Core.Option.{Option, none, some, Option·map, Option·none-ne-some}
 use mathlib.Core.List.{List, List·Memᴰ}
 use lib.Dec.{leb}
 use lib.ListN.{length, getD}
@@ -16,10 +16,13 @@ use Rattle.model.specs.Pins.{PinMap, pinAt}
 use Rattle.model.specs.Step.{Decoded, breaks, holds, decoder-step, poured, overfull, pin-held, or-overflow, after-decoder, outcome-of, outcome, reaches, violates}
 use Rattle.model.specs.Admissible.{pin-not-held}
 use Rattle.model.specs.Best.{Order, late, pairs, entry, width, entries, reached, trellis-of}
-use Rattle.model.specs.Table.{mark, bound, InLayer}
+use Rattle.model.specs.Table.{mark, bound, InLayer, layerWords, stateAt, wordIn}
 use Rattle.model.proofs.Entries.{pairs-member}
+use Rattle.model.proofs.Builds.{build-cong}
+use Rattle.model.proofs.Places.{state-in-layer}
+use Rattle.model.proofs.Walks.{reached-some}
 use Rattle.model.proofs.Steps.{outcome-closed}
-use Rattle.planning.specs.Rule.{Allowed, coding-offer, pair-offer, least-offer, choice-in, allowed-in}
+use Rattle.planning.specs.Rule.{Allowed, coding-offer, pair-offer, least-offer, layer-from, choice-in, allowed-in}
 
 -- a step with a pin: where the pin is held, the step without pins
 reached-pinned : (line : Line) (pinned choice : Option ℕ) (b : ℕ) (ls : List ℕ) (c r : ℕ) → reached (outcome-of line pinned choice b ls c r) ≡ (if pin-held pinned choice then reached (outcome-of line none none b ls c r) else none)
@@ -82,3 +85,17 @@ module _ (line : Line) (n : ℕ) (a b : Allowed) (W L : Levels → ℕ) (s : Lev
 
   pub first-offer-cong : (v : ℕ) → first-at (pair-offer line a W s) v (pairs late (length (line .rates)) n) ≡ first-at (pair-offer line b L s) v (pairs late (length (line .rates)) n)
   first-offer-cong v = first-at-cong (pair-offer line a W s) (pair-offer line b L s) v (pairs late (length (line .rates)) n) (λ p k. pair-offer-cong p (pairs-member late (length (line .rates)) n p k .1))
+
+-- a layer, of two ways to write the same codings
+pub layer-from-cong : (line : Line) (n : ℕ) (a b : Allowed) (next : List ℕ) → ((x : ℕ) → x < n → a x ≡ b x) → layer-from line n a next ≡ layer-from line n b next
+unfolding layer-from
+layer-from-cong line n a b next same = build-cong (layerWords line) _ _ (λ i h. least-offer-cong line n a b (wordIn line next) (wordIn line next) (stateAt line i) (state-in-layer line i h) same (λ u k. refl))
+
+-- a step that reaches levels holds its pin, and is the step without pins
+pub held-step : (line : Line) (pinned choice : Option ℕ) (b : ℕ) (ls : List ℕ) (c r : ℕ) (u : Levels) → outcome-of line pinned choice b ls c r ≡ reaches u → (pin-held pinned choice ≡ true) × (outcome-of line none none b ls c r ≡ reaches u)
+unfolding reached if_then_else_
+held-step line pinned choice b ls c r u e = go (pin-held pinned choice) refl (sym (reached-pinned line pinned choice b ls c r) ∙ ap reached e)
+  where
+    go : (t : Bool) → pin-held pinned choice ≡ t → (if t then reached (outcome-of line none none b ls c r) else none) ≡ some u → (pin-held pinned choice ≡ true) × (outcome-of line none none b ls c r ≡ reaches u)
+    go true p q = (p, reached-some (outcome-of line none none b ls c r) u q)
+    go false p q = absurd (Option·none-ne-some u q)

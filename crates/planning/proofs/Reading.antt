@@ -2,6 +2,7 @@
 -- Assumes nothing.
 use Prim.Native.Nat.{ℕ, suc, _+_, _<_, _≤_}
 use mathlib.Core.Path.{_≡_, refl, sym, _∙_, ap}
+use mathlib.Core.Bool.{true}
 use mathlib.Core.Option.{Option, none, some, Option·map, Option·some-injective, Option·none-ne-some}
 use mathlib.Core.List.{List, _∷_}
 use native.Mathlib.Omega.{arith}
@@ -9,27 +10,29 @@ use lib.ListN.{length}
 use Rattle.trellis.specs.Pairs.{Pair}
 use Rattle.trellis.specs.Table.{encode, first-at}
 use Rattle.trellis.proofs.Congruence.{first-at-member}
-use Rattle.model.specs.Job.{Levels, Job, distorts, intervals}
-use Rattle.model.specs.Pins.{PinMap}
-use Rattle.model.specs.Step.{reaches, outcome}
-use Rattle.model.specs.Best.{late, pairs, entry, width, least-total, best-plan}
+use Rattle.model.specs.If.{if_then_else_}
+use Rattle.model.specs.Job.{Levels, Job, EntryFits, coding, sends, takes, intervals}
+use Rattle.model.specs.Pins.{PinMap, pinAt}
+use Rattle.model.specs.Step.{reaches, pin-held, outcome-of, outcome}
+use Rattle.model.specs.Best.{late, pairs, entry, width, entries, least-total, best-plan}
 use Rattle.model.specs.Table.{mark, InLayer, layerOf, wordAt, wordIn, IsTable, Bounded}
 use Rattle.model.specs.Claims.{ReadOffClaim}
-use Rattle.model.proofs.Entries.{pairs-member}
+use Rattle.model.proofs.Entries.{pairs-member, listed-fits}
 use Rattle.model.proofs.Steps.{reaches-in-layer}
 use Rattle.model.proofs.Layers.{word-in-layer}
 use Rattle.model.proofs.ReadOff.{read-off}
-use Rattle.planning.specs.Rule.{pair-offer, allowed-in}
-use Rattle.planning.proofs.Offers.{first-is, first-offer-cong}
+use Rattle.planning.specs.Rule.{pair-offer, choice-in, allowed-in}
+use Rattle.planning.proofs.Offers.{first-is, first-offer-cong, held-step}
 
 -- the first pair that offers v from the levels s after interval t, by way of the layer after the next, and what it leads to
 pub record FirstPair (j : Job) (m : PinMap) (table : List ℕ) (t : ℕ) (s : Levels) (v : ℕ) : Type 0 where
   pub pick : Pair
   pub end : Levels
   pub first : first-at (pair-offer (j .line) (allowed-in j m (suc t)) (wordIn (j .line) (layerOf (j .line) table (suc t))) s) v (pairs late (length (j .line .rates)) (width j (suc t))) ≡ some pick
-  pub rate : pick .outer < length (j .line .rates)
-  pub choice : pick .inner < width j (suc t)
-  pub reaches-end : outcome j m (suc t) s (entry j (suc t) pick) ≡ reaches end
+  pub inner : pick .inner < width j (suc t)
+  pub fits : EntryFits j (suc t) (entry j (suc t) pick)
+  pub allowed : allowed-in j m (suc t) (pick .inner) ≡ some (coding j (suc t) (entry j (suc t) pick .choice))
+  pub step : outcome-of (j .line) none none (s .decoder) (s .buckets) (sends j (entry j (suc t) pick)) (takes j (suc t) (entry j (suc t) pick)) ≡ reaches end
   pub inside : InLayer (j .line) end
   pub value : ℕ
   pub least-is : least-total j m (suc t) end ≡ some value
@@ -49,25 +52,39 @@ module _ (j : Job) (m : PinMap) (table : List ℕ) (t : ℕ) (s : Levels) (v : �
   claim : ReadOffClaim j m late table t s v
   claim = read-off j m late table t s v bounded tab h inside value
 
+  -- the pair of its entry
+  picked : (a : Pair) × (first-at (pair-offer (j .line) (allowed-in j m (suc t)) (wordAt j table (suc t)) s) v (pairs late (length (j .line .rates)) (width j (suc t))) ≡ some a) × (entry j (suc t) a ≡ claim .entry)
+  picked = mapped (entry j (suc t)) (first-at (pair-offer (j .line) (allowed-in j m (suc t)) (wordAt j table (suc t)) s) v (pairs late (length (j .line .rates)) (width j (suc t)))) (claim .entry) (sym (first-is j m t (wordAt j table (suc t)) s late v) ∙ claim .first)
+
+  found : first-at (pair-offer (j .line) (allowed-in j m (suc t)) (wordIn (j .line) (layerOf (j .line) table (suc t))) s) v (pairs late (length (j .line .rates)) (width j (suc t))) ≡ some (picked .0)
+  found = sym (first-offer-cong (j .line) (width j (suc t)) (allowed-in j m (suc t)) (allowed-in j m (suc t)) (wordAt j table (suc t)) (wordIn (j .line) (layerOf (j .line) table (suc t))) s inside (λ x k. refl) (λ u k. word-in-layer j table (suc t) u k) v) ∙ picked .1
+
+  lands : outcome j m (suc t) s (entry j (suc t) (picked .0)) ≡ reaches (claim .end)
+  lands = rw (picked .2) (claim .reached)
+
+  its-fit : EntryFits j (suc t) (entry j (suc t) (picked .0))
+  its-fit = rw (picked .2) (listed-fits j (suc t) late (first-at-member _ v (entries late j (suc t)) (claim .entry) (claim .first)))
+
+  held : (pin-held (pinAt j m (suc t)) (entry j (suc t) (picked .0) .choice) ≡ true) × (outcome-of (j .line) none none (s .decoder) (s .buckets) (sends j (entry j (suc t) (picked .0))) (takes j (suc t) (entry j (suc t) (picked .0))) ≡ reaches (claim .end))
+  unfolding outcome
+  held = held-step (j .line) _ _ _ _ _ _ (claim .end) lands
+
+  allowed : allowed-in j m (suc t) (picked .0 .inner) ≡ some (coding j (suc t) (entry j (suc t) (picked .0) .choice))
+  unfolding allowed-in choice-in entry if_then_else_
+  allowed = rw (held .0)
+
   pub first-pair : FirstPair j m table t s v
   unfolding outcome
-  first-pair =
-      let W = wordIn (j .line) (layerOf (j .line) table (suc t)) in
-      let a = allowed-in j m (suc t) in
-      let n = width j (suc t) in
-      let p = mapped (entry j (suc t)) (first-at (pair-offer (j .line) a (wordAt j table (suc t)) s) v (pairs late (length (j .line .rates)) n)) (claim .entry) (sym (first-is j m t (wordAt j table (suc t)) s late v) ∙ claim .first) in
-      let first = sym (first-offer-cong (j .line) n a a (wordAt j table (suc t)) W s inside (λ x k. refl) (λ u k. word-in-layer j table (suc t) u k) v) ∙ p .1 in
-      let member = pairs-member late (length (j .line .rates)) n (p .0) (first-at-member (pair-offer (j .line) a W s) v (pairs late (length (j .line .rates)) n) (p .0) first) in
-      let e : outcome j m (suc t) s (entry j (suc t) (p .0)) ≡ reaches (claim .end) = rw (p .2) (claim .reached) in
-      record {
-        pick = p .0;
-        end = claim .end;
-        first = first;
-        rate = member .0;
-        choice = member .1;
-        reaches-end = e;
-        inside = reaches-in-layer (j .line) _ _ _ _ s (claim .end) (inside .count) e;
-        value = claim .adds .0;
-        least-is = claim .adds .1;
-        rest = rw (p .2) (claim .rest);
-      }
+  first-pair = record {
+    pick = picked .0;
+    end = claim .end;
+    first = found;
+    inner = pairs-member late (length (j .line .rates)) (width j (suc t)) (picked .0) (first-at-member _ v _ (picked .0) found) .1;
+    fits = its-fit;
+    allowed = allowed;
+    step = held .1;
+    inside = reaches-in-layer (j .line) _ _ _ _ s (claim .end) (inside .count) lands;
+    value = claim .adds .0;
+    least-is = claim .adds .1;
+    rest = rw (picked .2) (claim .rest);
+  }

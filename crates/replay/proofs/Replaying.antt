@@ -40,11 +40,11 @@ before ls r = record { levels = ls ++ r .levels; result = r .result }
 unfoldable pub plus : r.Totals → r.Totals → r.Totals
 plus a b = record { distortion = a .distortion + b .distortion; source = a .source + b .source; channel = a .channel + b .channel }
 
-totals-same : {a b c a′ b′ c′ : ℕ} → a ≡ a′ → b ≡ b′ → c ≡ c′ → _≡_ {A = r.Totals} (record { distortion = a; source = b; channel = c }) (record { distortion = a′; source = b′; channel = c′ })
+pub totals-same : {a b c a′ b′ c′ : ℕ} → a ≡ a′ → b ≡ b′ → c ≡ c′ → _≡_ {A = r.Totals} (record { distortion = a; source = b; channel = c }) (record { distortion = a′; source = b′; channel = c′ })
 totals-same p q z = cc
 
 -- two numbers written behind what is written
-two-set : (w l : List ℕ) (p a b : ℕ) → length w ≡ p → p + 2 ≤ length l → set (set (w ++ drop p l) p a) (p + 1) b ≡ (w ++ (a ∷ b ∷ [])) ++ drop (p + 2) l
+pub two-set : (w l : List ℕ) (p a b : ℕ) → length w ≡ p → p + 2 ≤ length l → set (set (w ++ drop p l) p a) (p + 1) b ≡ (w ++ (a ∷ b ∷ [])) ++ drop (p + 2) l
 two-set w l p a b e h =
     let k : suc (suc p) ≡ p + 2 = omega arith in
     let d : drop p l ≡ getD l p 0 ∷ getD l (suc p) 0 ∷ drop (p + 2) l = drop-cons l p 0 (omega arith) ∙ ap (λ (t : List ℕ). getD l p 0 ∷ t) (drop-cons l (suc p) 0 (omega arith) ∙ ap (λ (n : ℕ). getD l (suc p) 0 ∷ drop n l) k) in

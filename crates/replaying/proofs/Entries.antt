@@ -92,6 +92,11 @@ unfolding entry-bytes
 bytes-size [] = refl
 bytes-size (e ∷ p) = let ih = bytes-size p in omega arith
 
+pub bytes-more : (p : List Entry) (e : Entry) → entry-bytes (p ++ (e ∷ [])) ≡ entry-bytes p ++ (e .rate ∷ choice-byte (e .choice) ∷ [])
+unfolding entry-bytes
+bytes-more [] e = refl
+bytes-more (x ∷ p) e = ap (λ (l : List ℕ). x .rate ∷ choice-byte (x .choice) ∷ l) (bytes-more p e)
+
 module _ (j : Job) (few : j .choices ≤ 255) where
   choice-back : {t : ℕ} {c : Option ℕ} → ChoiceFits j t c → choice-of (choice-byte c) ≡ c
   unfolding choice-byte

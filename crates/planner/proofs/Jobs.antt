@@ -1,0 +1,105 @@
+-- What was read of a job that opens is the job's: its line, and the choices of an interval.
+-- Assumes nothing.
+use Prim.Native.Nat.{ℕ, suc, _+_, _-_, _<_, _≤_}
+use mathlib.Core.Path.{_≡_, refl, sym, _∙_, ap}
+use mathlib.Core.Bool.{Bool, false}
+use mathlib.Core.List.{List, [], _∷_}
+use native.Mathlib.Omega.{arith}
+use lib.ListN.{length, getD, take}
+use borrow.Author.Tests.{le-leb, lt-leb}
+use Rattle.model.specs.If.{if_then_else_}
+use Rattle.model.specs.Job as model
+use Rattle.model.specs.Job.{codingAt, coding}
+use Rattle.model.specs.Pins.{PinMap, pinOf, pinAt}
+use Rattle.model.specs.Step.{violates, reaches, pin-held}
+use Rattle.model.specs.Admissible.{Violation}
+use Rattle.model.specs.Best.{entry, width}
+use Rattle.format.specs.Choices.{choice-of}
+use Rattle.format.specs.Places.{rate-at, coding-at}
+use Rattle.format.specs.JobBytes.{Header, job-in, Opens}
+use Rattle.format.proofs.Choices.{of-choice}
+use Rattle.format.proofs.Opened.{job-limits, looked-up, units-are, delay-is, rates-are, choices-are, decoder-is, bucket-is, buckets-are}
+use Rattle.job.specs.declared.Header as job
+use Rattle.job.specs.Answers.{plain}
+use Rattle.pinning.specs.State.{lines}
+use Rattle.pinning.proofs.Lines.{lines-at}
+use Rattle.planning.specs.Rule.{choice-in, allowed-in}
+use Rattle.planner.specs.declared.Choices.{Choices}
+use Rattle.planner.specs.Answers.{line-is, allowed-is, LineOf, NoChoices, UnitChoices, ChoicesOf}
+use Rattle.planner.proofs.Arrays.{Filled, filled-list}
+
+pub not-reached : (v : Violation) (s : model.Levels) → violates v ≡ reaches s → ⊥
+not-reached v s e = let z : _≡_ {A = ℕ} 0 1 = cc in omega arith
+
+-- the line, where the job's rates fill an array
+pub line-read : (b : List ℕ) (h : job.Header) (rates : List ℕ) → Opens b (plain h) → Filled 0 (rate-at b) 16 (h .rates) rates → LineOf b (plain h) (record { header = h; rates = rates })
+unfolding plain line-is
+line-read b h rates o f =
+    let n = rates-are b (plain h) o in
+    let most : h .rates ≤ 16 = omega (arith, n, job-limits b (plain h) o .rates) in
+    let r : take (h .rates) rates ≡ job-in b .line .rates = filled-list 0 (rate-at b) 16 (h .rates) rates (job-in b .line .rates) most f n (λ i l. looked-up b (plain h) o .rate i (omega (arith, n))) in
+    record {
+      header = refl;
+      is =
+          ap (λ (d : ℕ). record { decoder = d; buckets = record { size = h .bucket; drain = h .drain } ∷ []; rates = take (h .rates) rates }) (sym (decoder-is b (plain h) o))
+          ∙ ap (λ (ks : List model.Bucket). record { decoder = job-in b .line .decoder; buckets = ks; rates = take (h .rates) rates }) (sym (buckets-are b (plain h) o))
+          ∙ ap (λ (rs : List ℕ). record { decoder = job-in b .line .decoder; buckets = job-in b .line .buckets; rates = rs }) r;
+      fits = record {
+        decoder = omega (arith, decoder-is b (plain h) o, job-limits b (plain h) o .decoder);
+        bucket = omega (arith, bucket-is b (plain h) o, job-limits b (plain h) o .bucket);
+        rates = most;
+        size = f .size-is;
+      };
+    }
+
+-- a unit's choices, where they fill three arrays
+pub unit-read : (b : List ℕ) (h : Header) (unit pin : ℕ) (allowed : List Bool) (sizes distortions : List ℕ) → Filled false (λ x. pin-held (choice-of pin) (choice-of x)) 31 (h .choices) allowed → Filled 0 (λ x. coding-at b h unit x .size) 31 (h .choices) sizes → Filled 0 (λ x. coding-at b h unit x .distortion) 31 (h .choices) distortions → UnitChoices b h unit pin (record { count = h .choices; allowed = allowed; sizes = sizes; distortions = distortions })
+unfolding allowed-is coding-at
+unit-read b h unit pin allowed sizes distortions a s d = record {
+  count = refl;
+  each = λ x l. rw (a .each x l, s .each x l, d .each x l);
+  distortion = d .each;
+  allowed-size = a .size-is;
+  sizes-size = s .size-is;
+  distortions-size = d .size-is;
+}
+
+-- the interval of a place up to the delay, and of one after it
+pub none-chosen : (j : model.Job) (m : PinMap) (place : ℕ) (c : Choices) → place < j .delay → NoChoices c → ChoicesOf j m place c
+unfolding width allowed-in choice-in entry pinAt pin-held coding if_then_else_
+none-chosen j m place c l n =
+    let e = le-leb (suc place) (j .delay) (omega arith) in
+    record {
+      count = rw e (n .count);
+      each = λ x k. let q : x ≡ 0 = omega (arith, n .count) in rw (q, e) (n .each);
+      fits = n .fits;
+    }
+
+pub unit-chosen : (b : List ℕ) (h : Header) (pins : List ℕ) (place : ℕ) (c : Choices) → Opens b h → length pins ≡ 512 → h .delay ≤ place → place < h .units + h .delay → UnitChoices b h (place - h .delay + 1) (getD pins (place - h .delay) 0) c → ChoicesOf (job-in b) (lines (h .units) pins) place c
+unfolding width allowed-in choice-in entry pinAt pinOf coding if_then_else_
+unit-chosen b h pins place c o n l k u =
+    let d = delay-is b h o in
+    let us = units-are b h o in
+    let ms = choices-are b h o in
+    let g = job-limits b h o in
+    let t = lt-leb (suc place) (job-in b .delay) (omega arith) in
+    let at = place - h .delay in
+    let unit : (1 ≤ at + 1) × (at + 1 ≤ length (job-in b .units)) = (omega arith, omega arith) in
+    let coded : (x : ℕ) → x < h .choices → coding-at b h (at + 1) x ≡ codingAt (job-in b) (at + 1 - 1) x = λ x y. ap (λ (i : Header). coding-at b i (at + 1) x) (sym (o .header-is)) ∙ looked-up b h o .coding (at + 1) x (unit .0) (unit .1) (omega arith) in
+    let pin-place : suc place - job-in b .delay - 1 ≡ at = omega arith in
+    let unit-place : suc place - (job-in b .delay + 1) ≡ at + 1 - 1 = omega arith in
+    record {
+      count = rw t (u .count ∙ sym ms);
+      each = λ x y.
+          let z : x < h .choices = omega (arith, u .count) in
+          rw (t, pin-place, unit-place, lines-at (h .units) pins at (omega (arith, g .units)) (omega arith), ← coded x z, ← of-choice x (λ q. omega (arith, g .choices))) (u .each x z);
+      fits = record {
+        count = omega (arith, u .count, g .choices);
+        allowed-size = u .allowed-size;
+        sizes-size = u .sizes-size;
+        distortions-size = u .distortions-size;
+        small = λ x y.
+            let z : x < h .choices = omega (arith, u .count) in
+            rw (u .distortion x z, coded x z) (g .distortions (at + 1 - 1) x (omega arith) (omega arith));
+      };
+    }

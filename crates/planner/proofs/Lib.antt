@@ -1,0 +1,13 @@
+-- Laws that belong to no one function.
+pub mod Sizes
+pub mod Offers
+pub mod Least
+pub mod Layers
+pub mod Searching
+pub mod Arrays
+pub mod Jobs
+pub mod Places
+pub mod Moves
+pub mod Plans
+pub mod Tabling
+pub mod Answering

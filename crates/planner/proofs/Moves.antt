@@ -1,0 +1,167 @@
+-- The entry that is read off the table in a place is the first of the best plan, with what it does and where it leads.
+-- Assumes nothing.
+use Prim.Native.Nat.{ℕ, suc, _+_, _<_, _≤_}
+use mathlib.Core.Path.{_≡_, refl, sym, _∙_, ap}
+use mathlib.Core.Bool.{Bool, true, false}
+use mathlib.Core.Option.{none, some, Option·some-injective, Option·none-ne-some}
+use mathlib.Core.List.{List, [], _∷_}
+use native.Mathlib.Nat.{mul-le-mul-right}
+use native.Mathlib.Omega.{arith}
+use lib.ListN.{length, getD}
+use lib.Seq.{getD-take}
+use Rattle.trellis.specs.Pairs.{Pair, pair}
+use Rattle.trellis.specs.Table.{first-at}
+use Rattle.model.specs.If.{if_then_else_}
+use Rattle.model.specs.Job as model
+use Rattle.model.specs.Job.{Coding, intervals, coding, sends, takes, distorts}
+use Rattle.model.specs.Step.{reaches, outcome-of}
+use Rattle.model.specs.Best.{late, pairs, entry, reached}
+use Rattle.model.specs.Table.{layerWords, words, layerOf, wordIn, IsTable}
+use Rattle.format.specs.Choices.{choice-of}
+use Rattle.format.specs.JobBytes.{job-in}
+use Rattle.format.specs.JobBytes as format
+use Rattle.format.proofs.Bounds.{CodingKept, coding-within, bounded}
+use Rattle.format.proofs.Opened.{job-formed, job-limits, delay-is, intervals-are, few-intervals}
+use Rattle.job.specs.declared.Header.{Header}
+use Rattle.job.specs.Answers.{plain}
+use Rattle.pinning.specs.State.{lines}
+use Rattle.replay.specs.declared.Levels.{Levels}
+use Rattle.replay.specs.declared.Interval.{Interval}
+use Rattle.replay.specs.Answers.{levels-of, line-of}
+use Rattle.planning.specs.Rule.{pair-offer, allowed-in}
+use Rattle.planning.proofs.Offers.{first-offer-cong}
+use Rattle.planning.proofs.Layers.{layers-table}
+use Rattle.planning.proofs.Reading.{FirstPair, first-pair, here-is}
+use Rattle.planner.specs.declared.Line.{Line}
+use Rattle.planner.specs.declared.Choices.{Choices}
+use Rattle.planner.specs.Answers.{line-is, allowed-is, ChoicesOf, Starts, Layered, IntervalOf, step-of, Reached, chosen, Tabled, Standing, BestMove}
+use Rattle.planner.proofs.Sizes.{rates-count}
+use Rattle.planner.proofs.Offers.{line-steps}
+
+-- a choice that is left open has its coding's size and distortion
+open-coding : (c : Choices) (x : ℕ) (k : Coding) → allowed-is c x ≡ some k → (getD (c .sizes) x 0 ≡ k .size) × (getD (c .distortions) x 0 ≡ k .distortion)
+unfolding allowed-is if_then_else_
+open-coding c x k e = go (getD (c .allowed) x false) e
+  where
+    go : (t : Bool) → (if t then some (record { size = getD (c .sizes) x 0; distortion = getD (c .distortions) x 0 }) else none) ≡ some k → (getD (c .sizes) x 0 ≡ k .size) × (getD (c .distortions) x 0 ≡ k .distortion)
+    go true r = let q = Option·some-injective _ k r in (ap (λ (y : Coding). y .size) q, ap (λ (y : Coding). y .distortion) q)
+    go false r = absurd (Option·none-ne-some k r)
+
+-- a rate of a line
+rate-is : (l : Line) (y : ℕ) → y < l .header .rates → getD (l .rates) y 0 ≡ getD (line-is l .rates) y 0
+unfolding line-is
+rate-is l y h = sym (getD-take (l .header .rates) (l .rates) y 0 h)
+
+-- steps that reach levels reach one
+one-end : (s u : model.Levels) → reaches s ≡ reaches u → s ≡ u
+unfolding reached
+one-end s u e = Option·some-injective s u (ap reached e)
+
+module _ (b : List ℕ) (h : Header) (l : Line) (pins table : List ℕ) (place : ℕ) (at : Levels) (st : Starts b (plain h) l pins) (tab : Tabled (job-in b) (lines (h .units) pins) table) (k : place < h .units + h .delay) (s : Standing (job-in b) (lines (h .units) pins) place (levels-of at)) where
+  before-end : place < intervals (job-in b)
+  unfolding plain
+  before-end = omega (arith, intervals-are b (plain h) (st .opens))
+
+  is-table : IsTable (job-in b) (lines (h .units) pins) table
+  is-table = layers-table (job-in b) (lines (h .units) pins) table (tab .enough) (tab .layers)
+
+  -- the first pair that attains the word of the levels, in the job's own terms
+  first : FirstPair (job-in b) (lines (h .units) pins) table place (levels-of at) (s .value)
+  first = first-pair (job-in b) (lines (h .units) pins) table place (levels-of at) (s .value) (bounded (job-in b) (job-formed b (plain h) (st .opens))) is-table before-end (s .inside) (s .least-is)
+
+  word-here : wordIn (job-in b .line) (layerOf (job-in b .line) table place) (levels-of at) ≡ s .value
+  word-here = here-is (job-in b) (lines (h .units) pins) table place (levels-of at) (s .value) (bounded (job-in b) (job-formed b (plain h) (st .opens))) is-table before-end (s .inside) (s .least-is)
+
+  -- with the choices of the interval
+  module _ (c : Choices) (ch : ChoicesOf (job-in b) (lines (h .units) pins) place c) where
+    -- the same, in the terms of the code
+    abbrev First : Pair → Type 0
+    First a = first-at (pair-offer (line-is l) (allowed-is c) (wordIn (line-is l) (layerOf (line-is l) table (suc place))) (levels-of at)) (wordIn (line-is l) (layerOf (line-is l) table place) (levels-of at)) (pairs late (length (line-is l .rates)) (c .count)) ≡ some a
+
+    move-first : First (first .pick)
+    move-first =
+        rw (st .line .is, word-here)
+        (first-offer-cong (job-in b .line) (c .count) (allowed-is c) (allowed-in (job-in b) (lines (h .units) pins) (suc place)) (wordIn (job-in b .line) (layerOf (job-in b .line) table (suc place))) (wordIn (job-in b .line) (layerOf (job-in b .line) table (suc place))) (levels-of at) (s .inside) (ch .each) (λ u i. refl) (s .value)
+        ∙ rw (ch .count) (first .first))
+
+    -- what is asked of a search for it
+    pub layered : Layered table l c place (levels-of at)
+    unfolding plain words
+    layered = record {
+      line = st .line .fits;
+      choices = ch .fits;
+      few = omega (arith, few-intervals b (plain h) (st .opens));
+      room = rw (st .line .is) (omega (arith, tab .enough, mul-le-mul-right {m = place + 2} {n = intervals (job-in b) + 1} (layerWords (job-in b .line)) (omega (arith, before-end))));
+      inside = rw (st .line .is) (s .inside);
+      attained = record { pick = first .pick; first = move-first };
+    }
+
+    -- the pair that is found
+    module _ (rate choice : ℕ) (found : First (pair rate choice)) where
+      is-pick : first .pick ≡ pair rate choice
+      is-pick = Option·some-injective (first .pick) (pair rate choice) (sym move-first ∙ found)
+
+      outer-is : first .pick .outer ≡ rate
+      outer-is = ap (λ (p : Pair). p .outer) is-pick
+
+      inner-is : first .pick .inner ≡ choice
+      inner-is = ap (λ (p : Pair). p .inner) is-pick
+
+      pub rate-below : rate < l .header .rates
+      unfolding entry
+      rate-below = rw (← rates-count l (st .line .fits), st .line .is, ← outer-is) (first .fits .rate)
+
+      pub choice-below : choice < 31
+      choice-below = omega (arith, inner-is, first .inner, ch .count, ch .fits .count)
+
+      abbrev e : model.Entry
+      e = entry (job-in b) (suc place) (first .pick)
+
+      sent-is : getD (l .rates) rate 0 ≡ sends (job-in b) e
+      unfolding sends entry
+      sent-is = rate-is l rate rate-below ∙ rw (st .line .is, outer-is)
+
+      coding-is : (getD (c .sizes) choice 0 ≡ takes (job-in b) (suc place) e) × (getD (c .distortions) choice 0 ≡ distorts (job-in b) (suc place) e)
+      unfolding takes distorts
+      coding-is = rw (← inner-is) (open-coding c (first .pick .inner) _ (ch .each (first .pick .inner) (omega (arith, first .inner, ch .count)) ∙ first .allowed))
+
+      sent-most : sends (job-in b) e ≤ 4095
+      unfolding sends
+      sent-most = job-limits b (plain h) (st .opens) .rate (e .rate) (first .fits .rate)
+
+      coding-most : (takes (job-in b) (suc place) e ≤ 4095) × (distorts (job-in b) (suc place) e ≤ 1000000)
+      unfolding takes distorts
+      coding-most =
+          let w : CodingKept (coding (job-in b) (suc place) (e .choice)) = coding-within (job-in b) (job-limits b (plain h) (st .opens)) (suc place) (omega (arith, before-end)) (e .choice) (first .fits .choice) in
+          (w .size, w .distortion)
+
+      choice-is : (byte : ℕ) → choice-of byte ≡ chosen (plain h) place choice → e .choice ≡ choice-of byte
+      unfolding entry chosen
+      choice-is byte q = rw (delay-is b (plain h) (st .opens), inner-is) (sym q)
+
+      module _ (x : Interval) (is : IntervalOf c (getD (l .rates) rate 0) choice x) where
+        -- the step of the job's header is that of its line
+        header-steps : step-of h at x ≡ step-of (l .header) at x
+        unfolding step-of
+        header-steps = ap (λ (g : format.Header). outcome-of (line-of g) (choice-of (x .pin)) (choice-of (x .choice)) (at .decoder) (at .bucket ∷ []) (x .sent) (x .size)) (sym (st .line .header))
+
+        lands : step-of h at x ≡ reaches (first .end)
+        lands = header-steps ∙ line-steps l c at (getD (l .rates) rate 0) choice x is ∙ rw (st .line .is, sent-is, coding-is .0) (first .step)
+
+        pub reached-end : Reached h at x
+        reached-end = record { end = first .end; is = lands }
+
+        pub best-move : (byte : ℕ) (to : Levels) → choice-of byte ≡ chosen (plain h) place choice → step-of h at x ≡ reaches (levels-of to) → BestMove (job-in b) (lines (h .units) pins) place (levels-of at) (record { rate = rate; choice = byte; interval = x; to = to })
+        best-move byte to q r =
+            let to-is : levels-of to ≡ first .end = one-end (levels-of to) (first .end) (sym r ∙ lands) in
+            record {
+              entry = e;
+              rate = unfold entry in outer-is;
+              choice = choice-is byte q;
+              sent = is .sent-is ∙ sent-is;
+              size = is .size-is ∙ coding-is .0;
+              distortion = is .distortion-is ∙ coding-is .1;
+              limits = (omega (arith, is .sent-is, sent-is, sent-most), omega (arith, is .size-is, coding-is, coding-most), omega (arith, is .distortion-is, coding-is, coding-most));
+              ends = rw to-is (record { inside = first .inside; value = first .value; least-is = first .least-is });
+              rest = rw to-is (first .rest);
+            }

@@ -1,0 +1,80 @@
+use Rattle.planner.proofs.Moves.{layered, rate-below, choice-below, reached-end, best-move}
+use native.Mathlib.Omega.{arith}
+use borrow.Author.Needs.{needs}
+use Rattle.planner.proofs.best_move.Statement.{statement}
+use Rattle.planner.proofs.best_move.Tie as tie
+
+choices-in-requires : tie.Need-choices-in-requires
+choices-in-requires c κs = search needs
+
+best-entry-requires : tie.Need-best-entry-requires
+best-entry-requires c κs =
+    let a = c .before .before .before in
+    layered _ _ _ _ _ _ _ (a .pre .0) (a .pre .1) (a .pre .2) (a .pre .3) _ (c .choices-in .ensures)
+
+mul-interval-of : tie.Need-mul-interval-of
+mul-interval-of c =
+    let i = c .before in
+    let a = i .before .before .before in
+    let l = rate-below _ _ _ _ _ _ _ (a .pre .0) (a .pre .1) (a .pre .2) (a .pre .3) _ (i .choices-in .ensures) _ _ (c .best-entry .ensures) in
+    record { fits = omega (arith, a .pre .0 .line .fits .rates) }
+
+element-copy-out-interval-of : tie.Need-element-copy-out-interval-of
+element-copy-out-interval-of c =
+    let i = c .before in
+    let a = i .before .before .before in
+    let l = rate-below _ _ _ _ _ _ _ (a .pre .0) (a .pre .1) (a .pre .2) (a .pre .3) _ (i .choices-in .ensures) _ _ (c .best-entry .ensures) in
+    omega (arith, a .pre .0 .line .fits .rates)
+
+interval-of-requires : tie.Need-interval-of-requires
+interval-of-requires c κs =
+    let e = c .before in
+    let i = e .before in
+    let a = i .before .before .before in
+    choice-below _ _ _ _ _ _ _ (a .pre .0) (a .pre .1) (a .pre .2) (a .pre .3) _ (i .choices-in .ensures) _ _ (e .best-entry .ensures)
+
+cast-t19 : tie.Need-cast-t19
+cast-t19 c =
+    let e = c .before .before in
+    let i = e .before in
+    let a = i .before .before .before in
+    let l = rate-below _ _ _ _ _ _ _ (a .pre .0) (a .pre .1) (a .pre .2) (a .pre .3) _ (i .choices-in .ensures) _ _ (e .best-entry .ensures) in
+    record { fits = omega (arith, a .pre .0 .line .fits .rates) }
+
+choice-byte-requires : tie.Need-choice-byte-requires
+choice-byte-requires c κs =
+    let e = c .before .before in
+    let i = e .before in
+    let a = i .before .before .before in
+    choice-below _ _ _ _ _ _ _ (a .pre .0) (a .pre .1) (a .pre .2) (a .pre .3) _ (i .choices-in .ensures) _ _ (e .best-entry .ensures)
+
+levels-after-requires : tie.Need-levels-after-requires
+levels-after-requires c κs =
+    let x = c .before in
+    let e = x .before .before in
+    let i = e .before in
+    let a = i .before .before .before in
+    reached-end _ _ _ _ _ _ _ (a .pre .0) (a .pre .1) (a .pre .2) (a .pre .3) _ (i .choices-in .ensures) _ _ (e .best-entry .ensures) _ (x .interval-of .ensures)
+
+returns : tie.Need-returns
+returns c =
+    let d = c .before in
+    let x = d .before in
+    let e = x .before .before in
+    let i = e .before in
+    let a = i .before .before .before in
+    best-move _ _ _ _ _ _ _ (a .pre .0) (a .pre .1) (a .pre .2) (a .pre .3) _ (i .choices-in .ensures) _ _ (e .best-entry .ensures) _ (x .interval-of .ensures) _ _ (d .choice-byte .ensures) (c .levels-after .ensures)
+
+pub best-move-spec : {M : Type 1} → statement M
+best-move-spec =
+    tie.close
+    (tie.spec
+    choices-in-requires
+    best-entry-requires
+    mul-interval-of
+    element-copy-out-interval-of
+    interval-of-requires
+    cast-t19
+    choice-byte-requires
+    levels-after-requires
+    returns)

@@ -1,0 +1,181 @@
+-- What the structs and answers of this crate mean in the terms of `model` and `planning`, case by case, and what its private functions say and ask.
+-- Assumes nothing.
+use Prim.Native.Nat.{ℕ, suc, _+_, _*_, _<_, _≤_}
+use mathlib.Core.Path.{_≡_}
+use mathlib.Core.Bool.{false}
+use mathlib.Core.Option.{Option, none, some}
+use mathlib.Core.List.{List, [], _∷_}
+use lib.Dec.{ltb}
+use lib.ListN.{length, getD, take}
+use Rattle.trellis.specs.Pairs.{Pair}
+use Rattle.trellis.specs.Table.{first-at}
+use Rattle.model.specs.If.{if_then_else_}
+use Rattle.model.specs.Answer.{Answer, refused, gives}
+use Rattle.model.specs.Job as model
+use Rattle.model.specs.Pins.{PinMap}
+use Rattle.model.specs.Step.{Outcome, reaches, pin-held, outcome-of}
+use Rattle.model.specs.Replay as model-replay
+use Rattle.model.specs.Best.{late, pairs, width, least-total, best-plan}
+use Rattle.model.specs.Table.{InLayer, layerWords, words, layerOf, wordIn}
+use Rattle.format.specs.Choices.{no-choice, choice-of}
+use Rattle.format.specs.Places.{coding-at}
+use Rattle.format.specs.JobBytes.{job-in, Opens}
+use Rattle.format.specs.JobBytes as format
+use Rattle.job.specs.declared.Header.{Header}
+use Rattle.job.specs.Answers.{plain}
+use Rattle.replay.specs.declared.Totals.{Totals}
+use Rattle.replay.specs.declared.Levels.{Levels}
+use Rattle.replay.specs.declared.Interval.{Interval}
+use Rattle.replay.specs.Answers.{levels-of, totals-of, line-of}
+use Rattle.replaying.specs.Entries.{entry-bytes}
+use Rattle.replaying.specs.Calls.{over}
+use Rattle.planning.specs.Rule.{Allowed, pair-offer, allowed-in}
+use Rattle.planning.specs.Words.{layer}
+use Rattle.planning.specs.Calls as calls
+use Rattle.planner.specs.declared.Planned.{Planned}
+use Rattle.planner.specs.declared.Planned.the-variants as p
+use Rattle.planner.specs.declared.Line.{Line}
+use Rattle.planner.specs.declared.Choices.{Choices}
+use Rattle.planner.specs.declared.Move.{Move}
+
+-- the answer of planning, and the lists that were lent
+unfoldable pub answered : Planned → Answer model-replay.Totals
+answered (p.Best t) = gives (totals-of t)
+answered (p.Refused n) = refused n
+
+unfoldable pub planned : Planned → List ℕ → List ℕ → calls.Planned
+planned x table entries = record { answer = answered x; table = table; entries = entries }
+
+-- a line of one bucket
+unfoldable pub line-is : Line → model.Line
+line-is l = record {
+  decoder = l .header .decoder;
+  buckets = record { size = l .header .bucket; drain = l .header .drain } ∷ [];
+  rates = take (l .header .rates) (l .rates);
+}
+
+-- the codings of an interval, those that its pin leaves open
+unfoldable pub allowed-is : Choices → Allowed
+allowed-is c x = if getD (c .allowed) x false then some (record { size = getD (c .sizes) x 0; distortion = getD (c .distortions) x 0 }) else none
+
+-- (T + 1) × (D + 1) × (K + 1)
+unfoldable pub table-words : format.Header → ℕ
+table-words h = (h .units + h .delay + 1) * (h .decoder + 1) * (h .bucket + 1)
+
+-- What the private functions say and ask.
+
+-- document 01's limits of a line, and its array of rates
+pub record LineFits (l : Line) : Type 0 where
+  pub decoder : l .header .decoder ≤ 255
+  pub bucket : l .header .bucket ≤ 255
+  pub rates : l .header .rates ≤ 16
+  pub size : length (l .rates) ≡ 16
+
+-- and of an interval's choices
+pub record ChoicesFit (c : Choices) : Type 0 where
+  pub count : c .count ≤ 31
+  pub allowed-size : length (c .allowed) ≡ 31
+  pub sizes-size : length (c .sizes) ≡ 31
+  pub distortions-size : length (c .distortions) ≡ 31
+  pub small : (x : ℕ) → x < c .count → getD (c .distortions) x 0 ≤ 1000000
+
+-- a whole next layer, for offers
+pub record Offers (next : List ℕ) (l : Line) (c : Choices) : Type 0 where
+  pub line : LineFits l
+  pub choices : ChoicesFit c
+  pub whole : length next ≡ layerWords (line-is l)
+
+-- some pair attains the word
+pub record Attained (line : model.Line) (n : ℕ) (allowed : Allowed) (next : List ℕ) (s : model.Levels) (word : ℕ) : Type 0 where
+  pub pick : Pair
+  pub first : first-at (pair-offer line allowed (wordIn line next) s) word (pairs late (length (line .rates)) n) ≡ some pick
+
+-- the line of the job that stands in bytes with this header
+pub record LineOf (b : List ℕ) (h : format.Header) (l : Line) : Type 0 where
+  pub header : plain (l .header) ≡ h
+  pub is : line-is l ≡ job-in b .line
+  pub fits : LineFits l
+
+-- one choice, which decodes nothing
+pub record NoChoices (c : Choices) : Type 0 where
+  pub count : c .count ≡ 1
+  pub each : allowed-is c 0 ≡ some model.nothing
+  pub fits : ChoicesFit c
+
+-- the choices of a unit as they stand in the bytes, with a pin byte
+pub record UnitChoices (b : List ℕ) (h : format.Header) (unit pin : ℕ) (c : Choices) : Type 0 where
+  pub count : c .count ≡ h .choices
+  pub each : (x : ℕ) → x < h .choices → allowed-is c x ≡ (if pin-held (choice-of pin) (choice-of x) then some (coding-at b h unit x) else none)
+  pub distortion : (x : ℕ) → x < h .choices → getD (c .distortions) x 0 ≡ coding-at b h unit x .distortion
+  pub allowed-size : length (c .allowed) ≡ 31
+  pub sizes-size : length (c .sizes) ≡ 31
+  pub distortions-size : length (c .distortions) ≡ 31
+
+-- the choices of the interval in a place
+pub record ChoicesOf (j : model.Job) (m : PinMap) (place : ℕ) (c : Choices) : Type 0 where
+  pub count : c .count ≡ width j (suc place)
+  pub each : (x : ℕ) → x < c .count → allowed-is c x ≡ allowed-in j m (suc place) x
+  pub fits : ChoicesFit c
+
+-- the bytes of a job, its line and the pins of a set
+pub record Starts (b : List ℕ) (h : format.Header) (l : Line) (pins : List ℕ) : Type 0 where
+  pub opens : Opens b h
+  pub line : LineOf b h l
+  pub pins-size : length pins ≡ 512
+
+-- the layers on both sides of an interval, and levels whose word an entry attains
+pub record Layered (table : List ℕ) (l : Line) (c : Choices) (place : ℕ) (s : model.Levels) : Type 0 where
+  pub line : LineFits l
+  pub choices : ChoicesFit c
+  pub few : place < 600
+  pub room : (place + 2) * layerWords (line-is l) ≤ length table
+  pub inside : InLayer (line-is l) s
+  pub attained : Attained (line-is l) (c .count) (allowed-is c) (layerOf (line-is l) table (suc place)) s (wordIn (line-is l) (layerOf (line-is l) table place) s)
+
+-- what an interval does that sends so much and makes this choice
+pub record IntervalOf (c : Choices) (sent choice : ℕ) (x : Interval) : Type 0 where
+  pub sent-is : x .sent ≡ sent
+  pub size-is : x .size ≡ getD (c .sizes) choice 0
+  pub distortion-is : x .distortion ≡ getD (c .distortions) choice 0
+  pub no-pin : x .pin ≡ no-choice
+  pub no-unit : x .choice ≡ no-choice
+
+-- where an interval leads
+unfoldable pub step-of : Header → Levels → Interval → Outcome
+step-of h at x = outcome-of (line-of (plain h)) (choice-of (x .pin)) (choice-of (x .choice)) (at .decoder) (at .bucket ∷ []) (x .sent) (x .size)
+
+pub record Reached (h : Header) (at : Levels) (x : Interval) : Type 0 where
+  pub end : model.Levels
+  pub is : step-of h at x ≡ reaches end
+
+-- the choice of an entry in a place
+unfoldable pub chosen : format.Header → ℕ → ℕ → Option ℕ
+chosen h place x = if ltb place (h .delay) then none else some x
+
+-- the table is filled
+pub record Tabled (j : model.Job) (m : PinMap) (table : List ℕ) : Type 0 where
+  pub enough : words j ≤ length table
+  pub layers : (t : ℕ) → t ≤ model.intervals j → layerOf (j .line) table t ≡ layer j m t
+
+-- levels in a layer from which the rest can be completed
+pub record Standing (j : model.Job) (m : PinMap) (t : ℕ) (s : model.Levels) : Type 0 where
+  pub inside : InLayer (j .line) s
+  pub value : ℕ
+  pub least-is : least-total j m t s ≡ some value
+
+-- the first entry of the best plan from these levels, with what it does and where it leads
+pub record BestMove (j : model.Job) (m : PinMap) (place : ℕ) (s : model.Levels) (x : Move) : Type 0 where
+  pub entry : model.Entry
+  pub rate : entry .rate ≡ x .rate
+  pub choice : entry .choice ≡ choice-of (x .choice)
+  pub sent : x .interval .sent ≡ model.sends j entry
+  pub size : x .interval .size ≡ model.takes j (suc place) entry
+  pub distortion : x .interval .distortion ≡ model.distorts j (suc place) entry
+  pub limits : (x .interval .sent ≤ 4095) × (x .interval .size ≤ 4095) × (x .interval .distortion ≤ 1000000)
+  pub ends : Standing j m (suc place) (levels-of (x .to))
+  pub rest : best-plan j m place s late ≡ entry ∷ best-plan j m (suc place) (levels-of (x .to)) late
+
+-- the best plan, written over the first entries, and its totals
+pub record PlanRead (j : model.Job) (m : PinMap) (old : List ℕ) (t : Totals) (new : List ℕ) : Type 0 where
+  pub totals-are : totals-of t ≡ model-replay.totals j 0 (best-plan j m 0 (j .start) late)
+  pub written : new ≡ over (entry-bytes (best-plan j m 0 (j .start) late)) old
