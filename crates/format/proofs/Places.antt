@@ -1,4 +1,4 @@
--- What stands where in the bytes of a job that opens, and that it is within its limits: `LooksUp` and `WellRead`.
+-- What stands where in the bytes of a job that opens, and that it is within its limits: `LooksUp` and `WellRead`; and that it takes no more bytes than there are.
 -- Assumes nothing.
 use Prim.Native.Nat.{ℕ, zero, suc, _+_, _*_, _-_, _≤_, _<_}
 use mathlib.Core.Path.{_≡_, refl, sym, ap, _∙_}
@@ -225,3 +225,22 @@ looks-up b j n e =
       rate = λ y l. rate-here b j n t (header-in j) h y l;
       coding = λ u x o l k. coding-here b j n t (header-in j) h (u - 1) x (omega arith) k u refl;
     }
+
+-- what was read lies within the bytes
+many-within : {A : Type 0} (p : Parser A) → ((b : List ℕ) (a : A) (k : ℕ) → p b ≡ took a k → k ≤ length b) → (n : ℕ) (b : List ℕ) (xs : List A) (m : ℕ) → many n p b ≡ took xs m → m ≤ length b
+unfolding many
+many-within p w zero b xs m e = omega (arith, done-is [] b xs m e .1)
+many-within p w (suc n) b xs m e =
+    let t = many-is p n b xs m e in
+    let d = length-drop (t .size) b in
+    omega (arith, t .total-size, w b (t .value) (t .size) (t .first), many-within p w n (drop (t .size) b) (t .values) (t .sizes) (t .others))
+
+unit-within : (m : ℕ) (b : List ℕ) (cs : List Coding) (n : ℕ) → unit-parser m b ≡ took cs n → n ≤ length b
+unit-within m b cs n e = let t = unit-is m b cs n e .taken in omega (arith, t .there, t .size)
+
+pub read-within : (b : List ℕ) (j : Job) (n : ℕ) → parse b ≡ took j n → n ≤ length b
+read-within b j n e =
+    let t = parse-is b j n e in
+    let start = header-size + rates-size (t .header .rates) in
+    let u = many-within (unit-parser (t .header .choices)) (unit-within (t .header .choices)) (t .header .units) (drop start b) (t .units) (t .sizes) (t .units-taken) in
+    omega (arith, t .size, rates-room b j n t (t .header) refl, u, length-drop start b)

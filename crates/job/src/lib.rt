@@ -363,7 +363,7 @@ pub fn read(job: &[u8]) -> Reading
 }
 
 // The field of two bytes at a place, 0 where the bytes end before it does.
-fn field16(s: &[u8], at: usize) -> u16
+pub fn field16(s: &[u8], at: usize) -> u16
     ensures { λ r. ⌜ r ≡ field-at 2 (now (s .entry)) at ⌝ }
 {
     if s.len() < 2 {

@@ -1,7 +1,7 @@
 -- Where the layers on both sides of an interval stand in a table, and what is read of them.
 -- Assumes nothing.
 use Prim.Native.Nat.{ℕ, suc, _+_, _*_, _-_, _<_, _≤_}
-use mathlib.Core.Path.{_≡_, sym, _∙_}
+use mathlib.Core.Path.{_≡_}
 use mathlib.Core.Option.{some}
 use mathlib.Core.List.{List}
 use native.Mathlib.Nat.{add-mul, one-mul, two-mul, mul-le-mul}
@@ -12,7 +12,7 @@ use lib.Seq.{length-take-le}
 use Rattle.trellis.specs.Pairs.{Pair}
 use Rattle.trellis.specs.Table.{first-at}
 use Rattle.model.specs.Job.{Levels}
-use Rattle.model.specs.Table.{InLayer, layerWords, tops, flat, layerOf, wordIn}
+use Rattle.model.specs.Table.{layerWords, tops, flat, layerOf, wordIn}
 use Rattle.model.specs.Table as table
 use Rattle.model.proofs.Layers.{word-is}
 use Rattle.model.proofs.Places.{layer-each, place-below}

@@ -6,7 +6,7 @@ use mathlib.Core.List.{List, [], _++_, append-assoc, append-nil}
 use native.Mathlib.Decide.{decLt}
 use native.Mathlib.Nat.{suc-mul, zero-mul, add-mul, one-mul, mul-le-mul-right}
 use native.Mathlib.Omega.{arith}
-use lib.ListN.{length, getD, take, drop, replicate, length-append, length-drop, length-replicate, getD-replicate, take-append-drop, drop-of-length-le}
+use lib.ListN.{length, take, drop, replicate, length-append, length-drop, length-replicate, getD-replicate, take-append-drop, drop-of-length-le}
 use lib.Seq.{take-all, take-at, drop-at, drop-drop, take-take, length-take-le, take-append-le, ext-getD}
 use borrow.Rule.Slice.PartMut.{putMid}
 use Rattle.model.specs.Job.{Line, Job, intervals}
@@ -19,7 +19,7 @@ use Rattle.replaying.specs.Calls.{over}
 use Rattle.planning.specs.Rule.{Allowed, layer-from, allowed-in}
 use Rattle.planning.specs.Words.{layer, layers, table-of}
 use Rattle.planning.proofs.Offers.{layer-from-cong}
-use Rattle.planning.proofs.Layers.{layer-length, layers-length, layers-more, layer-last, layer-step, table-length}
+use Rattle.planning.proofs.Layers.{layer-length, layers-length, layers-more, layer-last, layer-step}
 
 -- the part that starts at a is all that is left of the list, and what comes back stands after the first a
 pub part-is : (a : ℕ) (w : List ℕ) → take (length w - a) (drop a w) ≡ drop a w

@@ -451,7 +451,7 @@ fn search(
 }
 
 // How many words the table of a job with this header has.
-fn table_words(header: Header) -> usize
+pub fn table_words(header: Header) -> usize
     ensures { λ r. ⌜ r ≡ table-words (plain header) ⌝ }
 {
     (replay::intervals(header) + 1) * (header.decoder as usize + 1) * (header.bucket as usize + 1)

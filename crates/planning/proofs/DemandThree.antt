@@ -1,34 +1,31 @@
 -- Every list of calls with the planning after it: `DemandThree`.
 -- Assumes nothing.
 use Prim.Native.Nat.{ℕ, _*_, _≤_}
-use mathlib.Core.Path.{_≡_, refl, sym, _∙_, ap}
+use mathlib.Core.Path.{_≡_, refl, _∙_}
 use mathlib.Core.Option.{Option, none, some}
 use mathlib.Core.List.{List}
 use native.Mathlib.Omega.{arith}
-use lib.ListN.{length, take, drop}
+use lib.ListN.{length, drop}
 use lib.Seq.{take-at}
 use borrow.Author.Tests.{le-ltb}
 use Rattle.model.specs.If.{if_then_else_}
-use Rattle.model.specs.Answer.{Answer, refused, gives}
 use Rattle.model.specs.Job.{Job, Entry, intervals}
 use Rattle.model.specs.Pins.{PinMap}
-use Rattle.model.specs.Admissible.{Admissible}
-use Rattle.model.specs.Replay.{Totals, totals}
 use Rattle.model.specs.Best.{late, least-total, best-plan}
 use Rattle.model.specs.Table.{words}
-use Rattle.model.specs.Claims.{PlanningClaim, BestOf}
+use Rattle.model.specs.Claims.{PlanningClaim}
 use Rattle.model.proofs.Answers.{not-refused}
 use Rattle.model.proofs.Walks.{fits-length}
 use Rattle.model.proofs.Planning.{planning}
 use Rattle.format.proofs.Bounds.{limited}
 use Rattle.format.proofs.Places.{well-read}
 use Rattle.pinning.proofs.History.{history}
-use Rattle.replaying.specs.Entries.{entry-size, plan-of, entry-bytes}
+use Rattle.replaying.specs.Entries.{entry-size, entry-bytes}
 use Rattle.replaying.specs.Calls.{over}
 use Rattle.replaying.proofs.Entries.{bytes-size, plan-back}
 use Rattle.replaying.proofs.Flat.{over-length, over-rest}
 use Rattle.planning.specs.Words.{table-of}
-use Rattle.planning.specs.Calls.{Planned, searched, search-in, plan-in, on-job, plan-call}
+use Rattle.planning.specs.Calls.{searched, search-in, plan-in, on-job, plan-call}
 use Rattle.planning.specs.Claims.{BestWritten, PlanClaim, DemandThree}
 use Rattle.planning.proofs.Layers.{table-length, over-table}
 

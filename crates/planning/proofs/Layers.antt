@@ -2,19 +2,19 @@
 -- Assumes nothing.
 use Prim.Native.Nat.{ℕ, zero, suc, _+_, _-_, _*_, _<_, _≤_}
 use mathlib.Core.Path.{_≡_, refl, sym, _∙_, ap}
-use mathlib.Core.List.{List, [], _++_, append-assoc, append-nil}
+use mathlib.Core.List.{List, _++_, append-assoc, append-nil}
 use native.Mathlib.Omega.{arith}
 use native.Mathlib.Nat.{suc-mul}
-use lib.ListN.{length, getD, take, drop, length-append}
+use lib.ListN.{length, take, drop, length-append}
 use lib.Seq.{take-at, drop-at, drop-drop}
-use Rattle.trellis.specs.Trellis.{least, stage}
+use Rattle.trellis.specs.Trellis.{least}
 use Rattle.trellis.specs.Table.{encode, Small, marked-stage}
 use Rattle.trellis.proofs.Tables.{marked-stage-encode}
 use Rattle.model.specs.Job.{Levels, Job, intervals}
 use Rattle.model.specs.Levels.{build}
 use Rattle.model.specs.Pins.{PinMap}
 use Rattle.model.specs.Best.{late, width, trellis-of, least-total}
-use Rattle.model.specs.Table.{mark, bound, tops, flat, place, layerWords, stateAt, words, wordAt, layerOf, wordIn, InLayer, IsTable, Bounded}
+use Rattle.model.specs.Table.{mark, bound, tops, flat, place, layerWords, stateAt, words, layerOf, wordIn, InLayer, IsTable, Bounded}
 use Rattle.model.proofs.Builds.{build-length, build-at, build-cong}
 use Rattle.model.proofs.Places.{layer-each, place-below, state-place, state-in-layer}
 use Rattle.model.proofs.Steps.{layer-closed}

@@ -4,4 +4,6 @@ pub mod Layers
 pub mod Reading
 pub mod DemandThree
 pub mod Refusals
+pub mod Sittings
+pub mod Commands
 pub mod Cases

@@ -4,11 +4,11 @@ use Prim.Native.Nat.{ℕ, suc, _+_, _<_}
 use mathlib.Core.Path.{_≡_, refl, sym, _∙_, ap}
 use mathlib.Core.Bool.{Bool, true, false}
 use mathlib.Core.Option.{Option, none, some, Option·map, Option·none-ne-some}
-use mathlib.Core.List.{List, List·Memᴰ}
+use mathlib.Core.List.{List}
 use lib.Dec.{leb}
 use lib.ListN.{length, getD}
 use Rattle.trellis.specs.Pairs.{Pair}
-use Rattle.trellis.specs.Table.{lowest, first-at, fare, marked-offer, marked-stage}
+use Rattle.trellis.specs.Table.{first-at, fare, marked-offer, marked-stage}
 use Rattle.trellis.proofs.Congruence.{lowest-cong, lowest-map, first-at-cong, first-at-map, fare-cong}
 use Rattle.model.specs.If.{if_then_else_}
 use Rattle.model.specs.Job.{Line, Coding, Levels, Job, coding, sends, takes, distorts}

@@ -1,7 +1,7 @@
 -- The best plan is read off a table by pairs: the first pair that offers a state's word by way of the next layer.
 -- Assumes nothing.
-use Prim.Native.Nat.{ℕ, suc, _+_, _<_, _≤_}
-use mathlib.Core.Path.{_≡_, refl, sym, _∙_, ap}
+use Prim.Native.Nat.{ℕ, suc, _<_}
+use mathlib.Core.Path.{_≡_, refl, sym, _∙_}
 use mathlib.Core.Bool.{true}
 use mathlib.Core.Option.{Option, none, some, Option·map, Option·some-injective, Option·none-ne-some}
 use mathlib.Core.List.{List, _∷_}
@@ -15,7 +15,7 @@ use Rattle.model.specs.Job.{Levels, Job, EntryFits, coding, sends, takes, inter
 use Rattle.model.specs.Pins.{PinMap, pinAt}
 use Rattle.model.specs.Step.{reaches, pin-held, outcome-of, outcome}
 use Rattle.model.specs.Best.{late, pairs, entry, width, entries, least-total, best-plan}
-use Rattle.model.specs.Table.{mark, InLayer, layerOf, wordAt, wordIn, IsTable, Bounded}
+use Rattle.model.specs.Table.{InLayer, layerOf, wordAt, wordIn, IsTable, Bounded}
 use Rattle.model.specs.Claims.{ReadOffClaim}
 use Rattle.model.proofs.Entries.{pairs-member, listed-fits}
 use Rattle.model.proofs.Steps.{reaches-in-layer}

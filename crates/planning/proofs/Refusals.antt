@@ -1,15 +1,14 @@
 -- In which order planning refuses, and what a refusal leaves: `Refusals`.
 -- Assumes nothing.
 use Prim.Native.Nat.{ℕ, _*_}
-use mathlib.Core.Path.{_≡_, refl, sym}
-use mathlib.Core.Bool.{Bool}
+use mathlib.Core.Path.{refl, sym}
 use mathlib.Core.Option.{Option, none, some}
 use mathlib.Core.List.{List}
 use lib.Dec.{ltb}
 use lib.ListN.{length}
 use borrow.Author.Tests.{lt-ltb, le-ltb}
 use Rattle.model.specs.If.{if_then_else_}
-use Rattle.model.specs.Answer.{refused, gives}
+use Rattle.model.specs.Answer.{refused}
 use Rattle.model.specs.Job.{Job, intervals}
 use Rattle.model.specs.Pins.{PinMap}
 use Rattle.model.specs.Best.{least-total}
@@ -25,7 +24,7 @@ use Rattle.planning.specs.Calls.{refuse, searched, search-in, on-job, pl
 use Rattle.planning.specs.Claims.{Keeping, Refusals}
 
 module _ (table entries : List ℕ) where
-  refuse-keeps : (n : ℕ) → Keeping table entries (refuse n table entries)
+  pub refuse-keeps : (n : ℕ) → Keeping table entries (refuse n table entries)
   unfolding refuse
   refuse-keeps n = record { entries-kept = λ k e. refl; table-kept = λ k e f. refl }
 

@@ -1,12 +1,14 @@
 -- What is claimed of planning: each claim is a type, which a theorem of proofs/ inhabits. The plans are judged by `Admissible`, which knows neither replay nor search.
 -- Assumes nothing.
-use Prim.Native.Nat.{ℕ, _*_, _<_, _≤_}
+use Prim.Native.Nat.{ℕ, _*_, _/_, _<_, _≤_}
 use mathlib.Core.Path.{_≡_}
 use mathlib.Core.Logic.{_↔_}
-use mathlib.Core.List.{List}
+use mathlib.Core.Option.{none, some}
+use mathlib.Core.List.{List, [], _∷_, map}
 use lib.ListN.{length, take, drop}
 use Rattle.model.specs.Answer.{refused, gives}
 use Rattle.model.specs.Job.{Job, Entry, intervals}
+use Rattle.model.specs.Pins as book
 use Rattle.model.specs.Pins.{PinMap, Call, no-pins, pins-after}
 use Rattle.model.specs.Admissible.{Admissible}
 use Rattle.model.specs.Replay.{totals}
@@ -20,7 +22,11 @@ use Rattle.pinning.specs.Check.{Matches}
 use Rattle.pinning.specs.Calls.{open-call, run}
 use Rattle.pinning.specs.Claims.{HistoryClaim}
 use Rattle.replaying.specs.Entries.{entry-size, entry-bytes, plan-of}
+use Rattle.replaying.specs.Calls.{over}
 use Rattle.planning.specs.Calls.{Planned, refuse, plan-call}
+use Rattle.planning.specs.Commands.{command, commands-call, calls-of, calls-refusal}
+use Rattle.planning.specs.Sittings as s
+use Rattle.planning.specs.Sittings.{answer-number, Sat, sitting-call, input-size, input-call}
 
 module _ (j : Job) (m : PinMap) (table entries : List ℕ) where
   -- the entries at exit begin with the bytes of a plan which is the best of the admissible ones; the answer has its totals, which are sums over the entries written; the rest of the list is as before
@@ -62,6 +68,48 @@ pub record Keeping (table entries : List ℕ) (r : Planned) : Type 0 where
   pub entries-kept : (n : ℕ) → r .answer ≡ refused n → r .entries ≡ entries
   pub table-kept : (n : ℕ) → r .answer ≡ refused n → (n ≡ 13 → ⊥) → r .table ≡ table
 
+-- a sitting with calls as numbers, from lists that are long enough
+pub record SittingClaim (j : Job) (calls : List Call) (answers table entries : List ℕ) (r : Sat) : Type 0 where
+  -- each call's number is written, as the book of document 01 answers it, and the rest of the list is as before
+  pub answered : r .answers ≡ over (map answer-number (book.answers (j .choices) (no-pins (length (j .units))) calls)) answers
+  pub planning : PlanClaim j (pins-after (j .choices) (no-pins (length (j .units))) calls) table entries (r .planned)
+
+-- in which order it looks at what it is given; no call is made before all of it is looked at
+pub record SittingOrder (b calls answers table entries : List ℕ) : Type 0 where
+  pub job-first : (n : ℕ) → parse b ≡ P.refused n → sitting-call b calls answers table entries ≡ s.refuse n answers table entries
+  pub then-calls : (j : Job) (k n : ℕ) → parse b ≡ P.took j k → calls-refusal calls ≡ some n → sitting-call b calls answers table entries ≡ s.refuse n answers table entries
+  pub then-table : (j : Job) (k : ℕ) → parse b ≡ P.took j k → calls-refusal calls ≡ none → length table < words j → sitting-call b calls answers table entries ≡ s.refuse 11 answers table entries
+  pub then-answers : (j : Job) (k : ℕ) → parse b ≡ P.took j k → calls-refusal calls ≡ none → words j ≤ length table → length answers < length calls / 3 → sitting-call b calls answers table entries ≡ s.refuse 12 answers table entries
+  pub then-entries : (j : Job) (k : ℕ) → parse b ≡ P.took j k → calls-refusal calls ≡ none → words j ≤ length table → length calls / 3 ≤ length answers → length entries < entry-size * intervals j → sitting-call b calls answers table entries ≡ s.refuse 12 answers table entries
+
+-- a refusal leaves all three lists as they came, 13 the table and the answers aside
+pub record SittingKeeping (answers table entries : List ℕ) (r : Sat) : Type 0 where
+  pub lists : Keeping table entries (r .planned)
+  pub answers-kept : (n : ℕ) → r .planned .answer ≡ refused n → (n ≡ 13 → ⊥) → r .answers ≡ answers
+
+-- bytes that are the command records of these calls and nothing else
+pub data Records : List ℕ → List Call → Type 0 where
+  none-left : {rest : List ℕ} → length rest ≡ 0 → Records rest []
+  one-more : {rest : List ℕ} {k : Call} {used : ℕ} {ks : List Call} → command rest ≡ P.took k used → Records (drop used rest) ks → Records rest (k ∷ ks)
+
+-- commands behind a job of k bytes, none of them refused: the set is that of the calls in turn
+pub record CommandsClaim (b : List ℕ) (k : ℕ) (s : State) : Type 0 where
+  pub calls : List Call
+  pub records : Records (drop k b) calls
+  pub all-taken : run b (open-call b .state) calls .answers ≡ map (λ c. none) calls
+  pub held : run b (open-call b .state) calls .state ≡ s
+
+-- what the program plans, from lists that are long enough
+pub record InputClaim (b : List ℕ) (j : Job) (k : ℕ) (table entries : List ℕ) : Type 0 where
+  pub commands : CommandsClaim b k (commands-call b .state)
+  pub planning : PlanClaim j (pins-after (j .choices) (no-pins (length (j .units))) (commands .calls)) table entries (input-call b table entries)
+
+-- in which order the program looks at its input
+pub record InputOrder (b table entries : List ℕ) : Type 0 where
+  pub size-first : input-size < length b → input-call b table entries ≡ refuse 15 table entries
+  pub then-commands : (n : ℕ) → length b ≤ input-size → commands-call b .refused ≡ some n → input-call b table entries ≡ refuse n table entries
+  pub then-plan : length b ≤ input-size → commands-call b .refused ≡ none → input-call b table entries ≡ plan-call b (commands-call b .state) table entries
+
 -- The claims.
 
 -- demand 3, whole: one claim about every list of calls with the planning after it
@@ -71,3 +119,17 @@ DemandThree = (b : List ℕ) (j : Job) (n : ℕ) → parse b ≡ P.took j n → 
 -- demand 1, of planning
 abbrev pub Refusals : Type 0
 Refusals = (b : List ℕ) (s : State) (table entries : List ℕ) → PlanOrder b s table entries × Keeping table entries (plan-call b s table entries)
+
+-- demands 1 and 3 of a sitting
+abbrev pub Sittings : Type 0
+Sittings = (b : List ℕ) (j : Job) (n : ℕ) (calls answers table entries : List ℕ) → parse b ≡ P.took j n → calls-refusal calls ≡ none → words j ≤ length table → length calls / 3 ≤ length answers → entry-size * intervals j ≤ length entries → SittingClaim j (calls-of calls) answers table entries (sitting-call b calls answers table entries)
+
+abbrev pub SittingRefusals : Type 0
+SittingRefusals = (b calls answers table entries : List ℕ) → SittingOrder b calls answers table entries × SittingKeeping answers table entries (sitting-call b calls answers table entries)
+
+-- and of what the program reads
+abbrev pub Inputs : Type 0
+Inputs = (b : List ℕ) (j : Job) (k : ℕ) (table entries : List ℕ) → parse b ≡ P.took j k → length b ≤ input-size → commands-call b .refused ≡ none → words j ≤ length table → entry-size * intervals j ≤ length entries → InputClaim b j k table entries
+
+abbrev pub InputRefusals : Type 0
+InputRefusals = (b table entries : List ℕ) → InputOrder b table entries × Keeping table entries (input-call b table entries)

@@ -2,5 +2,7 @@
 pub mod Rule
 pub mod Words
 pub mod Calls
+pub mod Commands
+pub mod Sittings
 pub mod Claims
 pub mod Cases

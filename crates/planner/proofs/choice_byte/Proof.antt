@@ -1,7 +1,7 @@
+use Rattle.model.specs.If.{if_then_else_}
 use Rattle.planner.specs.Answers.{chosen}
 use Rattle.job.specs.Answers.{plain}
 use Rattle.format.proofs.Choices.{of-mark, of-choice}
-use Rattle.model.specs.If.{if_then_else_}
 use borrow.Author.Tests.{lt-ltb, le-ltb}
 use native.Mathlib.Omega.{arith}
 use borrow.Author.Needs.{needs}

@@ -1,14 +1,13 @@
 use Rattle.planner.proofs.Tabling.{Written, written-none, starts, room-for-two, written-more, written-all}
 use Rattle.planner.proofs.Sizes.{layer-small, product-small}
-use Rattle.planner.specs.Answers.{line-is, allowed-is}
 use Rattle.pinning.specs.State.{lines}
 use Rattle.job.specs.Answers.{plain}
 use Rattle.format.specs.JobBytes.{job-in}
 use Rattle.format.proofs.Bounds.{bounded}
 use Rattle.format.proofs.Opened.{job-formed, intervals-are, few-intervals}
 use Rattle.model.specs.Table.{layerWords}
-use lib.ListN.{length, take, drop, length-take, length-drop}
-use mathlib.Core.Path.{_≡_, refl, sym, ap, _∙_}
+use lib.ListN.{length, length-take, length-drop}
+use mathlib.Core.Path.{_≡_, sym, ap, _∙_}
 use Prim.Native.Nat.{ℕ, _≤_, _+_, _-_, _*_}
 use native.Mathlib.Omega.{arith}
 use borrow.Author.Needs.{needs}

@@ -1,5 +1,5 @@
-use Rattle.planner.specs.Answers.{allowed-is}
 use Rattle.model.specs.If.{if_then_else_}
+use Rattle.planner.specs.Answers.{allowed-is}
 use lib.ListN.{getD-replicate}
 use mathlib.Core.Path.{refl}
 use Prim.Native.Nat.{ℕ}

@@ -10,7 +10,7 @@ use Rattle.trellis.specs.Table.{encode}
 use Rattle.model.specs.Best.{least-total}
 use Rattle.model.specs.Table.{mark}
 use lib.ListN.{length, getD}
-use mathlib.Core.Path.{_≡_, sym, _∙_, ap}
+use mathlib.Core.Path.{_≡_, sym, _∙_}
 use Prim.Native.Nat.{_<_}
 use native.Mathlib.Omega.{arith}
 use borrow.Author.Needs.{needs}

@@ -1,0 +1,55 @@
+// Prints the best plan of the job on standard input, with the pins that the command records behind it set and lift (document 01, "The printed plan").
+mod print;
+
+ghost use Prim.Native.Nat.{_+_, _≤_};
+use job::Header;
+use job::Reading;
+use libc::STDIN_FILENO;
+use planner::Planned;
+use replay::Totals;
+
+// One line an interval: its number, what it sends, its choice or `-`, the levels that it leads to.
+fn print_intervals(job: &[u8], header: Header, entries: &[u8; 1152])
+    requires { ⌜ header .units + header .delay ≤ 576 ⌝ }
+{
+    let total = replay::intervals(header);
+    let end = 2 * total;
+    // levels do not depend on pins, and the set that opening answers has none
+    let opened = pins::open(job);
+    let set = opened.set;
+    let mut levels = [0u16; 1152];
+    replay::replay(job, set, &entries[..end], &mut levels);
+    for place in 0..total {
+        let at = 2 * place;
+        let next = at + 1;
+        print::count(place as u64 + 1);
+        print::number(job::rate_at(job, entries[at] as u16) as u64);
+        print::choice(entries[next]);
+        print::number(levels[at] as u64);
+        print::number(levels[next] as u64);
+        print::end();
+    }
+}
+
+fn print_plan(job: &[u8], entries: &[u8; 1152], totals: Totals) {
+    match job::read(job) {
+        Reading::Refused(n) => print::refused(n),
+        Reading::Read { header, taken: _ } => {
+            print::head(header);
+            print_intervals(job, header, entries);
+            print::total(totals);
+        }
+    }
+}
+
+fn main() {
+    // one byte more than the program takes, so that longer input is seen
+    let mut input = [0u8; 32769];
+    let n = io::read_full(STDIN_FILENO, &mut input);
+    let mut table = [0u32; 16384];
+    let mut entries = [0u8; 1152];
+    match sitting::plan_input(&input[..n], &mut table, &mut entries) {
+        Planned::Refused(number) => print::refused(number),
+        Planned::Best(totals) => print_plan(&input[..n], &entries, totals),
+    }
+}

@@ -1,0 +1,85 @@
+-- The job before the commands and the planning after them, from what opening and the commands answered.
+-- Assumes nothing.
+use Prim.Native.Nat.{ℕ, _<_, _≤_}
+use mathlib.Core.Path.{_≡_, refl, sym, _∙_, ap}
+use mathlib.Core.List.{List}
+use native.Mathlib.Omega.{arith}
+use borrow.Author.Tests.{lt-ltb, le-ltb}
+use lib.ListN.{length, drop}
+use Rattle.model.specs.If.{if_then_else_}
+use Rattle.model.specs.Answer.{refused, gives}
+use Rattle.model.specs.Job.{Job}
+use Rattle.format.specs.Parser as P
+use Rattle.format.specs.JobBytes.{header-in, parse}
+use Rattle.format.proofs.Places.{read-within}
+use Rattle.pinning.specs.State.{fresh}
+use Rattle.pinning.specs.Calls.{no-header, Opening, opened, open-call, refuse}
+use Rattle.pins.specs.declared.Opened.{Opened}
+use Rattle.pins.specs.declared.Opening.the-variants as o
+use Rattle.pins.specs.declared.Handed as pins
+use Rattle.pins.specs.declared.Answer.the-variants as a
+use Rattle.pins.specs.Answers.{state, opening-answer, opening, number, handed}
+use Rattle.planning.specs.Calls.{plan-call}
+use Rattle.planning.specs.Calls as plan
+use Rattle.planning.specs.Commands.{follow, on-opened, commands-call}
+use Rattle.planning.specs.Sittings.{input-size, with-set, input-call}
+
+-- a job that did not open
+not-open : (p : P.Result Job) (n : ℕ) → opened p .answer ≡ refused n → (p ≡ P.refused n) × (opened p .state ≡ fresh no-header)
+unfolding opened
+not-open (P.refused m) n e = let q : m ≡ n = cc in (rw q, refl)
+not-open (P.took j k) n e = let z : _≡_ {A = ℕ} 0 1 = cc in absurd (omega arith)
+
+-- a job that opened
+record Open (p : P.Result Job) (k : ℕ) : Type 0 where
+  job : Job
+  is : p ≡ P.took job k
+  fresh-is : opened p .state ≡ fresh (header-in job)
+
+is-open : (p : P.Result Job) (k : ℕ) → opened p .answer ≡ gives k → Open p k
+unfolding opened
+is-open (P.refused m) k e = let z : _≡_ {A = ℕ} 0 1 = cc in absurd (omega arith)
+is-open (P.took j m) k e = let q : m ≡ k = cc in record { job = j; is = rw q; fresh-is = refl }
+
+-- x is the answer of opening
+module _ (b : List ℕ) (x : Opened) (e : opening x ≡ open-call b) where
+  answer-is : opened (parse b) .answer ≡ opening-answer (x .answer)
+  unfolding opening open-call
+  answer-is = ap (λ (t : Opening). t .answer) (sym e)
+
+  state-is : state (x .set) ≡ opened (parse b) .state
+  unfolding opening open-call
+  state-is = ap (λ (t : Opening). t .state) e
+
+  pub no-job : (n : ℕ) → x .answer ≡ o.Refused n → handed (record { answer = a.Refused n; set = x .set }) ≡ commands-call b
+  unfolding opening-answer handed number commands-call on-opened refuse
+  no-job n q =
+      let r = not-open (parse b) n (answer-is ∙ ap opening-answer q) in
+      rw (state-is ∙ r .1, r .0)
+
+  module _ (k : ℕ) (q : x .answer ≡ o.Took k) where
+    open-at : Open (parse b) k
+    unfolding opening-answer
+    open-at = is-open (parse b) k (answer-is ∙ ap opening-answer q)
+
+    pub job-within : k ≤ length b
+    job-within = read-within b (open-at .job) k (open-at .is)
+
+    pub then-commands : follow (length b) b (state (x .set)) (drop k b) ≡ commands-call b
+    unfolding commands-call on-opened
+    then-commands = rw (state-is ∙ open-at .fresh-is, open-at .is)
+
+module _ (b table entries : List ℕ) where
+  pub input-long : input-size < length b → plan.refuse 15 table entries ≡ input-call b table entries
+  unfolding input-call if_then_else_
+  input-long h = rw (lt-ltb input-size (length b) h)
+
+  -- x is what the commands came to
+  module _ (h : length b ≤ input-size) (x : pins.Handed) (e : handed x ≡ commands-call b) where
+    pub input-refused : (n : ℕ) → x .answer ≡ a.Refused n → plan.refuse n table entries ≡ input-call b table entries
+    unfolding input-call if_then_else_ handed number with-set
+    input-refused n q = rw (le-ltb input-size (length b) h, ← e, q)
+
+    pub input-planned : x .answer ≡ a.Done → plan-call b (state (x .set)) table entries ≡ input-call b table entries
+    unfolding input-call if_then_else_ handed number with-set
+    input-planned q = rw (le-ltb input-size (length b) h, ← e, q)

@@ -1,0 +1,283 @@
+// A whole sitting: pins and lifts in turn and the planning after them. The calls come as numbers, three a call, or as command records behind a job's bytes (document 01, "The printed plan").
+pub mod refusal;
+
+ghost use mathlib.Core.Path.{_≡_};
+ghost use Prim.Native.Nat.{_+_, _*_, _/_, _<_, _≤_};
+ghost use lib.ListN.{length, drop};
+ghost use Rattle.pinning.specs.Calls.{call};
+ghost use Rattle.pins.specs.Answers.{state, number, handed};
+ghost use Rattle.job.specs.Answers.{verdict};
+ghost use Rattle.planner.specs.Answers.{planned};
+ghost use Rattle.planning.specs.Commands.{kind-fits, call-at, calls-refusal, command, follow, commands-call};
+ghost use Rattle.planning.specs.Sittings.{answer-number, sitting-call, input-call};
+ghost use Rattle.sitting.specs.Answers.{command-is, obeyed, obeys, sat-is, Made};
+use job::Reading;
+use job::Verdict;
+use pins::Answer;
+use pins::Handed;
+use pins::Opening;
+use pins::PinSet;
+use planner::Planned;
+
+// A command record, or the number that refuses it.
+enum Command {
+    Pin { unit: u16, choice: u16 },
+    Lift { unit: u16 },
+    Refused(u8),
+}
+
+// What one command comes to: its answer, the set after it and where the next stands.
+struct Obeyed {
+    answer: Answer,
+    set: PinSet,
+    next: usize,
+}
+
+// The kinds of the command records, which calls as numbers have too, and the records' lengths, which count kind and body.
+const PIN: u16 = 6;
+
+const LIFT: u16 = 7;
+
+const PIN_LENGTH: u16 = 6;
+
+const LIFT_LENGTH: u16 = 4;
+
+// The bytes of the two records, and of what all records begin with.
+const PIN_SIZE: usize = 8;
+
+const LIFT_SIZE: usize = 6;
+
+const HEAD: usize = 4;
+
+// How many numbers a call has.
+const NUMBERS: usize = 3;
+
+// How many bytes the program takes.
+pub const MOST_INPUT: usize = 32768;
+
+fn kind_fits(kind: u16) -> bool
+    ensures { λ r. ⌜ r ≡ kind-fits kind ⌝ }
+{
+    match kind {
+        PIN => true,
+        LIFT => true,
+        _ => false,
+    }
+}
+
+// Calls as numbers: another kind is 2; then a last call that is cut is 1.
+fn calls_verdict(calls: &[u16]) -> Verdict
+    ensures { λ r. ⌜ verdict r ≡ calls-refusal (now (calls .entry)) ⌝ }
+{
+    let count = calls.len() / NUMBERS;
+    for place in 0..count {
+        let at = NUMBERS * place;
+        if !kind_fits(calls[at]) {
+            return Verdict::Refused(job::refusal::NOT_DUE);
+        }
+    }
+    if calls.len() % NUMBERS != 0 {
+        return Verdict::Refused(job::refusal::CUT);
+    }
+    Verdict::Fits
+}
+
+// The call in a place, made.
+fn make_call(job: &[u8], set: PinSet, calls: &[u16], place: usize) -> Handed
+    requires { ⌜ 3 * place + 2 < length (now calls) ⌝ }
+    ensures { λ r. ⌜ handed r ≡ call (now (job .entry)) (state set) (call-at (now (calls .entry)) place) ⌝ }
+{
+    let at = NUMBERS * place;
+    let second = at + 1;
+    let third = at + 2;
+    let unit = calls[second];
+    if calls[at] == PIN {
+        return pins::pin(job, set, unit, calls[third]);
+    }
+    pins::lift(job, set, unit)
+}
+
+// 0 for a call that was taken, else the number that refused it.
+fn answer_number(answer: Answer) -> u8
+    ensures { λ r. ⌜ r ≡ answer-number (number answer) ⌝ }
+{
+    match answer {
+        Answer::Done => 0,
+        Answer::Refused(n) => n,
+    }
+}
+
+// Makes all calls in turn, each given the set that the last one handed back, and writes their numbers.
+fn make_calls(job: &[u8], calls: &[u16], answers: &mut [u8]) -> PinSet
+    requires { ⌜ length (now calls) / 3 ≤ length (now answers) ⌝ }
+    ensures { λ r. ⌜ Made (now (job .entry)) (now (calls .entry)) (now (answers .entry)) r (now (answers .exit)) ⌝ }
+{
+    let count = calls.len() / NUMBERS;
+    let opened = pins::open(job);
+    let mut set = opened.set;
+    for place in 0..count {
+        let made = make_call(job, set, calls, place);
+        let answer = made.answer;
+        answers[place] = answer_number(answer);
+        set = made.set;
+    }
+    set
+}
+
+// Makes calls as numbers, three a call (kind 6 or 7 as in the command records, unit, choice), refused ones included, and plans with the pins that they leave. Each call's number goes to `answers`, 0 where it was taken.
+pub fn sit(
+    job: &[u8],
+    calls: &[u16],
+    answers: &mut [u8],
+    table: &mut [u32],
+    entries: &mut [u8],
+) -> Planned
+    ensures { λ r. ⌜ sat-is r (now (answers .exit)) (now (table .exit)) (now (entries .exit)) ≡ sitting-call (now (job .entry)) (now (calls .entry)) (now (answers .entry)) (now (table .entry)) (now (entries .entry)) ⌝ }
+{
+    match job::read(job) {
+        Reading::Refused(n) => Planned::Refused(n),
+        Reading::Read { header, taken: _ } => {
+            if let Verdict::Refused(n) = calls_verdict(calls) {
+                return Planned::Refused(n);
+            }
+            if table.len() < planner::table_words(header) {
+                return Planned::Refused(planner::refusal::TABLE);
+            }
+            if answers.len() < calls.len() / NUMBERS {
+                return Planned::Refused(planner::refusal::LIST);
+            }
+            if entries.len() < 2 * replay::intervals(header) {
+                return Planned::Refused(planner::refusal::LIST);
+            }
+            let set = make_calls(job, calls, answers);
+            planner::plan(job, set, table, entries)
+        }
+    }
+}
+
+// The command record at the front of these bytes.
+fn read_command(rest: &[u8]) -> Command
+    ensures { λ r. ⌜ command-is r ≡ command (now (rest .entry)) ⌝ }
+{
+    if rest.len() < HEAD {
+        return Command::Refused(job::refusal::CUT);
+    }
+    let length = job::field16(rest, 0);
+    match job::field16(rest, 2) {
+        PIN => {
+            if length != PIN_LENGTH {
+                return Command::Refused(job::refusal::NOT_DUE);
+            }
+            if rest.len() < PIN_SIZE {
+                return Command::Refused(job::refusal::CUT);
+            }
+            Command::Pin {
+                unit: job::field16(rest, 4),
+                choice: job::field16(rest, 6),
+            }
+        }
+        LIFT => {
+            if length != LIFT_LENGTH {
+                return Command::Refused(job::refusal::NOT_DUE);
+            }
+            if rest.len() < LIFT_SIZE {
+                return Command::Refused(job::refusal::CUT);
+            }
+            Command::Lift {
+                unit: job::field16(rest, 4),
+            }
+        }
+        _ => Command::Refused(job::refusal::NOT_DUE),
+    }
+}
+
+// The command at a place, taken.
+fn obey(job: &[u8], set: PinSet, at: usize) -> Obeyed
+    requires { ⌜ at < length (now job) ⌝ }
+    ensures { λ r. ⌜ obeyed r ≡ obeys (now (job .entry)) (state set) at ⌝ }
+{
+    match read_command(&job[at..]) {
+        Command::Refused(n) => Obeyed {
+            answer: Answer::Refused(n),
+            set,
+            next: at,
+        },
+        Command::Pin { unit, choice } => {
+            let made = pins::pin(job, set, unit, choice);
+            let answer = made.answer;
+            let held = made.set;
+            Obeyed {
+                answer,
+                set: held,
+                next: at + PIN_SIZE,
+            }
+        }
+        Command::Lift { unit } => {
+            let made = pins::lift(job, set, unit);
+            let answer = made.answer;
+            let held = made.set;
+            Obeyed {
+                answer,
+                set: held,
+                next: at + LIFT_SIZE,
+            }
+        }
+    }
+}
+
+// The commands from a place on, in turn, to the end of the bytes or to the first refusal.
+fn follow(job: &[u8], fresh: PinSet, from: usize) -> Handed
+    requires { ⌜ from ≤ length (now job) ⌝ }
+    ensures { λ r. ⌜ handed r ≡ follow (length (now (job .entry))) (now (job .entry)) (state fresh) (drop from (now (job .entry))) ⌝ }
+{
+    let mut set = fresh;
+    let mut at = from;
+    while at < job.len() {
+        let done = obey(job, set, at);
+        let answer = done.answer;
+        set = done.set;
+        if let Answer::Refused(n) = answer {
+            return Handed {
+                answer: Answer::Refused(n),
+                set,
+            };
+        }
+        at = done.next;
+    }
+    Handed {
+        answer: Answer::Done,
+        set,
+    }
+}
+
+// Opens the job at the front of the bytes and takes the command records behind it, kind 6 pins and kind 7 lifts, in turn. The first refusal ends it, and hands back the set as it was before the command.
+pub fn take_commands(input: &[u8]) -> Handed
+    ensures { λ r. ⌜ handed r ≡ commands-call (now (input .entry)) ⌝ }
+{
+    let opened = pins::open(input);
+    let answer = opened.answer;
+    let set = opened.set;
+    match answer {
+        Opening::Refused(n) => Handed {
+            answer: Answer::Refused(n),
+            set,
+        },
+        Opening::Took(taken) => follow(input, set, taken),
+    }
+}
+
+// Plans what the program reads: a job, then command records to the end of the bytes. Input longer than the program takes is refused first.
+pub fn plan_input(input: &[u8], table: &mut [u32], entries: &mut [u8]) -> Planned
+    ensures { λ r. ⌜ planned r (now (table .exit)) (now (entries .exit)) ≡ input-call (now (input .entry)) (now (table .entry)) (now (entries .entry)) ⌝ }
+{
+    if MOST_INPUT < input.len() {
+        return Planned::Refused(refusal::INPUT);
+    }
+    let taken = take_commands(input);
+    let answer = taken.answer;
+    let set = taken.set;
+    match answer {
+        Answer::Refused(n) => Planned::Refused(n),
+        Answer::Done => planner::plan(input, set, table, entries),
+    }
+}
