@@ -1,37 +1,48 @@
 // Prints the best plan of the job on standard input, with the pins that the command records behind it set and lift (document 01, "The printed plan").
 mod print;
 
+ghost use mathlib.Core.Path.{_≡_};
 ghost use Prim.Native.Nat.{_+_, _≤_};
+ghost use lib.ListN.{length};
 use job::Header;
 use job::Reading;
 use libc::STDIN_FILENO;
 use planner::Planned;
 use replay::Totals;
 
-// One line an interval: its number, what it sends, its choice or `-`, the levels that it leads to.
-fn print_intervals(job: &[u8], header: Header, entries: &[u8; 1152])
-    requires { ⌜ header .units + header .delay ≤ 576 ⌝ }
+// The line of an interval: its number, what it sends, its choice or `-`, the levels that it leads to.
+fn print_interval(number: u64, sent: u16, choice: u8, decoder: u16, bucket: u16) {
+    print::count(number);
+    print::number(sent as u64);
+    print::choice(choice);
+    print::number(decoder as u64);
+    print::number(bucket as u64);
+    print::end();
+}
+
+fn print_intervals(job: &[u8], header: Header, entries: &[u8])
+    requires { ⌜ (header .units + header .delay ≤ 576) × (length (now entries) ≡ 1152) ⌝ }
 {
     let total = replay::intervals(header);
+    let start = 0;
     let end = 2 * total;
     // levels do not depend on pins, and the set that opening answers has none
     let opened = pins::open(job);
     let set = opened.set;
     let mut levels = [0u16; 1152];
-    replay::replay(job, set, &entries[..end], &mut levels);
+    replay::replay(job, set, &entries[start..end], &mut levels);
     for place in 0..total {
         let at = 2 * place;
         let next = at + 1;
-        print::count(place as u64 + 1);
-        print::number(job::rate_at(job, entries[at] as u16) as u64);
-        print::choice(entries[next]);
-        print::number(levels[at] as u64);
-        print::number(levels[next] as u64);
-        print::end();
+        let number = place as u64 + 1;
+        let sent = job::rate_at(job, entries[at] as u16);
+        print_interval(number, sent, entries[next], levels[at], levels[next]);
     }
 }
 
-fn print_plan(job: &[u8], entries: &[u8; 1152], totals: Totals) {
+fn print_plan(job: &[u8], entries: &[u8], totals: Totals)
+    requires { ⌜ length (now entries) ≡ 1152 ⌝ }
+{
     match job::read(job) {
         Reading::Refused(n) => print::refused(n),
         Reading::Read { header, taken: _ } => {
