@@ -19,6 +19,7 @@ use Rattle.format.specs.Parser.{refused, took}
 use Rattle.format.specs.JobBytes.{Header, header-in, parse}
 use Rattle.format.specs.Claims.{InLimits}
 use Rattle.format.proofs.Bounds.{limited}
+use Rattle.format.proofs.Parsing.{not-took}
 use Rattle.format.proofs.Places.{well-read, looks-up}
 use Rattle.format.specs.JobBytes.{same-header}
 use Rattle.format.specs.Choices.{no-choice, choice-of}
@@ -84,6 +85,14 @@ module _ (b : List ℕ) (j : Job) (k : ℕ) (parsed : parse b ≡ took j k) wher
       go : (t : Bool) → fits (codingAt j) (header-in j) s ≡ t → checked b s ≡ refused 6
       go true e = absurd (f (checks j s (limits .units .1) .0 e))
       go false e = checked-six s e
+
+  -- a set that passes matches
+  pub passes-matches : (s : State) → checked b s ≡ took j k → Matches j s
+  passes-matches s q = go (fits (codingAt j) (header-in j) s) refl
+    where
+      go : (t : Bool) → fits (codingAt j) (header-in j) s ≡ t → Matches j s
+      go true e = checks j s (limits .units .1) .0 e
+      go false e = not-took (sym (checked-six s e) ∙ q)
 
   module _ (s : State) (size : length (s .bytes) ≡ 512) where
     totals-agree-in : bytes-fit (header-in j) (s .bytes) 512 ≡ true → totals-to (codings-in b (header-in j)) (lines (length (j .units)) (s .bytes)) (length (j .units)) ≡ totals-to (codingAt j) (lines (length (j .units)) (s .bytes)) (length (j .units))

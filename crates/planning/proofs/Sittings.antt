@@ -1,4 +1,4 @@
--- A whole sitting: `Sittings` and `SittingRefusals`.
+-- A whole sitting: `Sittings` and `SittingRefusals`; and a replay after calls: `ReplaySittings`.
 -- Assumes nothing.
 use Prim.Native.Nat.{ℕ, _*_, _/_, _≤_}
 use mathlib.Core.Path.{_≡_, refl, sym, _∙_, ap}
@@ -16,12 +16,16 @@ use Rattle.model.proofs.Tests.{branch}
 use Rattle.format.specs.Parser as P
 use Rattle.format.specs.JobBytes.{parse}
 use Rattle.pinning.specs.Calls.{open-call, run}
+use Rattle.pinning.proofs.Agree.{passes-matches}
+use Rattle.pinning.proofs.History.{history}
 use Rattle.replaying.specs.Entries.{entry-size}
+use Rattle.replaying.specs.Calls as replaying
 use Rattle.replaying.specs.Calls.{over}
+use Rattle.replaying.proofs.DemandTwo.{replay-calls}
 use Rattle.planning.specs.Calls.{Planned}
 use Rattle.planning.specs.Commands.{calls-of, calls-refusal}
-use Rattle.planning.specs.Sittings.{answer-number, refuse, sat, sit-in, on-job, sitting-call}
-use Rattle.planning.specs.Claims.{PlanClaim, SittingKeeping, Sittings, SittingRefusals}
+use Rattle.planning.specs.Sittings.{answer-number, refuse, sat, sit-in, on-job, sitting-call, set-after, replay-after, replay-sitting}
+use Rattle.planning.specs.Claims.{PlanClaim, SittingKeeping, Sittings, SittingRefusals, ReplaySittings}
 use Rattle.planning.proofs.DemandThree.{demand-three}
 use Rattle.planning.proofs.Refusals.{refusals, refuse-keeps}
 
@@ -79,3 +83,9 @@ sitting-refusals b calls answers table entries = (
   },
   call-keeps b calls answers table entries (parse b) refl,
 )
+
+pub replay-sittings : ReplaySittings
+unfolding replay-sitting replaying.on-job replay-after set-after
+replay-sittings b j n calls entries levels parsed good fit room =
+    let h = history b j n parsed (calls-of calls) in
+    rw (parsed, good, ← h .pins) (replay-calls b j n (run b (open-call b .state) (calls-of calls) .state) entries levels parsed (passes-matches b j n parsed _ (h .passes)) fit room)

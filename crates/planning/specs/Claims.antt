@@ -3,6 +3,7 @@
 use Prim.Native.Nat.{ℕ, _*_, _/_, _<_, _≤_}
 use mathlib.Core.Path.{_≡_}
 use mathlib.Core.Logic.{_↔_}
+use mathlib.Core.Bool.{true}
 use mathlib.Core.Option.{none, some}
 use mathlib.Core.List.{List, [], _∷_, map}
 use lib.ListN.{length, take, drop}
@@ -16,17 +17,18 @@ use Rattle.model.specs.Best.{late}
 use Rattle.model.specs.Table.{words, IsTable}
 use Rattle.model.specs.Claims.{BestOf}
 use Rattle.format.specs.Parser as P
-use Rattle.format.specs.JobBytes.{parse}
+use Rattle.format.specs.JobBytes.{header-in, parse}
 use Rattle.pinning.specs.State.{State}
 use Rattle.pinning.specs.Check.{Matches}
 use Rattle.pinning.specs.Calls.{open-call, run}
 use Rattle.pinning.specs.Claims.{HistoryClaim}
-use Rattle.replaying.specs.Entries.{entry-size, entry-bytes, plan-of}
-use Rattle.replaying.specs.Calls.{over}
+use Rattle.replaying.specs.Entries.{entry-size, entry-bytes, plan-of, shaped}
+use Rattle.replaying.specs.Calls.{over, level-count}
+use Rattle.replaying.specs.Claims.{DemandTwo}
 use Rattle.planning.specs.Calls.{Planned, refuse, plan-call}
 use Rattle.planning.specs.Commands.{command, commands-call, calls-of, calls-refusal}
 use Rattle.planning.specs.Sittings as s
-use Rattle.planning.specs.Sittings.{answer-number, Sat, sitting-call, input-size, input-call}
+use Rattle.planning.specs.Sittings.{answer-number, Sat, sitting-call, replay-sitting, input-size, input-call}
 
 module _ (j : Job) (m : PinMap) (table entries : List ℕ) where
   -- the entries at exit begin with the bytes of a plan which is the best of the admissible ones; the answer has its totals, which are sums over the entries written; the rest of the list is as before
@@ -126,6 +128,10 @@ Sittings = (b : List ℕ) (j : Job) (n : ℕ) (calls answers table entries : Lis
 
 abbrev pub SittingRefusals : Type 0
 SittingRefusals = (b calls answers table entries : List ℕ) → SittingOrder b calls answers table entries × SittingKeeping answers table entries (sitting-call b calls answers table entries)
+
+-- demand 2 of a replay after calls
+abbrev pub ReplaySittings : Type 0
+ReplaySittings = (b : List ℕ) (j : Job) (n : ℕ) (calls entries levels : List ℕ) → parse b ≡ P.took j n → calls-refusal calls ≡ none → shaped (header-in j) entries ≡ true → level-count j ≤ length levels → DemandTwo j (pins-after (j .choices) (no-pins (length (j .units))) (calls-of calls)) (plan-of j entries) levels (replay-sitting b calls entries levels)
 
 -- and of what the program reads
 abbrev pub Inputs : Type 0

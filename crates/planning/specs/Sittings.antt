@@ -14,7 +14,8 @@ use Rattle.format.specs.JobBytes.{parse}
 use Rattle.pinning.specs.State.{State}
 use Rattle.pinning.specs.Calls.{open-call, run, Sitting}
 use Rattle.replaying.specs.Entries.{entry-size}
-use Rattle.replaying.specs.Calls.{over}
+use Rattle.replaying.specs.Calls as replaying
+use Rattle.replaying.specs.Calls.{over, Replayed, Ended, replay-call}
 use Rattle.planning.specs.Calls.{Planned, plan-call}
 use Rattle.planning.specs.Calls as plan
 use Rattle.planning.specs.Commands.{commands-call, calls-of, calls-refusal}
@@ -56,6 +57,17 @@ on-job b (P.took j k) calls answers table entries = sit-in b j (calls-refusal ca
 -- the job, 1 to 5, then the rest
 unfoldable pub sitting-call : List ℕ → List ℕ → List ℕ → List ℕ → List ℕ → Sat
 sitting-call b calls answers table entries = on-job b (parse b) calls answers table entries
+
+-- the set after calls as numbers, and a replay with it: the job, 1 to 5, then the calls, 2 or 1, then as replay does
+unfoldable pub set-after : List ℕ → List ℕ → State
+set-after b calls = run b (open-call b .state) (calls-of calls) .state
+
+unfoldable pub replay-after : List ℕ → Option ℕ → List ℕ → List ℕ → List ℕ → Ended Replayed
+replay-after b (some n) calls entries levels = replaying.refuse n levels
+replay-after b none calls entries levels = replay-call b (set-after b calls) entries levels
+
+unfoldable pub replay-sitting : List ℕ → List ℕ → List ℕ → List ℕ → Ended Replayed
+replay-sitting b calls entries levels = replaying.on-job (parse b) levels (λ j. replay-after b (calls-refusal calls) calls entries levels)
 
 -- how many bytes the program takes
 abbrev pub input-size : ℕ

@@ -1,4 +1,4 @@
--- What a sitting answers and leaves, from what the reader, the tests and the calls answered.
+-- What a sitting and a replay after calls answer and leave, from what the reader, the tests and the calls answered.
 -- Assumes nothing.
 use Prim.Native.Nat.{ℕ, _+_, _*_, _/_, _<_, _≤_}
 use mathlib.Core.Path.{_≡_, sym, _∙_, ap}
@@ -14,14 +14,17 @@ use Rattle.model.specs.Table.{words}
 use Rattle.format.specs.Parser as P
 use Rattle.format.specs.JobBytes.{Header, header-in, parse}
 use Rattle.format.proofs.Opened.{held-job, opens-by, intervals-are}
+use Rattle.pinning.specs.State.{State}
 use Rattle.pins.specs.declared.PinSet.{PinSet}
 use Rattle.pins.specs.Answers.{state}
+use Rattle.replaying.specs.Calls as replaying
+use Rattle.replaying.specs.Calls.{Replayed, Ended, replay-call}
 use Rattle.planner.specs.Answers.{table-words}
 use Rattle.planner.proofs.Answering.{words-are}
 use Rattle.planning.specs.Calls.{Planned, plan-call}
 use Rattle.planning.specs.Calls as plan
 use Rattle.planning.specs.Commands.{calls-refusal}
-use Rattle.planning.specs.Sittings.{Sat, refuse, sat, sit-in, on-job, sitting-call}
+use Rattle.planning.specs.Sittings.{Sat, refuse, sat, sit-in, on-job, sitting-call, set-after, replay-after, replay-sitting}
 use Rattle.sitting.specs.Answers.{Made}
 
 module _ (b calls answers table entries : List ℕ) where
@@ -68,3 +71,18 @@ module _ (b calls answers table entries : List ℕ) where
           pub sit-made : 2 * (h .units + h .delay) ≤ length entries → (s : PinSet) (new : List ℕ) → Made b calls answers s new → (p : Planned) → p ≡ plan-call b (state s) table entries → record { answers = new; planned = p } ≡ sitting-call b calls answers table entries
           unfolding sit-in sat if_then_else_
           sit-made l s new m p i = rw (i, m .written, m .set-is) (sym (sit-on ∙ rw (← f, le-ltb (length table) (words j) (omega (arith, words-of)), le-ltb (length answers) (length calls / 3) few, le-ltb (length entries) (2 * intervals j) (omega (arith, intervals-of)))))
+
+-- a replay after calls
+module _ (b calls entries levels : List ℕ) where
+  pub replay-refused : (n : ℕ) → parse b ≡ P.refused n → record { answer = refused n; list = levels } ≡ replay-sitting b calls entries levels
+  unfolding replay-sitting replaying.on-job replaying.refuse
+  replay-refused n e = rw e
+
+  module _ (j : Job) (k : ℕ) (e : parse b ≡ P.took j k) where
+    pub replay-calls : (n : ℕ) → some n ≡ calls-refusal calls → record { answer = refused n; list = levels } ≡ replay-sitting b calls entries levels
+    unfolding replay-sitting replaying.on-job replay-after replaying.refuse
+    replay-calls n f = rw (e, ← f)
+
+    pub replay-made : none ≡ calls-refusal calls → (s : State) → s ≡ set-after b calls → (r : Ended Replayed) → r ≡ replay-call b s entries levels → r ≡ replay-sitting b calls entries levels
+    unfolding replay-sitting replaying.on-job replay-after
+    replay-made f s q r i = rw (e, ← f, ← q) i

@@ -15,7 +15,7 @@ use Rattle.pins.specs.declared.PinSet.{PinSet}
 use Rattle.pins.specs.Answers.{state}
 use Rattle.replaying.specs.Calls.{over}
 use Rattle.planning.specs.Commands.{call-at, calls-from, calls-of}
-use Rattle.planning.specs.Sittings.{answer-number}
+use Rattle.planning.specs.Sittings.{answer-number, set-after}
 use Rattle.sitting.specs.Answers.{Made}
 
 -- a sitting behind answers that are written
@@ -29,15 +29,39 @@ one-set w l p x e h =
     ∙ set-at w (getD l p 0) (drop (suc p) l) x p e
     ∙ sym (append-assoc w (x ∷ []) (drop (suc p) l))
 
-module _ (b calls answers₀ : List ℕ) where
+-- the calls from place i on
+module _ (calls : List ℕ) where
   abbrev left : ℕ → List Call
   left i = calls-from calls i (length calls / 3 - i)
 
+  left-more : (i : ℕ) → i < length calls / 3 → left i ≡ call-at calls i ∷ left (suc i)
+  unfolding calls-from
+  left-more i h = let e : length calls / 3 - i ≡ suc (length calls / 3 - suc i) = omega arith in rw e
+
+-- the set alone: i calls are made
+module _ (b calls : List ℕ) where
+  abbrev pub Held : ℕ → State → Type 0
+  Held i s = set-after b calls ≡ run b s (left calls i) .state
+
+  pub held-start : (s : State) → s ≡ open-call b .state → Held 0 s
+  unfolding set-after calls-of
+  held-start s e = let n : length calls / 3 - 0 ≡ length calls / 3 = omega arith in rw (e, n)
+
+  pub held-on : (i : ℕ) (s : State) → Held i s → i < length calls / 3 → (r : Handed) → r ≡ call b s (call-at calls i) → Held (i + 1) (r .state)
+  unfolding run after
+  held-on i s g h r e = rw (add-one i) (g ∙ rw (left-more calls i h, ← e))
+
+  pub held-end : (i : ℕ) (s : State) → Held i s → i ≡ length calls / 3 → s ≡ set-after b calls
+  unfolding run calls-from
+  held-end i s g q = let n : length calls / 3 - i ≡ 0 = omega arith in sym (rw n at g)
+
+-- the set and the answers
+module _ (b calls answers₀ : List ℕ) where
   -- i calls are made
   pub record Going (i : ℕ) (s : State) (answers : List ℕ) : Type 0 where
     pub done : List (Option ℕ)
     pub count : length done ≡ i
-    pub rest : run b (open-call b .state) (calls-of calls) ≡ behind done (run b s (left i))
+    pub rest : run b (open-call b .state) (calls-of calls) ≡ behind done (run b s (left calls i))
     pub list : answers ≡ map answer-number done ++ drop i answers₀
     pub size : length answers ≡ length answers₀
 
@@ -47,10 +71,6 @@ module _ (b calls answers₀ : List ℕ) where
       let n : length calls / 3 - 0 ≡ length calls / 3 = omega arith in
       record { done = []; count = refl; rest = rw (e, n); list = refl; size = refl }
 
-  left-more : (i : ℕ) → i < length calls / 3 → left i ≡ call-at calls i ∷ left (suc i)
-  unfolding calls-from
-  left-more i h = let e : length calls / 3 - i ≡ suc (length calls / 3 - suc i) = omega arith in rw e
-
   -- one call more, taken or refused
   pub going-on : (i : ℕ) (s : State) (answers : List ℕ) → Going i s answers → i < length calls / 3 → i < length answers₀ → (r : Handed) → r ≡ call b s (call-at calls i) → (x : ℕ) → x ≡ answer-number (r .refused) → Going (i + 1) (r .state) (set answers i x)
   unfolding run after behind
@@ -58,7 +78,7 @@ module _ (b calls answers₀ : List ℕ) where
       rw (add-one i) (record {
         done = g .done ++ (r .refused ∷ []);
         count = length-append (g .done) (r .refused ∷ []) ∙ omega (arith, g .count);
-        rest = g .rest ∙ rw (left-more i h, ← e) (ap (λ (os : List (Option ℕ)). record { answers = os; state = run b (r .state) (left (suc i)) .state }) (sym (append-assoc (g .done) (r .refused ∷ []) (run b (r .state) (left (suc i)) .answers))));
+        rest = g .rest ∙ rw (left-more calls i h, ← e) (ap (λ (os : List (Option ℕ)). record { answers = os; state = run b (r .state) (left calls (suc i)) .state }) (sym (append-assoc (g .done) (r .refused ∷ []) (run b (r .state) (left calls (suc i)) .answers))));
         list = rw (g .list, map-append answer-number (g .done) (r .refused ∷ []), q) (one-set (map answer-number (g .done)) answers₀ i (answer-number (r .refused)) (length-map (g .done) answer-number ∙ g .count) room);
         size = simp length-set (g .size);
       })

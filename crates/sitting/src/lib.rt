@@ -9,7 +9,8 @@ ghost use Rattle.pins.specs.Answers.{state, number, handed};
 ghost use Rattle.job.specs.Answers.{verdict};
 ghost use Rattle.planner.specs.Answers.{planned};
 ghost use Rattle.planning.specs.Commands.{kind-fits, call-at, calls-refusal, command, follow, commands-call};
-ghost use Rattle.planning.specs.Sittings.{answer-number, sitting-call, input-call};
+ghost use Rattle.replay.specs.Answers.{ended};
+ghost use Rattle.planning.specs.Sittings.{answer-number, sitting-call, set-after, replay-sitting, input-call};
 ghost use Rattle.sitting.specs.Answers.{command-is, obeyed, obeys, sat-is, Made};
 use job::Reading;
 use job::Verdict;
@@ -18,6 +19,7 @@ use pins::Handed;
 use pins::Opening;
 use pins::PinSet;
 use planner::Planned;
+use replay::Replayed;
 
 // A command record, or the number that refuses it.
 enum Command {
@@ -151,6 +153,39 @@ pub fn sit(
             }
             let set = make_calls(job, calls, answers);
             planner::plan(job, set, table, entries)
+        }
+    }
+}
+
+// The set after calls as numbers, refused ones included.
+fn set_after(job: &[u8], calls: &[u16]) -> PinSet
+    ensures { λ r. ⌜ state r ≡ set-after (now (job .entry)) (now (calls .entry)) ⌝ }
+{
+    let count = calls.len() / NUMBERS;
+    let opened = pins::open(job);
+    let mut set = opened.set;
+    for place in 0..count {
+        let made = make_call(job, set, calls, place);
+        set = made.set;
+    }
+    set
+}
+
+// Replays a plan with the pins that calls as numbers leave, refused ones included.
+pub fn replay_after(job: &[u8], calls: &[u16], entries: &[u8], levels: &mut [u16]) -> Replayed
+    ensures { λ r. ⌜ ended r (now (levels .exit)) ≡ replay-sitting (now (job .entry)) (now (calls .entry)) (now (entries .entry)) (now (levels .entry)) ⌝ }
+{
+    match job::read(job) {
+        Reading::Refused(n) => Replayed::Refused(n),
+        Reading::Read {
+            header: _,
+            taken: _,
+        } => {
+            if let Verdict::Refused(n) = calls_verdict(calls) {
+                return Replayed::Refused(n);
+            }
+            let set = set_after(job, calls);
+            replay::replay(job, set, entries, levels)
         }
     }
 }

@@ -1,0 +1,600 @@
+//! Times the library beside straightforward programs for the same work, in one
+//! run and in turn, and shows how each function grows with its size. Built and
+//! started by `bench/run`.
+//!
+//! A ratio is the library's time over the plain program's: below 1 the library
+//! is faster. Growth is the time over that of the line before it, beside how
+//! much the work grew.
+
+use std::hint::black_box;
+use std::time::{Duration, Instant};
+
+use upload_planner::{numbers, Call};
+
+#[allow(dead_code)]
+#[path = "../tests/reference.rs"]
+mod reference;
+use reference::{u16_at, u32_at, Draft, Rng};
+
+const NEVER: u32 = u32::MAX;
+
+// ---------------------------------------------------------------------------
+// The plain programs.
+// ---------------------------------------------------------------------------
+
+/// What a reader finds; rates and units stay in the job's bytes.
+struct Read<'a> {
+    header: [usize; 9],
+    rates: &'a [u8],
+    units: &'a [u8],
+    taken: usize,
+}
+
+/// Checks a whole job.
+fn plain_open(job: &[u8]) -> Option<Read<'_>> {
+    let body = plain_record(job, 0, 1, 20)?;
+    let header: [usize; 9] = std::array::from_fn(|i| u16_at(body, 2 * i) as usize);
+    let limits = [512, 64, 255, 255, 4095, header[2], header[3], 16, 31];
+    if header.iter().zip(limits).any(|(field, high)| *field > high) {
+        return None;
+    }
+    let [units, .., rates, choices] = header;
+    if units == 0 || rates == 0 || choices == 0 {
+        return None;
+    }
+    let listed = plain_record(job, 22, 2, 2 + 2 * rates)?;
+    let rising = listed.chunks_exact(2).map(|two| u16_at(two, 0) as i32);
+    if !rising.clone().zip(rising.skip(1)).all(|(one, two)| one < two) {
+        return None;
+    }
+    if u16_at(listed, 2 * (rates - 1)) > 4095 {
+        return None;
+    }
+    let first = 26 + 2 * rates;
+    let size = 4 + 6 * choices;
+    for unit in 0..units {
+        let body = plain_record(job, first + unit * size, 3, 2 + 6 * choices)?;
+        let fits = |six: &[u8]| u16_at(six, 0) <= 4095 && u32_at(six, 2) <= 1_000_000;
+        if !body.chunks_exact(6).all(fits) {
+            return None;
+        }
+    }
+    let taken = first + units * size;
+    Some(Read { header, rates: listed, units: &job[first..taken], taken })
+}
+
+fn plain_record(job: &[u8], at: usize, kind: u16, length: usize) -> Option<&[u8]> {
+    let head = job.get(at..at + 4)?;
+    if u16_at(head, 0) as usize != length || u16_at(head, 2) != kind {
+        return None;
+    }
+    job.get(at + 4..at + 2 + length)
+}
+
+impl Read<'_> {
+    fn intervals(&self) -> usize {
+        self.header[0] + self.header[1]
+    }
+
+    fn words(&self) -> usize {
+        (self.intervals() + 1) * (self.header[2] + 1) * (self.header[3] + 1)
+    }
+
+    fn rate(&self, index: usize) -> usize {
+        u16_at(self.rates, 2 * index) as usize
+    }
+
+    /// Grains and distortion; `unit` from 0.
+    fn choice(&self, unit: usize, choice: usize) -> (usize, u32) {
+        let at = unit * (4 + 6 * self.header[8]) + 4 + 6 * choice;
+        (u16_at(self.units, at) as usize, u32_at(self.units, at + 2))
+    }
+
+    /// What interval t, from 1, may decode: choice, grains, distortion.
+    fn options(&self, pins: &[Option<usize>], t: usize) -> Vec<(u8, usize, u32)> {
+        let Some(unit) = t.checked_sub(self.header[1] + 1) else {
+            return vec![(255, 0, 0)];
+        };
+        let held = |choice: &usize| pins[unit].map_or(true, |pinned| pinned == *choice);
+        let with = |choice| {
+            let (grains, distortion) = self.choice(unit, choice);
+            (choice as u8, grains, distortion)
+        };
+        (0..self.header[8]).filter(held).map(with).collect()
+    }
+}
+
+/// The book of pins.
+fn plain_calls(read: &Read, calls: &[u16], answers: &mut [u8]) -> Vec<Option<usize>> {
+    let mut pins = vec![None; read.header[0]];
+    for (call, answer) in calls.chunks_exact(3).zip(answers) {
+        let (unit, choice) = (call[1] as usize, call[2] as usize);
+        *answer = if unit < 1 || unit > pins.len() {
+            7
+        } else if call[0] == 6 {
+            if choice >= read.header[8] {
+                8
+            } else if pins[unit - 1].is_some() {
+                9
+            } else {
+                pins[unit - 1] = Some(choice);
+                0
+            }
+        } else if pins[unit - 1].take().is_none() {
+            10
+        } else {
+            0
+        };
+    }
+    pins
+}
+
+/// Four loops: decoder levels, bucket levels, rates, choices. Then the best
+/// plan read off from the start.
+fn plain_plan(
+    job: &[u8],
+    calls: &[u16],
+    answers: &mut [u8],
+    table: &mut [u32],
+    entries: &mut [u8],
+) -> Option<u64> {
+    let read = plain_open(job)?;
+    let pins = plain_calls(&read, calls, answers);
+    let [_, _, decoder, bucket, drain, start_decoder, start_bucket, rates, _] = read.header;
+    let rates: Vec<usize> = (0..rates).map(|rate| read.rate(rate)).collect();
+    let width = bucket + 1;
+    let layer = (decoder + 1) * width;
+    table[read.intervals() * layer..read.words()].fill(0);
+    for t in (1..=read.intervals()).rev() {
+        let options = read.options(&pins, t);
+        let (before, next) = table.split_at_mut(t * layer);
+        let filling = &mut before[(t - 1) * layer..];
+        for b in 0..=decoder {
+            for l in 0..=bucket {
+                let mut best = NEVER;
+                for &sent in &rates {
+                    let filled = (l + sent).saturating_sub(drain);
+                    if filled > bucket {
+                        continue;
+                    }
+                    for &(_, grains, distortion) in &options {
+                        let level = (b + sent).wrapping_sub(grains);
+                        if level <= decoder {
+                            let rest = next[level * width + filled];
+                            if rest != NEVER && rest + distortion < best {
+                                best = rest + distortion;
+                            }
+                        }
+                    }
+                }
+                filling[b * width + l] = best;
+            }
+        }
+    }
+    let (mut b, mut l, mut total) = (start_decoder, start_bucket, 0);
+    for t in 1..=read.intervals() {
+        let due = table[(t - 1) * layer + b * width + l];
+        if due == NEVER {
+            return None;
+        }
+        let options = read.options(&pins, t);
+        let (rate, choice, level, filled, distortion) = plain_entry(
+            &rates,
+            &options,
+            [b, l, decoder, bucket, drain],
+            due,
+            &table[t * layer..],
+        )?;
+        entries[2 * t - 2..2 * t].copy_from_slice(&[rate, choice]);
+        total += distortion as u64;
+        (b, l) = (level, filled);
+    }
+    Some(total)
+}
+
+fn plain_entry(
+    rates: &[usize],
+    options: &[(u8, usize, u32)],
+    [b, l, decoder, bucket, drain]: [usize; 5],
+    due: u32,
+    next: &[u32],
+) -> Option<(u8, u8, usize, usize, u32)> {
+    for (rate, sent) in rates.iter().enumerate() {
+        let filled = (l + sent).saturating_sub(drain);
+        for &(choice, grains, distortion) in options {
+            let level = (b + sent).wrapping_sub(grains);
+            if filled <= bucket && level <= decoder {
+                let rest = next[level * (bucket + 1) + filled];
+                if rest != NEVER && rest + distortion == due {
+                    return Some((rate as u8, choice, level, filled, distortion));
+                }
+            }
+        }
+    }
+    None
+}
+
+fn plain_shape(read: &Read, entries: &[u8]) -> bool {
+    let fits = |(t, entry): (usize, &[u8])| {
+        let choice = entry[1] as usize;
+        let chosen = if t < read.header[1] { choice == 255 } else { choice < read.header[8] };
+        (entry[0] as usize) < read.header[7] && chosen
+    };
+    entries.len() == 2 * read.intervals() && entries.chunks_exact(2).enumerate().all(fits)
+}
+
+fn plain_replay(job: &[u8], calls: &[u16], entries: &[u8], levels: &mut [u16]) -> Option<u64> {
+    let read = plain_open(job)?;
+    let pins = plain_calls(&read, calls, &mut vec![0; calls.len() / 3]);
+    if !plain_shape(&read, entries) {
+        return None;
+    }
+    let [_, delay, decoder, bucket, drain, mut b, mut l, ..] = read.header;
+    let mut total = 0;
+    for (t, entry) in entries.chunks_exact(2).enumerate() {
+        let sent = read.rate(entry[0] as usize);
+        let mut taken = 0;
+        if let Some(unit) = t.checked_sub(delay) {
+            let (grains, distortion) = read.choice(unit, entry[1] as usize);
+            taken = grains;
+            total += distortion as u64;
+            if pins[unit].is_some_and(|pinned| pinned != entry[1] as usize) {
+                return None;
+            }
+        }
+        b = (b + sent).wrapping_sub(taken);
+        l = (l + sent).saturating_sub(drain);
+        if b > decoder || l > bucket {
+            return None;
+        }
+        levels[2 * t..2 * t + 2].copy_from_slice(&[b as u16, l as u16]);
+    }
+    Some(total)
+}
+
+fn plain_report(job: &[u8], entries: &[u8], sums: &mut [u32]) -> Option<()> {
+    let read = plain_open(job)?;
+    if !plain_shape(&read, entries) {
+        return None;
+    }
+    for (i, sum) in sums[..=read.header[0]].iter_mut().enumerate() {
+        let sent = |t: usize| read.rate(entries[2 * t] as usize) as u32;
+        *sum = (i..i + read.header[1]).map(sent).sum();
+    }
+    Some(())
+}
+
+// ---------------------------------------------------------------------------
+// Jobs.
+// ---------------------------------------------------------------------------
+
+#[derive(Clone, Copy)]
+struct Size {
+    units: usize,
+    delay: usize,
+    decoder: usize,
+    bucket: usize,
+    rates: usize,
+    choices: usize,
+}
+
+const FULL: Size =
+    Size { units: 512, delay: 64, decoder: 255, bucket: 255, rates: 16, choices: 31 };
+
+impl Size {
+    /// States times rates times choices, over all intervals that decode.
+    fn work(&self) -> f64 {
+        let layer = (self.decoder + 1) * (self.bucket + 1) * self.rates;
+        (layer * (self.units * self.choices + self.delay)) as f64
+    }
+
+    fn intervals(&self) -> usize {
+        self.units + self.delay
+    }
+
+    /// One `part`th of the units and of the delay.
+    fn part(&self, part: usize) -> Size {
+        Size { units: self.units / part, delay: self.delay / part, ..*self }
+    }
+}
+
+/// Units of fine and coarse codings around what the line carries.
+fn job_of(size: &Size) -> Vec<u8> {
+    let mut rng = Rng(1);
+    let rates: Vec<u16> = (0..size.rates).map(|i| (i * 40 / size.rates) as u16).collect();
+    let mut unit = |_| {
+        let finest = if rng.one_in(12) { rng.from(80, 200) } else { rng.from(10, 50) };
+        let coding = |choice: usize| {
+            let grains = finest * (size.choices - choice) / size.choices;
+            let lost = finest - grains;
+            (grains as u16, (lost * lost * rng.from(3, 9) + rng.from(0, 60)) as u32)
+        };
+        (0..size.choices).map(coding).collect::<Vec<(u16, u32)>>()
+    };
+    let units: Vec<_> = (0..size.units).map(&mut unit).collect();
+    let levels = [size.delay, size.decoder, size.bucket, 20, size.decoder / 3, size.bucket / 2];
+    Draft::new(levels.map(|level| level as u16), &rates, &units).bytes()
+}
+
+// ---------------------------------------------------------------------------
+// Timing.
+// ---------------------------------------------------------------------------
+
+/// The least time of each in `rounds` rounds, the two in turn.
+fn in_turn(rounds: usize, mut ours: impl FnMut(), mut plain: impl FnMut()) -> [f64; 2] {
+    let mut least = [f64::MAX; 2];
+    for _ in 0..rounds {
+        for (side, best) in least.iter_mut().enumerate() {
+            let start = Instant::now();
+            if side == 0 {
+                ours();
+            } else {
+                plain();
+            }
+            *best = best.min(start.elapsed().as_secs_f64());
+        }
+    }
+    least
+}
+
+/// For short calls: each timed over as many repeats as fill some milliseconds.
+fn short_in_turn(mut ours: impl FnMut(), mut plain: impl FnMut()) -> [f64; 2] {
+    let start = Instant::now();
+    let mut repeats = 0;
+    while start.elapsed() < Duration::from_millis(4) {
+        ours();
+        repeats += 1;
+    }
+    let ours = || (0..repeats).for_each(|_| ours());
+    let plain = || (0..repeats).for_each(|_| plain());
+    in_turn(7, ours, plain).map(|time| time / repeats as f64)
+}
+
+struct Line {
+    name: String,
+    /// What the time should grow with.
+    work: f64,
+    times: [f64; 2],
+}
+
+fn line(name: impl Into<String>, work: f64, times: [f64; 2]) -> Line {
+    Line { name: name.into(), work, times }
+}
+
+/// Prints a line as soon as it is measured.
+struct Table {
+    last: Option<Line>,
+    each: &'static str,
+}
+
+impl Table {
+    /// `each`: what the work counts.
+    fn new(title: &str, each: &'static str) -> Table {
+        println!("\n{title}");
+        println!(
+            "  {:<34} {:>12} {:>12} {:>7} {:>16} {:>8} {:>8}",
+            "", "library us", "plain us", "ratio", "ns each", "grows", "work"
+        );
+        Table { last: None, each }
+    }
+
+    fn add(&mut self, line: Line) {
+        let [ours, plain] = line.times;
+        let growth = self.last.as_ref().map_or(["".into(), "".into()], |last| {
+            [ours / last.times[0], line.work / last.work].map(|ratio| format!("x{ratio:.2}"))
+        });
+        let each = format!("{:.2} a {}", ours * 1e9 / line.work, self.each);
+        println!(
+            "  {:<34} {:>12.2} {:>12.2} {:>7.2} {:>16} {:>8} {:>8}",
+            line.name,
+            ours * 1e6,
+            plain * 1e6,
+            ours / plain,
+            each,
+            growth[0],
+            growth[1]
+        );
+        self.last = Some(line);
+    }
+}
+
+// ---------------------------------------------------------------------------
+// The functions, each at several sizes.
+// ---------------------------------------------------------------------------
+
+/// Both plan the job; their plans and tables must be the same.
+fn time_plan(size: &Size) -> [f64; 2] {
+    let job = job_of(size);
+    let opened = upload_planner::open(&job).expect("a job");
+    let mut tables = [vec![0; opened.table_words], vec![0; opened.table_words]];
+    let mut entries = [vec![0; 2 * opened.intervals], vec![0; 2 * opened.intervals]];
+    let mut totals = [None, None];
+    let rounds = if size.work() * 30.0 < FULL.work() { 3 } else { 1 };
+    let [our_table, plain_table] = &mut tables;
+    let [our_entries, plain_entries] = &mut entries;
+    let [our_total, plain_total] = &mut totals;
+    let times = in_turn(
+        rounds,
+        || {
+            let found = upload_planner::plan(&job, &[], &mut [], our_table, our_entries);
+            *our_total = found.ok().map(|totals| totals.distortion);
+        },
+        || *plain_total = plain_plan(&job, &[], &mut [], plain_table, plain_entries),
+    );
+    assert!(totals[0].is_some() && totals[0] == totals[1], "the plans differ: {totals:?}");
+    assert!(tables[0] == tables[1] && entries[0] == entries[1], "the tables or plans differ");
+    times
+}
+
+fn plan_tables(with_full: bool) {
+    let mut table = Table::new("planning, by length (1 is 512 units, delay 64)", "move");
+    for part in [64, 32, 16, 8, 4, 2, 1] {
+        if part > 1 || with_full {
+            let size = FULL.part(part);
+            let name = format!("1/{part}: {} units, delay {}", size.units, size.delay);
+            table.add(line(name, size.work(), time_plan(&size)));
+        }
+    }
+    let base = Size { units: 64, delay: 8, decoder: 63, bucket: 63, rates: 4, choices: 8 };
+    let rows: [(&str, fn(&mut Size, usize), [usize; 4]); 5] = [
+        ("decoder size", |size, value| size.decoder = value - 1, [32, 64, 128, 256]),
+        ("bucket size", |size, value| size.bucket = value - 1, [32, 64, 128, 256]),
+        ("rates", |size, value| size.rates = value, [2, 4, 8, 16]),
+        ("choices", |size, value| size.choices = value, [4, 8, 16, 31]),
+        ("delay", |size, value| size.delay = value, [8, 16, 32, 64]),
+    ];
+    for (name, set, values) in rows {
+        let mut table = Table::new(&format!("planning, by {name}"), "move");
+        for value in values {
+            let mut size = base;
+            set(&mut size, value);
+            table.add(line(format!("{value}"), size.work(), time_plan(&size)));
+        }
+    }
+}
+
+fn call_tables() {
+    // One unit that takes nothing, so that planning is next to nothing.
+    let job = Draft::new([0, 0, 0, 1, 0, 0], &[0], &[vec![(0, 0)]]).bytes();
+    let mut table = Table::new(
+        "pins and lifts on the smallest job, by planning (the plain program reads the job once)",
+        "call",
+    );
+    for count in [2, 64, 1024, 16_384, 262_144] {
+        let calls: Vec<u16> = [[6, 1, 0], [7, 1, 0]].concat().repeat(count / 2);
+        let (mut answers, mut words, mut entries) = (vec![0; count], [0; 2], [0; 2]);
+        let mut values = [0; 3];
+        let mut spare = (vec![0; count], [0; 2], [0; 2]);
+        let times = short_in_turn(
+            || {
+                let lent = (&mut answers, &mut words, &mut entries, &mut values);
+                black_box(numbers::plan(&job, &calls, lent.0, lent.1, lent.2, lent.3));
+            },
+            || {
+                let lent = (&mut spare.0, &mut spare.1, &mut spare.2);
+                black_box(plain_plan(&job, black_box(&calls), lent.0, lent.1, lent.2));
+            },
+        );
+        assert!(answers == spare.0, "the answers differ");
+        table.add(line(format!("{count} calls"), count as f64, times));
+    }
+
+    let mut table = Table::new(
+        "1,024 pins and lifts on larger jobs, by replay (the plain program reads the job once)",
+        "call",
+    );
+    for part in [64, 8, 1] {
+        let size = FULL.part(part);
+        let job = job_of(&size);
+        let entries = some_entries(&size);
+        let units = size.units as u16;
+        let pair = |i: u16| [[6, 1 + i % units, 0], [7, 1 + i % units, 0]].concat();
+        let calls: Vec<u16> = (0..512).flat_map(pair).collect();
+        let mut levels = [vec![0; 2 * size.intervals()], vec![0; 2 * size.intervals()]];
+        let [our_levels, plain_levels] = &mut levels;
+        let mut values = [0; 5];
+        let times = short_in_turn(
+            || {
+                black_box(numbers::replay(&job, &calls, &entries, our_levels, &mut values));
+            },
+            || {
+                black_box(plain_replay(&job, black_box(&calls), &entries, plain_levels));
+            },
+        );
+        table.add(line(format!("{} units, {} bytes", size.units, job.len()), 1024.0, times));
+    }
+}
+
+/// A well-shaped plan: for the report any will do.
+fn some_entries(size: &Size) -> Vec<u8> {
+    let choice = |t: usize| if t < size.delay { 255 } else { size.choices as u8 - 1 };
+    (0..size.intervals()).flat_map(|t| [(t % size.rates) as u8, choice(t)]).collect()
+}
+
+/// An easy job: every interval sends one grain or none, and what waits for the
+/// delay fits the decoder; the plan never breaks off.
+fn even_job(size: &Size) -> (Vec<u8>, Vec<u8>) {
+    let unit: Vec<(u16, u32)> = (0..size.choices).map(|i| (1, i as u32)).collect();
+    let rates: Vec<u16> = (0..size.rates).map(|i| i as u16).collect();
+    let levels = [size.delay as u16, 255, 255, 1, 0, 0];
+    let job = Draft::new(levels, &rates, &vec![unit; size.units]).bytes();
+    let choice = |t: usize| if t < size.delay { 255 } else { (t % size.choices) as u8 };
+    (job, (0..size.intervals()).flat_map(|t| [1, choice(t)]).collect())
+}
+
+fn other_tables() {
+    let mut table = Table::new("opening", "byte");
+    for part in [64, 8, 1] {
+        let size = FULL.part(part);
+        let job = job_of(&size);
+        let mut values = [0; 4];
+        let times = short_in_turn(
+            || {
+                black_box(numbers::open(&job, &mut values));
+            },
+            || {
+                black_box(plain_open(black_box(&job)).map(|read| (read.taken, read.words())));
+            },
+        );
+        table.add(line(format!("{} units", size.units), job.len() as f64, times));
+    }
+
+    let mut table = Table::new("replay, the job's reading included", "byte");
+    for part in [64, 8, 1] {
+        let size = FULL.part(part);
+        let (job, entries) = even_job(&size);
+        let mut levels = [vec![0; 2 * size.intervals()], vec![0; 2 * size.intervals()]];
+        let [our_levels, plain_levels] = &mut levels;
+        let mut total = None;
+        let times = short_in_turn(
+            || {
+                let calls: [Call; 0] = [];
+                black_box(upload_planner::replay(&job, &calls, &entries, our_levels)).unwrap();
+            },
+            || total = plain_replay(&job, &[], black_box(&entries), plain_levels),
+        );
+        assert!(total.is_some() && levels[0] == levels[1], "the levels differ");
+        table.add(line(format!("{} intervals", size.intervals()), job.len() as f64, times));
+    }
+
+    let mut table = Table::new("report, the job's reading included", "step");
+    for part in [64, 8, 1] {
+        let size = FULL.part(part);
+        table.add(time_report(&size));
+    }
+    let mut table = Table::new("report by delay: 512 units, one rate, one choice", "step");
+    for delay in [0, 1, 16, 64] {
+        table.add(time_report(&Size { delay, rates: 1, choices: 1, ..FULL }));
+    }
+}
+
+fn time_report(size: &Size) -> Line {
+    let job = job_of(size);
+    let entries = some_entries(size);
+    let mut sums = [vec![0; size.units + 1], vec![0; size.units + 1]];
+    let [our_sums, plain_sums] = &mut sums;
+    let times = short_in_turn(
+        || upload_planner::report(&job, &entries, our_sums).unwrap(),
+        || plain_report(&job, black_box(&entries), plain_sums).unwrap(),
+    );
+    assert!(sums[0] == sums[1], "the sums differ");
+    // Choices to read and rates to add up.
+    let steps = size.units * size.choices + (size.units + 1) * size.delay;
+    line(format!("{} units, delay {}", size.units, size.delay), steps as f64, times)
+}
+
+fn main() {
+    let arguments: Vec<String> = std::env::args().skip(1).collect();
+    let with_full = match arguments.iter().map(String::as_str).collect::<Vec<_>>()[..] {
+        [] => true,
+        ["--no-full"] => false,
+        _ => {
+            println!("usage: bench/run [--no-full]");
+            std::process::exit(2);
+        }
+    };
+    println!("ratio: the library's time over that of a plain program; below 1 it is faster");
+    call_tables();
+    other_tables();
+    plan_tables(with_full);
+}

@@ -1,0 +1,379 @@
+//! The upload planner.
+//!
+//! Programmes are sent over a line that a carrier polices. For each interval
+//! the planner chooses a channel rate and for each coded unit a quantizer
+//! choice, so that total distortion is least while the decoder's buffer runs
+//! neither short nor over and the carrier's leaky bucket never overflows.
+//!
+//! A job of N units with a delay of d intervals has T = N + d intervals; for
+//! t > d, interval t decodes unit t − d. Sizes, rates and levels are counted in
+//! grains. Units and intervals are counted from 1, rates and choices from 0.
+//!
+//! [`open`], [`plan`], [`replay`] and [`report`] fill lists that the caller
+//! lends; [`best_plan`] makes the lists itself. All of them take the bytes of
+//! the job and read them again, and keep nothing between calls. Lists may be
+//! longer than needed: what stands past the part named as written keeps its
+//! values. A refusal writes nothing, except that [`Refusal::NoPlan`] comes
+//! after the search and leaves `answers` and `table` written.
+//!
+//! The work is done by the library `libupload.a`, whose code is proved to meet
+//! its contract. It takes no memory and reads and writes only what is lent to
+//! it, so every function here is safe. [`numbers`] has its functions as they
+//! are in C.
+//!
+//! ```
+//! use upload_planner::{best_plan, Call, Refusal};
+//!
+//! // Two units over three intervals: the header, the rates 0, 2 and 4, then
+//! // grains and distortion of both choices of each unit.
+//! #[rustfmt::skip]
+//! let job = [
+//!     20, 0, 1, 0,  2, 0, 1, 0, 4, 0, 3, 0, 2, 0, 0, 0, 0, 0, 3, 0, 2, 0,
+//!     8, 0, 2, 0,   0, 0, 2, 0, 4, 0,
+//!     14, 0, 3, 0,  4, 0, 10, 0, 0, 0,  2, 0, 30, 0, 0, 0,
+//!     14, 0, 3, 0,  5, 0, 12, 0, 0, 0,  2, 0, 40, 0, 0, 0,
+//! ];
+//!
+//! let best = best_plan(&job, &[])?;
+//! assert_eq!(best.totals.distortion, 42);
+//! assert_eq!(best.entries, [1, 255, 1, 1, 2, 0]);
+//!
+//! let first = Call::Pin { unit: 1, choice: 0 };
+//! let best = best_plan(&job, &[first])?;
+//! assert_eq!(best.totals.distortion, 50);
+//!
+//! let second = Call::Pin { unit: 2, choice: 0 };
+//! assert_eq!(best_plan(&job, &[first, second]), Err(Refusal::NoPlan));
+//!
+//! let best = best_plan(&job, &[first, Call::Lift { unit: 1 }, second])?;
+//! assert_eq!(best.totals.distortion, 42);
+//! # Ok::<(), Refusal>(())
+//! ```
+
+#![warn(missing_docs)]
+
+use std::error::Error;
+use std::fmt;
+
+pub mod numbers;
+
+/// The choice byte of an interval that decodes no unit.
+pub const NO_UNIT: u8 = 255;
+
+/// The word of a state from which no plan can be completed.
+pub const NEVER: u32 = u32::MAX;
+
+/// Why a job, a call or a list is refused.
+#[derive(Clone, Copy, Debug, PartialEq, Eq, Hash)]
+#[non_exhaustive]
+pub enum Refusal {
+    /// 1: the bytes end within a record, or the last call is cut.
+    Cut,
+    /// 2: a record's kind or length is not the one due, or a call is neither a
+    /// pin nor a lift.
+    WrongRecord,
+    /// 3: a field of the job's header is out of range.
+    Header,
+    /// 4: a rate is over 4,095, or the rates do not rise.
+    Rates,
+    /// 5: a choice's grains are over 4,095 or its distortion is over 1,000,000.
+    Choices,
+    /// 6: a set of pins does not fit the job. The functions here keep their own
+    /// set and never give this.
+    OtherJob,
+    /// 7: the unit is not from 1 to N.
+    NoSuchUnit,
+    /// 8: the choice is not one of the unit's.
+    NoSuchChoice,
+    /// 9: the unit is pinned already.
+    Pinned,
+    /// 10: the unit is not pinned.
+    NotPinned,
+    /// 11: the table has fewer words than planning needs.
+    TableTooShort,
+    /// 12: another list that is to be filled is too short.
+    ListTooShort,
+    /// 13: no plan is admissible.
+    NoPlan,
+    /// 14: the entries are not 2 × T bytes, or one of them is out of range.
+    NotAPlan,
+    /// 15: the input is longer than 32,768 bytes. The program `plan` gives
+    /// this; the functions here never do.
+    InputTooLong,
+}
+
+impl Refusal {
+    const ALL: [Refusal; 15] = [
+        Refusal::Cut,
+        Refusal::WrongRecord,
+        Refusal::Header,
+        Refusal::Rates,
+        Refusal::Choices,
+        Refusal::OtherJob,
+        Refusal::NoSuchUnit,
+        Refusal::NoSuchChoice,
+        Refusal::Pinned,
+        Refusal::NotPinned,
+        Refusal::TableTooShort,
+        Refusal::ListTooShort,
+        Refusal::NoPlan,
+        Refusal::NotAPlan,
+        Refusal::InputTooLong,
+    ];
+
+    /// The refusal's number, from 1.
+    pub fn number(self) -> u32 {
+        self as u32 + 1
+    }
+
+    /// The refusal of this number, if there is one.
+    pub fn from_number(number: u32) -> Option<Refusal> {
+        Self::ALL.get((number as usize).checked_sub(1)?).copied()
+    }
+}
+
+impl fmt::Display for Refusal {
+    fn fmt(&self, f: &mut fmt::Formatter) -> fmt::Result {
+        f.write_str(match self {
+            Refusal::Cut => "the bytes end within a record, or the last call is cut",
+            Refusal::WrongRecord => "a record or a call of another kind or length than the one due",
+            Refusal::Header => "a field of the job's header is out of range",
+            Refusal::Rates => "a rate is over 4,095, or the rates do not rise",
+            Refusal::Choices => "a choice's grains or distortion are over their limit",
+            Refusal::OtherJob => "the set of pins does not fit the job",
+            Refusal::NoSuchUnit => "the job has no such unit",
+            Refusal::NoSuchChoice => "the unit has no such choice",
+            Refusal::Pinned => "the unit is pinned already",
+            Refusal::NotPinned => "the unit is not pinned",
+            Refusal::TableTooShort => "the table has fewer words than planning needs",
+            Refusal::ListTooShort => "a list that is to be filled is too short",
+            Refusal::NoPlan => "no plan is admissible",
+            Refusal::NotAPlan => "the entries are not a plan of this job",
+            Refusal::InputTooLong => "the input is longer than 32,768 bytes",
+        })
+    }
+}
+
+impl Error for Refusal {}
+
+/// A pin set or lifted. A list of calls starts from no pins; a call that is
+/// refused changes none.
+#[derive(Clone, Copy, Debug, PartialEq, Eq, Hash)]
+pub enum Call {
+    /// Holds a unit at one of its choices.
+    Pin {
+        /// From 1 to N.
+        unit: u16,
+        /// Below the number of choices.
+        choice: u16,
+    },
+    /// Leaves the unit free again.
+    Lift {
+        /// From 1 to N.
+        unit: u16,
+    },
+}
+
+impl Call {
+    /// The call as the three numbers that the library takes.
+    pub fn numbers(self) -> [u16; 3] {
+        match self {
+            Call::Pin { unit, choice } => [numbers::PIN, unit, choice],
+            Call::Lift { unit } => [numbers::LIFT, unit, 0],
+        }
+    }
+}
+
+fn numbers_of(calls: &[Call]) -> Vec<u16> {
+    calls.iter().flat_map(|call| call.numbers()).collect()
+}
+
+/// What a job takes.
+#[derive(Clone, Copy, Debug, PartialEq, Eq, Hash)]
+pub struct Opened {
+    /// How many bytes the job took; those after it are not looked at.
+    pub bytes: usize,
+    /// N.
+    pub units: usize,
+    /// T.
+    pub intervals: usize,
+    /// The words that planning needs for its table.
+    pub table_words: usize,
+}
+
+/// What a plan comes to.
+#[derive(Clone, Copy, Debug, PartialEq, Eq, Hash)]
+pub struct Totals {
+    /// The distortions of the choices made.
+    pub distortion: u64,
+    /// What the units take, in grains.
+    pub source_grains: u64,
+    /// What the intervals send, in grains.
+    pub channel_grains: u64,
+}
+
+impl Totals {
+    fn of(values: [u64; 3]) -> Totals {
+        Totals { distortion: values[0], source_grains: values[1], channel_grains: values[2] }
+    }
+}
+
+/// What is wrong with a plan in an interval. They are tested in this order.
+#[derive(Clone, Copy, Debug, PartialEq, Eq, PartialOrd, Ord, Hash)]
+pub enum Violation {
+    /// The decoder's level would fall below 0.
+    DecoderShort,
+    /// The decoder's level would pass its size.
+    DecoderOver,
+    /// The bucket's level would pass its size.
+    BucketOver,
+    /// The unit is pinned at another choice.
+    PinNotHeld,
+}
+
+impl fmt::Display for Violation {
+    fn fmt(&self, f: &mut fmt::Formatter) -> fmt::Result {
+        f.write_str(match self {
+            Violation::DecoderShort => "decoder short",
+            Violation::DecoderOver => "decoder over",
+            Violation::BucketOver => "bucket over",
+            Violation::PinNotHeld => "pin not held",
+        })
+    }
+}
+
+/// What replay finds.
+#[derive(Clone, Copy, Debug, PartialEq, Eq, Hash)]
+pub enum Replayed {
+    /// The plan is admissible.
+    Clean(Totals),
+    /// The plan is not admissible.
+    Breach {
+        /// The first violation.
+        violation: Violation,
+        /// Its interval, from 1.
+        interval: usize,
+    },
+}
+
+fn checked(number: u32) -> Result<(), Refusal> {
+    match number {
+        0 => Ok(()),
+        _ => Err(Refusal::from_number(number)
+            .unwrap_or_else(|| panic!("the library answered {number}, which is no refusal"))),
+    }
+}
+
+/// Opens a job: checks all of it and says what the other functions need.
+///
+/// # Errors
+///
+/// Numbers 1 to 5.
+pub fn open(job: &[u8]) -> Result<Opened, Refusal> {
+    let mut values = [0; numbers::OPEN_VALUES];
+    checked(numbers::open(job, &mut values))?;
+    let [bytes, units, intervals, table_words] = values.map(|value| value as usize);
+    Ok(Opened { bytes, units, intervals, table_words })
+}
+
+/// Makes the calls in turn, refused ones included, then plans with the pins
+/// that stand at the end.
+///
+/// - `answers`: one byte for each call is written: 0 where it was taken,
+///   otherwise its refusal's number.
+/// - `table`: [`Opened::table_words`] words are written. Word
+///   (t × (decoder size + 1) + b) × (bucket size + 1) + l is the least
+///   distortion that intervals t + 1 to T can add from decoder level b and
+///   bucket level l after interval t, pins held, or [`NEVER`].
+/// - `entries`: 2 × T bytes are written, two for each interval: the index of
+///   its rate, then that of its unit's choice, or [`NO_UNIT`].
+///
+/// The plan has the least distortion of all that are admissible. Among several
+/// the first interval at which they differ decides: the smaller rate index,
+/// then the smaller choice index.
+///
+/// # Errors
+///
+/// Numbers 1 to 5 for the job; 11; 12 where `answers` or `entries` is too short;
+/// 13, which leaves `answers` and `table` written.
+pub fn plan(
+    job: &[u8],
+    calls: &[Call],
+    answers: &mut [u8],
+    table: &mut [u32],
+    entries: &mut [u8],
+) -> Result<Totals, Refusal> {
+    let mut values = [0; numbers::PLAN_VALUES];
+    checked(numbers::plan(job, &numbers_of(calls), answers, table, entries, &mut values))?;
+    Ok(Totals::of(values))
+}
+
+/// Makes the calls as [`plan`] does, then follows a plan interval by interval up
+/// to its first violation.
+///
+/// `levels` needs room for 2 × T numbers: the decoder's and the bucket's level
+/// after each interval. Only those before the violation are written.
+///
+/// # Errors
+///
+/// Numbers 1 to 5 for the job; 14; 12 where `levels` is too short.
+pub fn replay(
+    job: &[u8],
+    calls: &[Call],
+    entries: &[u8],
+    levels: &mut [u16],
+) -> Result<Replayed, Refusal> {
+    let mut values = [0; numbers::REPLAY_VALUES];
+    checked(numbers::replay(job, &numbers_of(calls), entries, levels, &mut values))?;
+    let [kind, interval, totals @ ..] = values;
+    let violation = match kind {
+        0 => return Ok(Replayed::Clean(Totals::of(totals))),
+        1 => Violation::DecoderShort,
+        2 => Violation::DecoderOver,
+        3 => Violation::BucketOver,
+        4 => Violation::PinNotHeld,
+        _ => panic!("the library answered {kind}, which is no violation"),
+    };
+    Ok(Replayed::Breach { violation, interval: interval as usize })
+}
+
+/// The effective buffer sizes of a plan, admissible or not.
+///
+/// N + 1 sums are written: for i from 0 to N the grains that intervals i + 1 to
+/// i + d send.
+///
+/// # Errors
+///
+/// Numbers 1 to 5 for the job; 14; 12 where `sums` is too short.
+pub fn report(job: &[u8], entries: &[u8], sums: &mut [u32]) -> Result<(), Refusal> {
+    checked(numbers::report(job, entries, sums))
+}
+
+/// A plan with the lists that planning filled.
+#[derive(Clone, Debug, PartialEq, Eq)]
+pub struct BestPlan {
+    /// What the plan comes to.
+    pub totals: Totals,
+    /// Two bytes for each interval.
+    pub entries: Vec<u8>,
+    /// What each call met with.
+    pub answers: Vec<Result<(), Refusal>>,
+    /// The least distortion from every state.
+    pub table: Vec<u32>,
+}
+
+/// [`plan`] with lists of its own, as long as the job needs. At the largest
+/// jobs the table takes 151 million bytes.
+///
+/// # Errors
+///
+/// Numbers 1 to 5 for the job; 13.
+pub fn best_plan(job: &[u8], calls: &[Call]) -> Result<BestPlan, Refusal> {
+    let opened = open(job)?;
+    let mut answers = vec![0; calls.len()];
+    let mut table = vec![0; opened.table_words];
+    let mut entries = vec![0; 2 * opened.intervals];
+    let totals = plan(job, calls, &mut answers, &mut table, &mut entries)?;
+    let answers = answers.into_iter().map(|answer| checked(answer.into())).collect();
+    Ok(BestPlan { totals, entries, answers, table })
+}

@@ -1,0 +1,139 @@
+//! The library's functions as they are in C, with a slice for each pointer and
+//! count. Each answers 0 or a refusal's number; what each list holds stands at
+//! the functions of the same names in the crate's root.
+//!
+//! Calls are numbers, three a call: [`PIN`] or [`LIFT`], the unit, the choice,
+//! which a lift does not look at. A call of another kind is refused with 2, then
+//! a last call that is cut with 1, both after the job's numbers. A `values` list
+//! that is too short is refused with 12 before anything else.
+
+/// The first number of a call that pins.
+pub const PIN: u16 = 6;
+/// The first number of a call that lifts.
+pub const LIFT: u16 = 7;
+
+/// How many values [`open`] writes: the bytes that the job took, N, T, and the
+/// words of the table.
+pub const OPEN_VALUES: usize = 4;
+/// How many values [`plan`] writes: distortion, source grains, channel grains.
+pub const PLAN_VALUES: usize = 3;
+/// How many values [`replay`] writes: 0 or the violation's number, from 1; its
+/// interval or 0; then distortion, source grains and channel grains, each 0
+/// where there is a violation.
+pub const REPLAY_VALUES: usize = 5;
+
+#[link(name = "upload", kind = "static")]
+extern "C" {
+    fn upload_open(job: *const u8, job_len: usize, values: *mut u64, values_len: usize) -> u32;
+
+    fn upload_plan(
+        job: *const u8,
+        job_len: usize,
+        calls: *const u16,
+        calls_len: usize,
+        answers: *mut u8,
+        answers_len: usize,
+        table: *mut u32,
+        table_len: usize,
+        entries: *mut u8,
+        entries_len: usize,
+        values: *mut u64,
+        values_len: usize,
+    ) -> u32;
+
+    fn upload_replay(
+        job: *const u8,
+        job_len: usize,
+        calls: *const u16,
+        calls_len: usize,
+        entries: *const u8,
+        entries_len: usize,
+        levels: *mut u16,
+        levels_len: usize,
+        values: *mut u64,
+        values_len: usize,
+    ) -> u32;
+
+    fn upload_report(
+        job: *const u8,
+        job_len: usize,
+        entries: *const u8,
+        entries_len: usize,
+        sums: *mut u32,
+        sums_len: usize,
+    ) -> u32;
+}
+
+// In all four: a slice's pointer is aligned, never null, and good for the
+// slice's length; slices that are written overlap no other. That is all the
+// library asks, and it reads and writes nothing else.
+
+/// Opens a job.
+pub fn open(job: &[u8], values: &mut [u64]) -> u32 {
+    unsafe { upload_open(job.as_ptr(), job.len(), values.as_mut_ptr(), values.len()) }
+}
+
+/// Makes the calls, then plans.
+pub fn plan(
+    job: &[u8],
+    calls: &[u16],
+    answers: &mut [u8],
+    table: &mut [u32],
+    entries: &mut [u8],
+    values: &mut [u64],
+) -> u32 {
+    unsafe {
+        upload_plan(
+            job.as_ptr(),
+            job.len(),
+            calls.as_ptr(),
+            calls.len(),
+            answers.as_mut_ptr(),
+            answers.len(),
+            table.as_mut_ptr(),
+            table.len(),
+            entries.as_mut_ptr(),
+            entries.len(),
+            values.as_mut_ptr(),
+            values.len(),
+        )
+    }
+}
+
+/// Makes the calls, then follows a plan up to its first violation.
+pub fn replay(
+    job: &[u8],
+    calls: &[u16],
+    entries: &[u8],
+    levels: &mut [u16],
+    values: &mut [u64],
+) -> u32 {
+    unsafe {
+        upload_replay(
+            job.as_ptr(),
+            job.len(),
+            calls.as_ptr(),
+            calls.len(),
+            entries.as_ptr(),
+            entries.len(),
+            levels.as_mut_ptr(),
+            levels.len(),
+            values.as_mut_ptr(),
+            values.len(),
+        )
+    }
+}
+
+/// The effective buffer sizes of a plan.
+pub fn report(job: &[u8], entries: &[u8], sums: &mut [u32]) -> u32 {
+    unsafe {
+        upload_report(
+            job.as_ptr(),
+            job.len(),
+            entries.as_ptr(),
+            entries.len(),
+            sums.as_mut_ptr(),
+            sums.len(),
+        )
+    }
+}

@@ -1,0 +1,55 @@
+use Rattle.sitting.proofs.Sessions.{Held, held-start, held-on, held-end}
+use Rattle.pins.specs.Answers.{state, opening, handed}
+use Rattle.pinning.specs.Calls.{Opening}
+use mathlib.Core.Path.{ap}
+use Prim.Native.Nat.{_≤_, _-_}
+use native.Mathlib.Omega.{arith}
+use borrow.Author.Needs.{needs}
+use Rattle.sitting.proofs.set_after.Statement.{statement}
+use Rattle.sitting.proofs.set_after.Tie as tie
+
+abbrev Inv-loop : tie.InvT-loop
+Inv-loop job calls count set₀ place₀ set place = (place ≤ count) × Held job calls place (state set)
+
+abbrev μ-loop : tie.MeasureT-loop
+μ-loop job calls count set₀ place₀ set place = count - place
+
+open-requires : tie.Need-open-requires Inv-loop μ-loop
+open-requires c κs = search needs
+
+loop-holds : tie.Need-loop-holds Inv-loop μ-loop
+unfolding opening
+loop-holds c = (search needs, held-start _ _ _ (ap (λ (o : Opening). o .state) (c .before .«open» .ensures)))
+
+make-call-requires : tie.Need-make-call-requires Inv-loop μ-loop
+make-call-requires c κs = search needs
+
+add-place : tie.Need-add-place Inv-loop μ-loop
+add-place c = search needs
+
+loop-less : tie.Need-loop-less Inv-loop μ-loop
+loop-less c = search needs
+
+loop-again : tie.Need-loop-again Inv-loop μ-loop
+unfolding handed
+loop-again c =
+    let m = c .before in
+    let l = m .before .before in
+    (omega arith, held-on _ _ (l .loop .place) _ (l .loop .inv .1) (omega arith) (handed (m .make-call .result)) (m .make-call .ensures))
+
+returns : tie.Need-returns Inv-loop μ-loop
+returns c = let l = c .before in held-end _ _ (l .loop .place) _ (l .loop .inv .1) (omega arith)
+
+pub set-after-spec : {M : Type 1} → statement M
+set-after-spec =
+    tie.close
+    (tie.spec
+    Inv-loop
+    μ-loop
+    open-requires
+    loop-holds
+    make-call-requires
+    add-place
+    loop-less
+    loop-again
+    returns)

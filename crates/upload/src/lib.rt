@@ -1,0 +1,166 @@
+// The planner for programs in other languages: numbers and lists alone. Each function answers 0, or the number of document 01's refusal; its values go to a list that is lent.
+// A list for values that is too short is refused with 12 before anything else is looked at.
+ghost use mathlib.Core.Path.{_≡_};
+ghost use Prim.Native.Nat.{_≤_};
+ghost use mathlib.Core.List.{_∷_};
+ghost use lib.ListN.{length};
+ghost use Rattle.job.specs.Answers.{plain};
+ghost use Rattle.replay.specs.Answers.{violation};
+ghost use Rattle.replaying.specs.Calls.{over};
+ghost use Rattle.upload.specs.Exports.{opened-values, totals-values, violation-number, opened, open-export, planned, plan-export, replayed, replay-export, reported, report-export};
+use job::Header;
+use pins::Opening;
+use planner::Planned;
+use replay::Replayed;
+use replay::Reported;
+use replay::Totals;
+use replay::Violation;
+
+// How many values each call gives.
+const OPEN_VALUES: usize = 4;
+
+const PLAN_VALUES: usize = 3;
+
+const REPLAY_VALUES: usize = 5;
+
+// What is answered where a call is not refused.
+const DONE: u32 = 0;
+
+// The list to be filled is too short.
+const SHORT_LIST: u32 = 12;
+
+// Of a job that opens: how many bytes it took, N, T, and how many words its table has.
+fn put_opened(values: &mut [u64], taken: usize, header: Header)
+    requires { ⌜ 4 ≤ length (now values) ⌝ }
+    ensures { λ _. ⌜ now (values .exit) ≡ over (opened-values taken (plain header)) (now (values .entry)) ⌝ }
+{
+    values[0] = taken as u64;
+    values[1] = header.units as u64;
+    values[2] = replay::intervals(header) as u64;
+    values[3] = planner::table_words(header) as u64;
+}
+
+// Opens a job. Values: how many bytes it took, N, T, and how many words its table has.
+#[no_mangle]
+pub extern "C" fn upload_open(job: &[u8], values: &mut [u64]) -> u32
+    ensures { λ r. ⌜ opened r (now (values .exit)) ≡ open-export (now (job .entry)) (now (values .entry)) ⌝ }
+{
+    if values.len() < OPEN_VALUES {
+        return SHORT_LIST;
+    }
+    let open = pins::open(job);
+    let answer = open.answer;
+    let set = open.set;
+    match answer {
+        Opening::Refused(n) => n as u32,
+        Opening::Took(taken) => {
+            let header = set.header;
+            put_opened(values, taken, header);
+            DONE
+        }
+    }
+}
+
+// Distortion, source size and channel size.
+fn put_totals(values: &mut [u64], totals: Totals)
+    requires { ⌜ 3 ≤ length (now values) ⌝ }
+    ensures { λ _. ⌜ now (values .exit) ≡ over (totals-values totals) (now (values .entry)) ⌝ }
+{
+    values[0] = totals.distortion as u64;
+    values[1] = totals.source as u64;
+    values[2] = totals.channel as u64;
+}
+
+// Makes calls as numbers, three a call (6 pins, 7 lifts; the unit; the choice), refused ones included, and plans with the pins that they leave. Values: distortion, source size and channel size of the plan.
+#[no_mangle]
+pub extern "C" fn upload_plan(
+    job: &[u8],
+    calls: &[u16],
+    answers: &mut [u8],
+    table: &mut [u32],
+    entries: &mut [u8],
+    values: &mut [u64],
+) -> u32
+    ensures { λ r. ⌜ planned r (now (answers .exit)) (now (table .exit)) (now (entries .exit)) (now (values .exit)) ≡ plan-export (now (job .entry)) (now (calls .entry)) (now (answers .entry)) (now (table .entry)) (now (entries .entry)) (now (values .entry)) ⌝ }
+{
+    if values.len() < PLAN_VALUES {
+        return SHORT_LIST;
+    }
+    match sitting::sit(job, calls, answers, table, entries) {
+        Planned::Refused(n) => n as u32,
+        Planned::Best(totals) => {
+            put_totals(values, totals);
+            DONE
+        }
+    }
+}
+
+// Document 01's breaches, counted from 1 in the order in which they are tested.
+fn violation_number(x: Violation) -> u64
+    ensures { λ r. ⌜ r ≡ violation-number (violation x) ⌝ }
+{
+    match x {
+        Violation::DecoderUnderflow => 1,
+        Violation::DecoderOverflow => 2,
+        Violation::BucketOverflow => 3,
+        Violation::PinNotHeld => 4,
+    }
+}
+
+// The violation's number, or 0, its interval, or 0, and the totals, 0 where there is a violation.
+fn put_replayed(values: &mut [u64], violation: u64, interval: u16, totals: Totals)
+    requires { ⌜ 5 ≤ length (now values) ⌝ }
+    ensures { λ _. ⌜ now (values .exit) ≡ over (violation ∷ interval ∷ totals-values totals) (now (values .entry)) ⌝ }
+{
+    values[0] = violation;
+    values[1] = interval as u64;
+    values[2] = totals.distortion as u64;
+    values[3] = totals.source as u64;
+    values[4] = totals.channel as u64;
+}
+
+// Replays a plan with the pins that calls as numbers leave. Values: 0, or the number of the first violation (1 decoder short, 2 decoder over, 3 bucket over, 4 pin not held); its interval, counted from 1, or 0; then distortion, source size and channel size, 0 where there is a violation.
+#[no_mangle]
+pub extern "C" fn upload_replay(
+    job: &[u8],
+    calls: &[u16],
+    entries: &[u8],
+    levels: &mut [u16],
+    values: &mut [u64],
+) -> u32
+    ensures { λ r. ⌜ replayed r (now (levels .exit)) (now (values .exit)) ≡ replay-export (now (job .entry)) (now (calls .entry)) (now (entries .entry)) (now (levels .entry)) (now (values .entry)) ⌝ }
+{
+    if values.len() < REPLAY_VALUES {
+        return SHORT_LIST;
+    }
+    match sitting::replay_after(job, calls, entries, levels) {
+        Replayed::Refused(n) => n as u32,
+        Replayed::Clean(totals) => {
+            put_replayed(values, 0, 0, totals);
+            DONE
+        }
+        Replayed::Violated {
+            interval,
+            violation,
+        } => {
+            let none = Totals {
+                distortion: 0,
+                source: 0,
+                channel: 0,
+            };
+            put_replayed(values, violation_number(violation), interval, none);
+            DONE
+        }
+    }
+}
+
+// The effective buffer sizes of a plan: N + 1 sums.
+#[no_mangle]
+pub extern "C" fn upload_report(job: &[u8], entries: &[u8], sums: &mut [u32]) -> u32
+    ensures { λ r. ⌜ reported r (now (sums .exit)) ≡ report-export (now (job .entry)) (now (entries .entry)) (now (sums .entry)) ⌝ }
+{
+    match replay::effective_buffers(job, entries, sums) {
+        Reported::Refused(n) => n as u32,
+        Reported::Done => DONE,
+    }
+}

@@ -1,0 +1,158 @@
+/* The upload planner, callable from C.
+
+   A job says what a channel has to send: N units with M choices each, P channel
+   rates, a delay of d intervals, the sizes and starting levels of the decoder's
+   buffer and of the carrier's leaky bucket, and the bucket's drain. There are
+   T = N + d intervals. Interval t sends at one of the rates and, for t > d,
+   decodes unit t - d at one of its choices. A plan gives a rate to each interval
+   and a choice to each unit. It is admissible if the decoder's level stays from
+   0 to its size, the bucket's level stays at most its size, and every pinned
+   unit has its pinned choice. Planning gives the admissible plan of least total
+   distortion; among several the first interval at which they differ decides:
+   the smaller rate index, then the smaller choice index.
+
+   Every function takes the bytes of the job and reads them again; bytes after
+   the job are not looked at. Nothing is kept between calls, and no memory is
+   taken: all that is written goes to lists that the caller lends. Calls from
+   several threads are fine as long as no list that one writes is lent to
+   another. Of the C library only memcpy and memset are used.
+
+   A list is a pointer and a count of its numbers. It may be longer than needed;
+   what stands past the part named as written keeps its values. A pointer is
+   never null, also where the count is 0, and is aligned for its type. A list
+   that is written overlaps no other list.
+
+   Each function answers 0, or the number of the refusal. A refusal writes
+   nothing, with one exception: UPLOAD_NO_PLAN comes after the search and leaves
+   `answers` and `table` written. */
+
+#ifndef UPLOAD_H
+#define UPLOAD_H
+
+#include <stddef.h>
+#include <stdint.h>
+
+#ifdef __cplusplus
+extern "C" {
+#endif
+
+/* What a function answers. */
+enum upload_refusal {
+    UPLOAD_OK = 0,              /* not refused */
+    UPLOAD_CUT = 1,             /* the bytes end within a record; or the last call is cut */
+    UPLOAD_WRONG_RECORD = 2,    /* a record's kind or length is not the one due; or a call's kind
+                                   is neither a pin nor a lift */
+    UPLOAD_HEADER = 3,          /* a field of the job's header is out of range */
+    UPLOAD_RATES = 4,           /* a rate is over 4,095, or the rates do not rise */
+    UPLOAD_CHOICES = 5,         /* a choice's size or distortion is over its limit */
+    UPLOAD_OTHER_JOB = 6,       /* the set of pins does not fit the job; the functions below keep
+                                   their own set and never give this */
+    UPLOAD_NO_SUCH_UNIT = 7,    /* pin, lift: the unit is not from 1 to N */
+    UPLOAD_NO_SUCH_CHOICE = 8,  /* pin: the choice is not below M */
+    UPLOAD_PINNED = 9,          /* pin: the unit is pinned already */
+    UPLOAD_NOT_PINNED = 10,     /* lift: the unit is not pinned */
+    UPLOAD_TABLE_TOO_SHORT = 11,/* the table has fewer words than planning needs */
+    UPLOAD_LIST_TOO_SHORT = 12, /* another list that is to be filled is too short */
+    UPLOAD_NO_PLAN = 13,        /* no plan is admissible */
+    UPLOAD_NOT_A_PLAN = 14,     /* the entries are not 2 x T bytes, or one is out of range */
+    UPLOAD_INPUT_TOO_LONG = 15  /* the program `plan` alone: more than 32,768 bytes of input */
+};
+
+/* Calls are numbers, three a call: one of these kinds, the unit (1 to N), the
+   choice (0 to M - 1). A lift does not look at its third number. */
+enum upload_call {
+    UPLOAD_PIN = 6,
+    UPLOAD_LIFT = 7
+};
+
+/* The choice byte of an interval that decodes no unit. */
+#define UPLOAD_NO_UNIT 255
+
+/* The word of a state from which no plan can be completed. */
+#define UPLOAD_NEVER UINT32_C(4294967295)
+
+/* What replay finds first, tested in this order in each interval. */
+enum upload_violation {
+    UPLOAD_CLEAN = 0,
+    UPLOAD_DECODER_SHORT = 1,   /* the decoder's level would fall below 0 */
+    UPLOAD_DECODER_OVER = 2,    /* the decoder's level would pass its size */
+    UPLOAD_BUCKET_OVER = 3,     /* the bucket's level would pass its size */
+    UPLOAD_PIN_NOT_HELD = 4     /* the unit is pinned at another choice */
+};
+
+/* How many numbers the `values` lists need. */
+#define UPLOAD_OPEN_VALUES 4
+#define UPLOAD_PLAN_VALUES 3
+#define UPLOAD_REPLAY_VALUES 5
+
+/* Opens a job: checks all of it and says what the other functions need.
+
+   values: 4 numbers written: the bytes that the job took, N, T, and the words
+   of the table, (T + 1) x (decoder size + 1) x (bucket size + 1).
+
+   Refusals in order: 12 where `values` is too short; 1 to 5. */
+uint32_t upload_open(const uint8_t *job, size_t job_len,
+                     uint64_t *values, size_t values_len);
+
+/* Makes the calls in turn on a fresh set of pins, refused ones included, then
+   plans with the pins that stand at the end.
+
+   calls:   three numbers a call.
+   answers: one byte a call written: 0 where it was taken, otherwise its number,
+            7 to 10. A refused call changes no pin.
+   table:   the words that upload_open names are written. Word
+            (t x (decoder size + 1) + b) x (bucket size + 1) + l is the least
+            distortion that intervals t + 1 to T can add from decoder level b
+            and bucket level l after interval t, pins held; UPLOAD_NEVER where
+            they cannot be completed.
+   entries: 2 x T bytes written, two an interval: the index of its rate, then
+            that of its unit's choice, or UPLOAD_NO_UNIT for the first d.
+   values:  3 numbers written: total distortion, source grains (what the units
+            take) and channel grains (what the intervals send).
+
+   Refusals in order: 12 where `values` is too short; 1 to 5 for the job; 2 for
+   a call of another kind, then 1 where the last call is cut; 11; 12 where
+   `answers` or `entries` is too short; 13, which leaves `answers` and `table`
+   written, `entries` and `values` as they were. */
+uint32_t upload_plan(const uint8_t *job, size_t job_len,
+                     const uint16_t *calls, size_t calls_len,
+                     uint8_t *answers, size_t answers_len,
+                     uint32_t *table, size_t table_len,
+                     uint8_t *entries, size_t entries_len,
+                     uint64_t *values, size_t values_len);
+
+/* Makes the calls as upload_plan does, then follows a plan interval by interval
+   up to its first violation.
+
+   entries: exactly 2 x T bytes, as upload_plan writes them.
+   levels:  room for 2 x T numbers: the decoder's and the bucket's level after
+            each interval. Only those before the violation are written.
+   values:  5 numbers written: 0 or the violation; its interval, from 1, or 0;
+            then total distortion, source grains and channel grains, each 0
+            where there is a violation.
+
+   Refusals in order: 12 where `values` is too short; 1 to 5 for the job; 2 for
+   a call of another kind, then 1 where the last call is cut; 14; 12 where
+   `levels` is too short. A plan with a violation is not a refusal. */
+uint32_t upload_replay(const uint8_t *job, size_t job_len,
+                       const uint16_t *calls, size_t calls_len,
+                       const uint8_t *entries, size_t entries_len,
+                       uint16_t *levels, size_t levels_len,
+                       uint64_t *values, size_t values_len);
+
+/* The effective buffer sizes of a plan, admissible or not.
+
+   entries: exactly 2 x T bytes, as upload_plan writes them.
+   sums:    N + 1 numbers written: for i from 0 to N the grains that intervals
+            i + 1 to i + d send.
+
+   Refusals in order: 1 to 5; 14; 12 where `sums` is too short. */
+uint32_t upload_report(const uint8_t *job, size_t job_len,
+                       const uint8_t *entries, size_t entries_len,
+                       uint32_t *sums, size_t sums_len);
+
+#ifdef __cplusplus
+}
+#endif
+
+#endif

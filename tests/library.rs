@@ -1,0 +1,1525 @@
+//! Checks the library through the crate `upload_planner`: what each function
+//! answers, every number it writes, and that it writes no other. What is due is
+//! worked out here and in `reference.rs`, straight from the product's paper.
+//!
+//! Build and run, where DIR holds libupload.a:
+//!
+//! ```text
+//! rustc -O --edition 2021 --crate-type rlib --crate-name upload_planner \
+//!     -L native=DIR -o libupload_planner.rlib bindings/rust/src/lib.rs
+//! rustc -O --edition 2021 --extern upload_planner=libupload_planner.rlib \
+//!     -o library tests/library.rs
+//! library [SEED] [--no-full] [--small]
+//! ```
+//!
+//! SEED repeats the run whose new seed was SEED; without it the clock gives
+//! one. `--no-full` leaves out the one job of the largest size, which takes most
+//! of the time. `--small` keeps to few and small jobs and lends every list as a
+//! piece of memory of its own, for runs that watch each access to memory.
+
+use std::collections::BTreeMap;
+use std::fmt::Debug;
+use std::process::ExitCode;
+use std::sync::atomic::{AtomicBool, Ordering};
+
+use upload_planner::{numbers, Call, Replayed, Violation};
+
+#[allow(dead_code)]
+mod reference;
+use reference::*;
+
+/// The word of a state that cannot be completed.
+const NEVER: u32 = 4_294_967_295;
+
+/// Set once, before the first group.
+static SMALL: AtomicBool = AtomicBool::new(false);
+
+fn small() -> bool {
+    SMALL.load(Ordering::Relaxed)
+}
+
+/// `count` jobs, or a few of them in a small run.
+fn scaled(count: usize) -> usize {
+    if small() {
+        count.div_ceil(30)
+    } else {
+        count
+    }
+}
+
+// ---------------------------------------------------------------------------
+// Checks and lent lists.
+// ---------------------------------------------------------------------------
+
+/// What went wrong, if anything.
+type Checked = Result<(), String>;
+
+macro_rules! ensure {
+    ($holds:expr, $($message:tt)*) => {
+        if !$holds {
+            return Err(format!($($message)*));
+        }
+    };
+}
+
+fn same<T: PartialEq + Debug>(what: &str, due: T, found: T) -> Checked {
+    ensure!(due == found, "{what}: due {due:?}, instead {found:?}");
+    Ok(())
+}
+
+trait Number: Copy + PartialEq + Debug {
+    fn cut(bits: u64) -> Self;
+}
+
+macro_rules! number {
+    ($($kind:ty)*) => { $(impl Number for $kind {
+        fn cut(bits: u64) -> Self {
+            bits as $kind
+        }
+    })* };
+}
+number!(u8 u16 u32 u64);
+
+/// A list to lend, filled with numbers that look like nothing. More such
+/// numbers stand on both sides of it, except in a small run.
+struct Lent<T> {
+    key: u64,
+    all: Vec<T>,
+    side: usize,
+}
+
+impl<T: Number> Lent<T> {
+    fn new(rng: &mut Rng, length: usize) -> Lent<T> {
+        let key = rng.next();
+        let side = if small() { 0 } else { 5 };
+        let all = (0..length + 2 * side).map(|at| filler(key, at)).collect();
+        Lent { key, all, side }
+    }
+
+    fn list(&mut self) -> &mut [T] {
+        let end = self.all.len() - self.side;
+        &mut self.all[self.side..end]
+    }
+
+    /// The list begins with `due`, and all else is as it was.
+    fn wrote(&self, what: &str, due: &[T]) -> Checked {
+        let length = self.all.len() - 2 * self.side;
+        ensure!(due.len() <= length, "{what}: {} due in a list of {length}", due.len());
+        for (at, found) in self.all.iter().enumerate() {
+            let place = at.wrapping_sub(self.side);
+            let expected = due.get(place).copied().unwrap_or_else(|| filler(self.key, at));
+            ensure!(
+                *found == expected,
+                "{what} number {}: due {expected:?}{}, instead {found:?}",
+                at as isize - self.side as isize,
+                if place < due.len() { "" } else { " as before" }
+            );
+        }
+        Ok(())
+    }
+
+    fn kept(&self, what: &str) -> Checked {
+        self.wrote(what, &[])
+    }
+}
+
+fn filler<T: Number>(key: u64, at: usize) -> T {
+    T::cut(Rng(key ^ (at as u64) << 20).next())
+}
+
+// ---------------------------------------------------------------------------
+// What is asked: a job's bytes and calls, with the book they lead to.
+// ---------------------------------------------------------------------------
+
+struct Asked {
+    bytes: Vec<u8>,
+    job: Job,
+    /// Three numbers a call.
+    calls: Vec<u16>,
+    answers: Vec<u8>,
+    book: Book,
+}
+
+impl Asked {
+    /// The draft's job and its commands as calls.
+    fn new(rng: &mut Rng, draft: &Draft) -> Asked {
+        let mut bytes = Draft { commands: Vec::new(), ..draft.clone() }.bytes();
+        let job = read_job(&mut Reader { rest: &bytes }).expect("a job as it should be");
+        if rng.one_in(3) {
+            // Bytes after the job are not looked at.
+            bytes.extend((0..rng.from(1, 9)).map(|_| rng.next() as u8).collect::<Vec<u8>>());
+        }
+        bytes.shrink_to_fit();
+        let calls = call_numbers(rng, &draft.commands);
+        let (answers, book) = keep_book(&job, &calls);
+        Asked { bytes, job, calls, answers, book }
+    }
+
+    fn intervals(&self) -> usize {
+        self.job.intervals()
+    }
+
+    fn typed_calls(&self) -> Vec<Call> {
+        self.calls.chunks(3).map(typed_call).collect()
+    }
+
+    /// What to type again to see a failure.
+    fn show(&self) -> String {
+        format!("job {}\n  calls {:?}", hex(&self.bytes), self.calls)
+    }
+}
+
+/// A lift does not look at its third number, so that is anything.
+fn call_numbers(rng: &mut Rng, commands: &[Command]) -> Vec<u16> {
+    let number = |command: &Command| match *command {
+        Pin(unit, choice) => [6, unit, choice],
+        Lift(unit) => [7, unit, rng.next() as u16],
+    };
+    commands.iter().flat_map(number).collect()
+}
+
+fn typed_call(call: &[u16]) -> Call {
+    match call[0] {
+        6 => Call::Pin { unit: call[1], choice: call[2] },
+        _ => Call::Lift { unit: call[1] },
+    }
+}
+
+/// The book of pins: each call's number, and the lines after the last.
+fn keep_book(job: &Job, calls: &[u16]) -> (Vec<u8>, Book) {
+    let mut book = vec![None; job.units.len()];
+    let answers = calls.chunks(3).map(|call| step_book(job, &mut book, call)).collect();
+    (answers, book)
+}
+
+fn step_book(job: &Job, book: &mut Book, call: &[u16]) -> u8 {
+    let unit = call[1] as usize;
+    let taken = match call[0] {
+        6 => pin(book, job.choices(), unit, call[2] as usize),
+        _ => lift(book, unit),
+    };
+    taken.err().unwrap_or(0)
+}
+
+fn plan_bytes(plan: &Plan) -> Vec<u8> {
+    plan.iter().flat_map(|&(rate, choice)| [rate as u8, choice as u8]).collect()
+}
+
+fn totals_of(asked: &Asked, plan: &Plan) -> [u64; 3] {
+    let totals = replay(&asked.job, &asked.book, plan, |_, _| ()).expect("an admissible plan");
+    [totals.distortion as u64, totals.source as u64, totals.channel as u64]
+}
+
+// ---------------------------------------------------------------------------
+// The table: from every state all completions tried, and a program for speed.
+// ---------------------------------------------------------------------------
+
+/// What each interval may decode: choice, grains, distortion.
+type Options = Vec<Vec<(usize, i64, i64)>>;
+
+fn all_options(job: &Job, book: &Book) -> Options {
+    (1..=job.intervals()).map(|t| options(job, book, t)).collect()
+}
+
+/// Tries every completion of the levels after interval t.
+fn least(job: &Job, options: &Options, t: usize, decoder: i64, bucket: i64) -> Option<i64> {
+    if t == job.intervals() {
+        return Some(0);
+    }
+    let mut found: Option<i64> = None;
+    for sent in &job.rates {
+        let filled = (bucket + sent - job.drain).max(0);
+        for (_, grains, distortion) in &options[t] {
+            let level = decoder + sent - grains;
+            if level < 0 || level > job.decoder_size || filled > job.bucket_size {
+                continue;
+            }
+            if let Some(rest) = least(job, options, t + 1, level, filled) {
+                found = Some(found.map_or(i64::MAX, |held| held).min(distortion + rest));
+            }
+        }
+    }
+    found
+}
+
+fn brute_table(job: &Job, book: &Book) -> Vec<u32> {
+    let options = all_options(job, book);
+    let mut table = Vec::new();
+    for t in 0..=job.intervals() {
+        for decoder in 0..=job.decoder_size {
+            for bucket in 0..=job.bucket_size {
+                let value = least(job, &options, t, decoder, bucket);
+                table.push(value.map_or(NEVER, |value| value as u32));
+            }
+        }
+    }
+    table
+}
+
+/// Stands for "cannot be completed" in the layers of `fast_table`: above every
+/// sum of distortions, and far enough from overflow to be added to.
+const FAR: u32 = 1 << 30;
+
+/// The same table, layer by layer from the last, with the work of an interval
+/// split in two: first the least over choices for each level that the decoder
+/// may have between sending and decoding, then the least over rates.
+fn fast_table(job: &Job, book: &Book) -> Vec<u32> {
+    let (rows, width) = (job.decoder_size as usize + 1, job.bucket_size as usize + 1);
+    let layer = rows * width;
+    let mut table = vec![0; (job.intervals() + 1) * layer];
+    let mut next = vec![0; layer];
+    for t in (1..=job.intervals()).rev() {
+        let decoded = decode_layer(job, &options(job, book, t), &next, rows, width);
+        next = send_layer(job, &decoded, rows, width);
+        let words = next.iter().map(|&value| if value >= FAR { NEVER } else { value });
+        let place = &mut table[(t - 1) * layer..t * layer];
+        place.iter_mut().zip(words).for_each(|(word, value)| *word = value);
+    }
+    table
+}
+
+/// Row r: the decoder has level r before the unit leaves.
+fn decode_layer(
+    job: &Job,
+    options: &[(usize, i64, i64)],
+    next: &[u32],
+    rows: usize,
+    width: usize,
+) -> Vec<u32> {
+    let most = options.iter().map(|option| option.1 as usize).max().unwrap_or(0);
+    let fullest = *job.rates.last().expect("a rate") as usize;
+    let count = rows + most.min(fullest);
+    let mut decoded = vec![FAR; count * width];
+    for (row, best) in decoded.chunks_mut(width).enumerate() {
+        let met =
+            job.rates.iter().any(|&sent| sent as usize <= row && row - (sent as usize) < rows);
+        for &(_, grains, distortion) in options {
+            let Some(left) = row.checked_sub(grains as usize) else { continue };
+            if met && left < rows {
+                let from = &next[left * width..(left + 1) * width];
+                for (held, value) in best.iter_mut().zip(from) {
+                    *held = (*held).min(value + distortion as u32);
+                }
+            }
+        }
+    }
+    decoded
+}
+
+fn send_layer(job: &Job, decoded: &[u32], rows: usize, width: usize) -> Vec<u32> {
+    let mut layer = vec![FAR; rows * width];
+    for (row, best) in layer.chunks_mut(width).enumerate() {
+        for &sent in &job.rates {
+            let at = (row + sent as usize) * width;
+            if at >= decoded.len() {
+                break;
+            }
+            send_row(best, &decoded[at..at + width], sent - job.drain);
+        }
+    }
+    layer.iter_mut().for_each(|value| *value = (*value).min(FAR));
+    layer
+}
+
+/// The bucket rises by `rise`, and not below 0 where that is negative.
+fn send_row(best: &mut [u32], from: &[u32], rise: i64) {
+    let width = best.len();
+    let step = (rise.unsigned_abs() as usize).min(width);
+    let keep = |held: &mut u32, value: u32| *held = (*held).min(value);
+    if rise >= 0 {
+        best.iter_mut().zip(&from[step..]).for_each(|(held, &value)| keep(held, value));
+    } else {
+        best[..step].iter_mut().for_each(|held| keep(held, from[0]));
+        best[step..].iter_mut().zip(from).for_each(|(held, &value)| keep(held, value));
+    }
+}
+
+/// The first plan in order whose every entry attains the table's word.
+fn read_off(job: &Job, book: &Book, table: &[u32]) -> Option<Plan> {
+    let word = |t: usize, decoder: i64, bucket: i64| {
+        let row = t as i64 * (job.decoder_size + 1) + decoder;
+        table[(row * (job.bucket_size + 1) + bucket) as usize]
+    };
+    let (mut decoder, mut bucket) = (job.start_decoder, job.start_bucket);
+    if word(0, decoder, bucket) == NEVER {
+        return None;
+    }
+    let mut plan = Vec::new();
+    for t in 1..=job.intervals() {
+        let due = word(t - 1, decoder, bucket);
+        let mut taken = None;
+        for (rate, &sent) in job.rates.iter().enumerate() {
+            for (choice, grains, distortion) in options(job, book, t) {
+                let (level, filled) = (decoder + sent - grains, (bucket + sent - job.drain).max(0));
+                let held = (0..=job.decoder_size).contains(&level) && filled <= job.bucket_size;
+                if taken.is_none() && held {
+                    let rest = word(t, level, filled);
+                    if rest != NEVER && distortion as u32 + rest == due {
+                        taken = Some(((rate, choice), level, filled));
+                    }
+                }
+            }
+        }
+        let (entry, level, filled) = taken.expect("an entry that attains the word");
+        plan.push(entry);
+        (decoder, bucket) = (level, filled);
+    }
+    Some(plan)
+}
+
+// ---------------------------------------------------------------------------
+// Planning.
+// ---------------------------------------------------------------------------
+
+/// Lends lists of just enough or somewhat more and compares all of them.
+fn check_plan(rng: &mut Rng, asked: &Asked, table: &[u32], plan: &Option<Plan>) -> Checked {
+    let mut slack = || if rng.one_in(3) { 0 } else { rng.from(1, 9) };
+    let lengths = [
+        asked.answers.len() + slack(),
+        table.len() + slack(),
+        2 * asked.intervals() + slack(),
+        3 + slack(),
+    ];
+    let mut lent = PlanLists::new(rng, lengths);
+    let number = lent.plan(&asked.bytes, &asked.calls);
+    lent.answers.wrote("answers", &asked.answers)?;
+    lent.table.wrote("table", table)?;
+    let Some(plan) = plan else {
+        same("plan", 13, number)?;
+        lent.entries.kept("entries")?;
+        return lent.values.kept("values");
+    };
+    same("plan", 0, number)?;
+    lent.entries.wrote("entries", &plan_bytes(plan))?;
+    lent.values.wrote("values", &totals_of(asked, plan))
+}
+
+struct PlanLists {
+    answers: Lent<u8>,
+    table: Lent<u32>,
+    entries: Lent<u8>,
+    values: Lent<u64>,
+}
+
+impl PlanLists {
+    /// `lengths`: answers, table, entries, values.
+    fn new(rng: &mut Rng, lengths: [usize; 4]) -> PlanLists {
+        PlanLists {
+            answers: Lent::new(rng, lengths[0]),
+            table: Lent::new(rng, lengths[1]),
+            entries: Lent::new(rng, lengths[2]),
+            values: Lent::new(rng, lengths[3]),
+        }
+    }
+
+    fn plan(&mut self, job: &[u8], calls: &[u16]) -> u32 {
+        numbers::plan(
+            job,
+            calls,
+            self.answers.list(),
+            self.table.list(),
+            self.entries.list(),
+            self.values.list(),
+        )
+    }
+
+    fn kept(&self) -> Checked {
+        self.answers.kept("answers")?;
+        self.table.kept("table")?;
+        self.entries.kept("entries")?;
+        self.values.kept("values")
+    }
+}
+
+fn check_open(rng: &mut Rng, asked: &Asked) -> Checked {
+    let job = &asked.job;
+    let taken = 26 + 2 * job.rates.len() + job.units.len() * (4 + 6 * job.choices());
+    let due = [taken, job.units.len(), job.intervals(), job.words()].map(|value| value as u64);
+    let length = 4 + rng.from(0, 3);
+    let mut values = Lent::new(rng, length);
+    same("open", 0, numbers::open(&asked.bytes, values.list()))?;
+    values.wrote("values of open", &due)
+}
+
+/// The typed functions give what the numbers give.
+fn check_typed(asked: &Asked, table: &[u32], plan: &Option<Plan>) -> Checked {
+    let calls = asked.typed_calls();
+    let opened = upload_planner::open(&asked.bytes).map_err(|refusal| refusal.to_string())?;
+    let mut answers = vec![0; calls.len()];
+    let mut words = vec![0; opened.table_words];
+    let mut entries = vec![0; 2 * opened.intervals];
+    let found = upload_planner::plan(&asked.bytes, &calls, &mut answers, &mut words, &mut entries);
+    let owned = upload_planner::best_plan(&asked.bytes, &calls);
+    same("typed answers", &asked.answers, &answers)?;
+    ensure!(words == table, "the typed table is another");
+    let Some(plan) = plan else {
+        same("typed plan", Err(13), found.map_err(|refusal| refusal.number()))?;
+        return same("owned plan", Some(13), owned.err().map(|refusal| refusal.number()));
+    };
+    let found = found.map_err(|refusal| refusal.to_string())?;
+    let owned = owned.map_err(|refusal| refusal.to_string())?;
+    let totals = [found.distortion, found.source_grains, found.channel_grains];
+    same("typed totals", totals_of(asked, plan), totals)?;
+    same("typed entries", plan_bytes(plan), entries)?;
+    same("owned totals", found, owned.totals)?;
+    same("owned entries", plan_bytes(plan), owned.entries)?;
+    ensure!(owned.table == table, "the owned table is another");
+    let answer = |answer: Result<(), upload_planner::Refusal>| {
+        answer.err().map_or(0, |refusal| refusal.number() as u8)
+    };
+    same("owned answers", &asked.answers, &owned.answers.into_iter().map(answer).collect())
+}
+
+/// A plan that was found replays clean under the same calls.
+fn check_replayed(rng: &mut Rng, asked: &Asked, plan: &Option<Plan>) -> Checked {
+    match plan {
+        Some(plan) => check_replay(rng, asked, plan),
+        None => Ok(()),
+    }
+}
+
+/// Each job's table by trying all completions, its plan by trying all plans;
+/// and both other searches against them.
+fn tiny_group(seed: u64, asks: bool) -> Result<String, String> {
+    let mut rng = Rng(seed);
+    let (mut plans, mut ties, mut refused, mut words) = (0, 0, 0, 0);
+    let jobs = scaled(1500);
+    for index in 1..=jobs {
+        let draft = random_job(&mut rng, &TINY);
+        let asked = Asked::new(&mut rng, &draft);
+        let table = brute_table(&asked.job, &asked.book);
+        let all = enumerate(&asked.job, &asked.book);
+        let check = |rng: &mut Rng| -> Checked {
+            same("fast table", &table, &fast_table(&asked.job, &asked.book))?;
+            same("plan read off", &all.best, &read_off(&asked.job, &asked.book, &table))?;
+            same("dynamic program", &all.best, &dynamic(&asked.job, &asked.book))?;
+            check_open(rng, &asked)?;
+            check_plan(rng, &asked, &table, &all.best)?;
+            check_typed(&asked, &table, &all.best)?;
+            check_replayed(rng, &asked, &all.best)
+        };
+        check(&mut rng).map_err(|trouble| failed(seed, index, &trouble, &asked))?;
+        plans += all.best.is_some() as usize;
+        ties += (all.equals > 1) as usize;
+        refused += asked.answers.iter().filter(|answer| **answer != 0).count();
+        words += table.len();
+    }
+    let counts = format!(
+        "{jobs} jobs, {plans} with a plan, {ties} with several equal ones, \
+         {refused} calls refused, {words} words"
+    );
+    let worthwhile = plans * 3 > jobs && plans * 10 < jobs * 9 && ties * 4 > plans && refused > 0;
+    ensure!(worthwhile || !asks, "too little in it: {counts}");
+    Ok(counts)
+}
+
+fn failed(seed: u64, index: usize, trouble: &str, asked: &Asked) -> String {
+    format!("seed {seed}, job {index}: {trouble}\n  {}", asked.show())
+}
+
+/// Jobs too large to try everything, against the dynamic program that carries
+/// whole paths and the table made for speed.
+fn larger_group(seed: u64, asks: bool) -> Result<String, String> {
+    let mut rng = Rng(seed);
+    let (mut plans, mut words) = (0, 0);
+    let (medium, long) = (scaled(250), scaled(40));
+    for index in 1..=medium + long {
+        let draft =
+            if index <= medium { random_job(&mut rng, &MEDIUM) } else { random_long_job(&mut rng) };
+        let asked = Asked::new(&mut rng, &draft);
+        let table = fast_table(&asked.job, &asked.book);
+        let plan = dynamic(&asked.job, &asked.book);
+        let check = |rng: &mut Rng| -> Checked {
+            same("plan read off", &plan, &read_off(&asked.job, &asked.book, &table))?;
+            check_open(rng, &asked)?;
+            check_plan(rng, &asked, &table, &plan)?;
+            check_replayed(rng, &asked, &plan)
+        };
+        check(&mut rng).map_err(|trouble| failed(seed, index, &trouble, &asked))?;
+        plans += plan.is_some() as usize;
+        words += table.len();
+    }
+    let counts = format!("{} jobs, {plans} with a plan, {words} words", medium + long);
+    ensure!(plans * 4 > medium + long || !asks, "too few plans: {counts}");
+    Ok(counts)
+}
+
+// ---------------------------------------------------------------------------
+// Replay and report.
+// ---------------------------------------------------------------------------
+
+/// Levels up to the first breach, and the five values due.
+struct Followed {
+    levels: Vec<u16>,
+    values: [u64; 5],
+}
+
+/// The levels of each interval from sums over all intervals up to it. The
+/// decoder has its start and all that was sent, less all that was taken. The
+/// bucket's level, cut at 0 after each interval, is the larger of its start and
+/// all rises, and all rises since some interval.
+fn follow(job: &Job, book: &Book, plan: &Plan) -> Followed {
+    let sent = |t: usize| job.rates[plan[t - 1].0];
+    let unit = |t: usize| t.checked_sub(job.delay + 1);
+    let choice = |t: usize| unit(t).map(|unit| &job.units[unit][plan[t - 1].1]);
+    let taken = |t: usize| choice(t).map_or(0, |choice| choice.grains);
+    let mut levels = Vec::new();
+    for t in 1..=job.intervals() {
+        let decoder = job.start_decoder + (1..=t).map(|s| sent(s) - taken(s)).sum::<i64>();
+        let since = |s: usize| (s + 1..=t).map(|r| sent(r) - job.drain).sum::<i64>();
+        let risen = (1..=t).map(since).max().expect("an interval");
+        let bucket = risen.max(job.start_bucket + since(0));
+        let pinned = unit(t).and_then(|unit| book[unit]);
+        let breaches = [
+            decoder < 0,
+            decoder > job.decoder_size,
+            bucket > job.bucket_size,
+            pinned.is_some_and(|pinned| pinned != plan[t - 1].1),
+        ];
+        if let Some(first) = breaches.iter().position(|breach| *breach) {
+            return Followed { levels, values: [first as u64 + 1, t as u64, 0, 0, 0] };
+        }
+        levels.extend([decoder as u16, bucket as u16]);
+    }
+    let all = 1..=job.intervals();
+    let distortion = |t: usize| choice(t).map_or(0, |choice| choice.distortion);
+    let totals: [i64; 3] =
+        [all.clone().map(distortion).sum(), all.clone().map(taken).sum(), all.map(sent).sum()];
+    let [distortion, source, channel] = totals.map(|total| total as u64);
+    Followed { levels, values: [0, 0, distortion, source, channel] }
+}
+
+fn check_replay(rng: &mut Rng, asked: &Asked, plan: &Plan) -> Checked {
+    let due = follow(&asked.job, &asked.book, plan);
+    let entries = plan_bytes(plan);
+    let (room, more) = (2 * asked.intervals() + rng.from(0, 7), 5 + rng.from(0, 3));
+    let mut levels = Lent::new(rng, room);
+    let mut values = Lent::new(rng, more);
+    let found = numbers::replay(&asked.bytes, &asked.calls, &entries, levels.list(), values.list());
+    same("replay", 0, found)?;
+    values.wrote("values of replay", &due.values)?;
+    levels.wrote("levels", &due.levels)?;
+    let mut levels = vec![0; 2 * asked.intervals()];
+    let typed = upload_planner::replay(&asked.bytes, &asked.typed_calls(), &entries, &mut levels);
+    same("typed replay", Ok(typed_replay(due.values)), typed)
+}
+
+fn typed_replay([kind, interval, distortion, source_grains, channel_grains]: [u64; 5]) -> Replayed {
+    let violations = [
+        Violation::DecoderShort,
+        Violation::DecoderOver,
+        Violation::BucketOver,
+        Violation::PinNotHeld,
+    ];
+    match kind {
+        0 => Replayed::Clean(upload_planner::Totals { distortion, source_grains, channel_grains }),
+        _ => Replayed::Breach {
+            violation: violations[kind as usize - 1],
+            interval: interval as usize,
+        },
+    }
+}
+
+fn check_report(rng: &mut Rng, asked: &Asked, plan: &Plan) -> Checked {
+    let job = &asked.job;
+    let sum = |i: usize| (i + 1..=i + job.delay).map(|t| job.rates[plan[t - 1].0] as u32).sum();
+    let due: Vec<u32> = (0..=job.units.len()).map(sum).collect();
+    let room = due.len() + rng.from(0, 4);
+    let mut sums = Lent::new(rng, room);
+    same("report", 0, numbers::report(&asked.bytes, &plan_bytes(plan), sums.list()))?;
+    sums.wrote("sums", &due)
+}
+
+fn random_entry(rng: &mut Rng, job: &Job, t: usize) -> Entry {
+    let choice = if t > job.delay { rng.from(0, job.choices() - 1) } else { NO_CHOICE };
+    (rng.from(0, job.rates.len() - 1), choice)
+}
+
+/// Entries drawn until one goes on without a breach, for some tries; now and
+/// then one that is not tried, so that breaches stand deep in the plan too.
+fn random_plan(rng: &mut Rng, job: &Job, book: &Book) -> Plan {
+    let tries = rng.pick(&[1, 3, 30, 30, 300]);
+    let careless = rng.pick(&[2, 10, 1000]);
+    let regards_pins = !rng.one_in(3);
+    let (mut decoder, mut bucket) = (job.start_decoder, job.start_bucket);
+    let mut plan = Vec::new();
+    for t in 1..=job.intervals() {
+        let mut entry = random_entry(rng, job, t);
+        for _ in 0..if rng.one_in(careless) { 0 } else { tries } {
+            let sent = job.rates[entry.0];
+            let unit = t.checked_sub(job.delay + 1);
+            let taken = unit.map_or(0, |unit| job.units[unit][entry.1].grains);
+            let (level, filled) = (decoder + sent - taken, (bucket + sent - job.drain).max(0));
+            let pinned = unit.and_then(|unit| book[unit]).unwrap_or(entry.1);
+            let held = pinned == entry.1 || !regards_pins;
+            let fits = (0..=job.decoder_size).contains(&level) && filled <= job.bucket_size;
+            if fits && held {
+                (decoder, bucket) = (level, filled);
+                break;
+            }
+            entry = random_entry(rng, job, t);
+        }
+        plan.push(entry);
+    }
+    plan
+}
+
+fn replay_group(seed: u64, asks: bool) -> Result<String, String> {
+    let mut rng = Rng(seed);
+    let mut tally = [0; 5];
+    let mut deep = 0;
+    let jobs = scaled(1200);
+    for index in 1..=jobs {
+        let shape = if index % 4 == 0 { &MEDIUM } else { &TINY };
+        let draft =
+            if index % 60 == 1 { random_long_job(&mut rng) } else { random_job(&mut rng, shape) };
+        let asked = Asked::new(&mut rng, &draft);
+        for _ in 0..10 {
+            let plan = random_plan(&mut rng, &asked.job, &asked.book);
+            let check = |rng: &mut Rng| -> Checked {
+                check_replay(rng, &asked, &plan)?;
+                check_report(rng, &asked, &plan)?;
+                check_misshapen(rng, &asked, &plan)
+            };
+            let named = |trouble: String| format!("{trouble}\n  plan {plan:?}");
+            let checked = check(&mut rng).map_err(named);
+            checked.map_err(|trouble| failed(seed, index, &trouble, &asked))?;
+            let due = follow(&asked.job, &asked.book, &plan).values;
+            tally[due[0] as usize] += 1;
+            deep += (due[1] > 2) as usize;
+        }
+    }
+    let [clean, short, over, bucket, pin] = tally;
+    let counts = format!(
+        "{} plans: {clean} clean, {short} decoder short, {over} decoder over, {bucket} bucket \
+         over, {pin} pin not held; {deep} breaches past interval 2",
+        10 * jobs
+    );
+    let worthwhile = tally.iter().all(|count| count * 50 > jobs) && deep * 10 > jobs;
+    ensure!(worthwhile || !asks, "too little in it: {counts}");
+    Ok(counts)
+}
+
+/// The plan with one thing wrong in its shape: 14, and nothing is written.
+fn check_misshapen(rng: &mut Rng, asked: &Asked, plan: &Plan) -> Checked {
+    let (entries, how) = misshapen(rng, &asked.job, plan_bytes(plan));
+    let mut levels = Lent::new(rng, 2 * asked.intervals());
+    let mut values = Lent::new(rng, 5);
+    let mut sums = Lent::new(rng, asked.job.units.len() + 1);
+    let found = numbers::replay(&asked.bytes, &asked.calls, &entries, levels.list(), values.list());
+    same(&format!("replay, {how}"), 14, found)?;
+    levels.kept("levels after 14")?;
+    values.kept("values after 14")?;
+    let found = numbers::report(&asked.bytes, &entries, sums.list());
+    same(&format!("report, {how}"), 14, found)?;
+    sums.kept("sums after 14")
+}
+
+fn misshapen(rng: &mut Rng, job: &Job, mut entries: Vec<u8>) -> (Vec<u8>, &'static str) {
+    let t = rng.from(0, job.intervals() - 1);
+    let how = match rng.from(0, 7) {
+        0 => {
+            entries.pop();
+            "a byte short"
+        }
+        1 => {
+            entries.truncate(entries.len() - 2);
+            "an entry short"
+        }
+        2 => {
+            entries.push(0);
+            "a byte more"
+        }
+        3 => {
+            entries.extend_from_slice(&[0, 0]);
+            "an entry more"
+        }
+        4 => {
+            entries.clear();
+            "no entries"
+        }
+        5 => {
+            entries[2 * t] = rng.from(job.rates.len(), 255) as u8;
+            "a rate out of range"
+        }
+        6 if t < job.delay => {
+            entries[2 * t + 1] = rng.from(0, 254) as u8;
+            "a choice before the first unit"
+        }
+        6 => {
+            entries[2 * t + 1] = rng.from(job.choices(), 255) as u8;
+            "a choice out of range"
+        }
+        _ => {
+            let last = entries.len() - 1;
+            entries[last] = 255;
+            "no choice for the last unit"
+        }
+    };
+    entries.shrink_to_fit();
+    (entries, how)
+}
+
+// ---------------------------------------------------------------------------
+// Long sittings.
+// ---------------------------------------------------------------------------
+
+const SITTING: Shape = Shape {
+    units: (1, 40),
+    delay: (0, 4),
+    decoder: 9,
+    bucket: 9,
+    rates: 4,
+    choices: 5,
+    grains: 6,
+    heavy: &[1000],
+    commands: 0,
+};
+
+/// Hundreds of calls, about a third of them refused. In half of the sittings
+/// the last calls lift most of what is pinned, so that there is a plan.
+fn long_list(rng: &mut Rng, job: &Job) -> Vec<u16> {
+    let mut book: Book = vec![None; job.units.len()];
+    let mut calls = Vec::new();
+    let count = if small() { rng.from(20, 60) } else { rng.from(200, 600) };
+    let light = rng.one_in(2);
+    for _ in 0..count {
+        let call = if rng.one_in(3) {
+            bad_call(rng, job, &book)
+        } else {
+            good_call(rng, job, &book, light)
+        };
+        step_book(job, &mut book, &call);
+        calls.extend(call);
+    }
+    if rng.one_in(2) {
+        for unit in 1..=job.units.len() {
+            if book[unit - 1].is_some() && !rng.one_in(6) {
+                calls.extend([7, unit as u16, rng.next() as u16]);
+            }
+        }
+    }
+    calls
+}
+
+fn good_call(rng: &mut Rng, job: &Job, book: &Book, light: bool) -> [u16; 3] {
+    let unit = rng.from(1, job.units.len());
+    let last = job.choices() - 1;
+    let choice = if light { last } else { rng.from(0, last) };
+    match book[unit - 1] {
+        Some(_) => [7, unit as u16, rng.next() as u16],
+        None => [6, unit as u16, choice as u16],
+    }
+}
+
+fn bad_call(rng: &mut Rng, job: &Job, book: &Book) -> [u16; 3] {
+    let units = job.units.len() as u16;
+    let unit = rng.from(1, units as usize) as u16;
+    let beyond = rng.pick(&[0, units + 1, unit + 256, unit | 0x8000, 513, 0xffff]);
+    // Small numbers of units may make one of these a unit after all.
+    let beyond = if (1..=units).contains(&beyond) { 0 } else { beyond };
+    let choices = job.choices() as u16;
+    let choice = rng.from(0, choices as usize - 1) as u16;
+    let no_choice = rng.pick(&[choices, choices + 1, 255, choice + 256, 0xffff]);
+    match rng.from(0, 3) {
+        0 => [rng.pick(&[6, 7]), beyond, rng.pick(&[choice, no_choice])],
+        1 => [6, unit, no_choice],
+        _ if book[unit as usize - 1].is_some() => [6, unit, choice],
+        _ => [7, unit, choice],
+    }
+}
+
+fn sittings_group(seed: u64, asks: bool) -> Result<String, String> {
+    let mut rng = Rng(seed);
+    let (mut calls, mut refused, mut plans, mut pins) = (0, 0, 0, 0);
+    let jobs = scaled(150);
+    for index in 1..=jobs {
+        let draft = if index % 15 == 1 {
+            random_long_job(&mut rng)
+        } else {
+            random_job(&mut rng, &SITTING)
+        };
+        let mut asked = Asked::new(&mut rng, &draft);
+        asked.calls = long_list(&mut rng, &asked.job);
+        (asked.answers, asked.book) = keep_book(&asked.job, &asked.calls);
+        let planned = check_sitting(&mut rng, &asked);
+        plans += planned.map_err(|trouble| failed(seed, index, &trouble, &asked))? as usize;
+        calls += asked.answers.len();
+        refused += asked.answers.iter().filter(|answer| **answer != 0).count();
+        pins += asked.book.iter().flatten().count();
+    }
+    let counts = format!(
+        "{jobs} sittings, {calls} calls, {refused} refused, {pins} pins stand, {plans} plans"
+    );
+    let worthwhile = refused * 5 > calls && refused * 2 < calls && plans * 4 > jobs && pins > jobs;
+    ensure!(worthwhile || !asks, "too little in it: {counts}");
+    Ok(counts)
+}
+
+/// True if there is a plan.
+fn check_sitting(rng: &mut Rng, asked: &Asked) -> Result<bool, String> {
+    let table = fast_table(&asked.job, &asked.book);
+    let plan = read_off(&asked.job, &asked.book, &table);
+    check_plan(rng, asked, &table, &plan)?;
+    check_replayed(rng, asked, &plan)?;
+    let other = random_plan(rng, &asked.job, &asked.book);
+    check_replay(rng, asked, &other)?;
+
+    // A fresh sitting with only the pins that stand, set in any order.
+    let standing = asked.book.iter().enumerate();
+    let mut pins: Vec<[u16; 3]> = standing
+        .filter_map(|(i, line)| Some([6, i as u16 + 1, line.as_ref().copied()? as u16]))
+        .collect();
+    for i in (1..pins.len()).rev() {
+        pins.swap(i, rng.from(0, i));
+    }
+    let lengths = [asked.answers.len(), table.len(), 2 * asked.intervals(), 3];
+    let mut long = PlanLists::new(&mut Rng(1), lengths);
+    let mut fresh = PlanLists::new(&mut Rng(1), lengths);
+    let numbers = (long.plan(&asked.bytes, &asked.calls), fresh.plan(&asked.bytes, &pins.concat()));
+    same("a fresh sitting's answer", numbers.0, numbers.1)?;
+    fresh.answers.wrote("a fresh sitting's answers", &vec![0; pins.len()])?;
+    same("a fresh sitting's values", long.values.list(), fresh.values.list())?;
+    same("a fresh sitting's entries", long.entries.list(), fresh.entries.list())?;
+    ensure!(long.table.list() == fresh.table.list(), "a fresh sitting's table is another");
+    Ok(plan.is_some())
+}
+
+// ---------------------------------------------------------------------------
+// Harmed bytes.
+// ---------------------------------------------------------------------------
+
+/// As many rates and choices as a job may have.
+const WIDE: Shape = Shape {
+    units: (1, 3),
+    delay: (0, 64),
+    decoder: 255,
+    bucket: 255,
+    rates: 16,
+    choices: 31,
+    grains: 4095,
+    heavy: &[2],
+    commands: 3,
+};
+
+fn harmed_job(rng: &mut Rng) -> Vec<u8> {
+    let shape = if rng.one_in(5) { &WIDE } else { &TINY };
+    let mut draft = random_job(rng, shape);
+    draft.commands.clear();
+    let mut records = draft.records();
+    if rng.one_in(20) {
+        let (from, to) = (rng.from(0, records.len() - 1), rng.from(0, records.len() - 1));
+        let moved = records.remove(from);
+        records.insert(to, moved);
+    }
+    let mut bytes = records.concat();
+    for _ in 0..rng.pick(&[1, 1, 1, 2, 3]) {
+        match rng.from(0, 9) {
+            0 => harm_head(rng, &mut bytes),
+            1 => harm_value(rng, &mut bytes),
+            _ => harm(rng, &mut bytes),
+        }
+    }
+    bytes.shrink_to_fit();
+    bytes
+}
+
+/// Puts a limit or its neighbour in a field of the header or a rate.
+fn harm_head(rng: &mut Rng, bytes: &mut [u8]) {
+    let field = 4 + 2 * rng.from(0, 14);
+    let limits: [u16; 16] =
+        [0, 1, 2, 16, 17, 31, 32, 64, 65, 255, 256, 512, 513, 4095, 4096, 0xffff];
+    if field + 2 <= bytes.len() {
+        bytes[field..field + 2].copy_from_slice(&rng.pick(&limits).to_le_bytes());
+    }
+}
+
+/// Puts a distortion at or near its limit somewhere.
+fn harm_value(rng: &mut Rng, bytes: &mut [u8]) {
+    if bytes.len() > 40 {
+        let at = rng.from(36, bytes.len() - 4);
+        let value: u32 = rng.pick(&[999_999, 1_000_000, 1_000_001, 1_000_000 << 8, 0x8000_0000]);
+        bytes[at..at + 4].copy_from_slice(&value.to_le_bytes());
+    }
+}
+
+fn harmed_group(seed: u64, asks: bool) -> Result<String, String> {
+    let mut rng = Rng(seed);
+    let mut tally: BTreeMap<Refusal, usize> = BTreeMap::new();
+    let inputs = scaled(60_000);
+    for index in 1..=inputs {
+        let bytes = harmed_job(&mut rng);
+        let due = check_bytes(&mut rng, &bytes).map_err(|trouble| {
+            format!("seed {seed}, input {index}: {trouble}\n  job {}", hex(&bytes))
+        })?;
+        *tally.entry(due).or_default() += 1;
+    }
+    let each: Vec<String> =
+        tally.iter().map(|(number, count)| format!("{count} {number}")).collect();
+    let counts = format!("{inputs} inputs by number ({})", each.join(", "));
+    let worthwhile = (0..=5).all(|number| tally.get(&number).is_some_and(|c| c * 200 > inputs));
+    ensure!(worthwhile || !asks, "too little in it: {counts}");
+    Ok(counts)
+}
+
+/// All four functions on bytes that may or may not be a job. Gives the number
+/// of opening them.
+fn check_bytes(rng: &mut Rng, bytes: &[u8]) -> Result<Refusal, String> {
+    let mut reader = Reader { rest: bytes };
+    let read = read_job(&mut reader);
+    let taken = bytes.len() - reader.rest.len();
+    let number = *read.as_ref().err().unwrap_or(&0);
+    let mut values: Lent<u64> = Lent::new(rng, 4);
+    same("open", number as u32, numbers::open(bytes, values.list()))?;
+    let mut lent = PlanLists::new(rng, [2, 20, 12, 3]);
+    let calls = [6, 1, 0, 7, 1, 0];
+    let mut levels: Lent<u16> = Lent::new(rng, 12);
+    let mut more: Lent<u64> = Lent::new(rng, 5);
+    let mut sums: Lent<u32> = Lent::new(rng, 4);
+    let entries: Vec<u8> = (0..2 * rng.from(0, 4)).map(|_| rng.next() as u8).collect();
+    match read {
+        Err(_) => {
+            values.kept("values of open")?;
+            same("plan", number as u32, lent.plan(bytes, &calls))?;
+            lent.kept()?;
+            let found = numbers::replay(bytes, &calls, &entries, levels.list(), more.list());
+            same("replay", number as u32, found)?;
+            same("report", number as u32, numbers::report(bytes, &entries, sums.list()))?;
+            levels.kept("levels")?;
+            more.kept("values of replay")?;
+            sums.kept("sums")?;
+        }
+        Ok(job) => {
+            let due = [taken, job.units.len(), job.intervals(), job.words()];
+            values.wrote("values of open", &due.map(|value| value as u64))?;
+            if job.words() > 20 {
+                same("plan", 11, lent.plan(bytes, &calls))?;
+                lent.kept()?;
+            }
+            if job.words() < 2000 {
+                let (answers, book) = keep_book(&job, &calls);
+                let bytes = bytes.to_vec();
+                let asked = Asked { bytes, job, calls: calls.to_vec(), answers, book };
+                let table = fast_table(&asked.job, &asked.book);
+                let plan = read_off(&asked.job, &asked.book, &table);
+                check_plan(rng, &asked, &table, &plan)?;
+                check_replayed(rng, &asked, &plan)?;
+            }
+        }
+    }
+    Ok(number)
+}
+
+/// A job cut at every byte, and with other bytes after it.
+fn cuts_group() -> Result<String, String> {
+    let mut rng = Rng(1);
+    let mut inputs = 0;
+    let mut wide = random_job(&mut rng, &WIDE);
+    wide.commands.clear();
+    for whole in [job_a().bytes(), wide.bytes()] {
+        for cut in 0..=whole.len() {
+            let bytes = whole[..cut].to_vec();
+            let due = check_bytes(&mut rng, &bytes).map_err(|t| format!("cut to {cut}: {t}"))?;
+            same(&format!("cut to {cut}"), (cut < whole.len()) as u8, due)?;
+            inputs += 1;
+        }
+        for tail in [vec![0; 1], vec![255; 2], vec![6, 0, 6], whole.clone(), vec![0; 70_000]] {
+            let bytes = then(whole.clone(), &tail);
+            same("bytes after the job", 0, check_bytes(&mut rng, &bytes)?)?;
+            inputs += 1;
+        }
+    }
+    Ok(format!("{inputs} inputs"))
+}
+
+/// Each header field at its limits and one beyond them, as the paper has them.
+fn limits_group() -> Result<String, String> {
+    let mut rng = Rng(1);
+    let limits: [(usize, u16, u16); 9] = [
+        (UNITS, 1, 512),
+        (DELAY, 0, 64),
+        (DECODER, 0, 255),
+        (BUCKET, 0, 255),
+        (DRAIN, 0, 4095),
+        (START_DECODER, 0, 4),
+        (START_BUCKET, 0, 3),
+        (RATES, 1, 16),
+        (CHOICES, 1, 31),
+    ];
+    let mut inputs = 0;
+    let mut check = |input: &[u8], due: Refusal, what: String| -> Checked {
+        inputs += 1;
+        let found = check_bytes(&mut rng, input).map_err(|trouble| format!("{what}: {trouble}"))?;
+        same(&what, due, found)
+    };
+    for (field, low, high) in limits {
+        for value in [low, low + 1, high - 1, high] {
+            check(&sized(field, value), 0, format!("field {field} is {value}"))?;
+        }
+        for value in [low.wrapping_sub(1), high + 1, high + 256, 0x8000, 0xffff] {
+            if value < low || value > high {
+                let input = sized(field, value.min(600));
+                let input = patched(&input, 4 + 2 * field, &value.to_le_bytes());
+                check(&input, 3, format!("field {field} is {value}"))?;
+            }
+        }
+    }
+    for (rates, due) in [([0, 2, 2], 4), ([2, 2, 4], 4), ([0, 4095, 4096], 4), ([0, 2, 4095], 0)] {
+        let draft = Draft { rates: rates.to_vec(), ..job_a() };
+        check(&draft.bytes(), due, format!("rates {rates:?}"))?;
+    }
+    for (unit, choice) in [(0, 0), (0, 1), (1, 0), (1, 1)] {
+        for (entry, due) in [
+            ((4095, 1_000_000), 0),
+            ((4096, 0), 5),
+            ((0, 1_000_001), 5),
+            ((0xffff, 0), 5),
+            ((0, 0x8000_0000), 5),
+            ((0, 0x0100_0000), 5),
+        ] {
+            let mut draft = job_a();
+            draft.units[unit][choice] = entry;
+            check(&draft.bytes(), due, format!("unit {} choice {choice} {entry:?}", unit + 1))?;
+        }
+    }
+    Ok(format!("{inputs} inputs"))
+}
+
+// ---------------------------------------------------------------------------
+// Job A as written, and refusals in their order.
+// ---------------------------------------------------------------------------
+
+/// The cases that the paper writes out, none of them worked out here.
+fn job_a_group() -> Result<String, String> {
+    use upload_planner::{best_plan, open, plan, replay, report, Refusal, Totals};
+    let job = job_a().bytes();
+    let totals = |distortion, source_grains, channel_grains| Totals {
+        distortion,
+        source_grains,
+        channel_grains,
+    };
+    let (first, second) = (Call::Pin { unit: 1, choice: 0 }, Call::Pin { unit: 2, choice: 0 });
+    let lifted = Call::Lift { unit: 1 };
+    let best = |calls: &[Call]| best_plan(&job, calls).map(|best| (best.entries, best.totals));
+    let plain = (vec![1, 255, 1, 1, 2, 0], totals(42, 7, 8));
+    let pinned = (vec![0, 255, 2, 0, 1, 1], totals(50, 6, 6));
+
+    let opened = open(&job).map_err(|refusal| refusal.to_string())?;
+    let opened = (opened.bytes, opened.units, opened.intervals, opened.table_words);
+    same("opened", (64, 2, 3, 80), opened)?;
+    same("no pins", Ok(plain.clone()), best(&[]))?;
+    same("unit 1 pinned at 0", Ok(pinned), best(&[first]))?;
+    same("and lifted", Ok(plain.clone()), best(&[first, lifted]))?;
+    same("both pinned at 0", Err(Refusal::NoPlan), best(&[first, second]))?;
+    let answers = best_plan(&job, &[lifted]).map(|best| best.answers);
+    same("lift of no pin", Ok(vec![Err(Refusal::NotPinned)]), answers)?;
+
+    let sized = |words: usize, bytes: usize| {
+        plan(&job, &[], &mut [], &mut vec![0; words], &mut vec![0; bytes])
+    };
+    same("79 words", Err(Refusal::TableTooShort), sized(79, 6))?;
+    same("five plan bytes", Err(Refusal::ListTooShort), sized(80, 5))?;
+    same("80 words, six bytes", Ok(plain.1), sized(80, 6))?;
+
+    let replayed = |calls: &[Call], entries: &[u8]| replay(&job, calls, entries, &mut [0; 6]);
+    let breach = |violation, interval| Ok(Replayed::Breach { violation, interval });
+    let over = replayed(&[], &[2, 255, 2, 1, 0, 0]);
+    same("decoder over", breach(Violation::DecoderOver, 2), over)?;
+    let short = replayed(&[], &[0, 255, 0, 1, 0, 1]);
+    same("decoder short", breach(Violation::DecoderShort, 2), short)?;
+    same("the best plan", Ok(Replayed::Clean(plain.1)), replayed(&[], &plain.0))?;
+    let unheld = replayed(&[first], &plain.0);
+    same("a pin not held", breach(Violation::PinNotHeld, 2), unheld)?;
+
+    let mut sums = [9; 4];
+    same("report", Ok(()), report(&job, &plain.0, &mut sums))?;
+    same("effective buffers", [2, 2, 4, 9], sums)?;
+    let opens = |draft: Draft| open(&draft.bytes()).err().map_or(0, |refusal| refusal.number());
+    same("no bytes", Err(Refusal::Cut), open(&[]))?;
+    same("drain 0", 0, opens(job_a().with(DRAIN, 0)))?;
+    same("rates 2, 2", 4, opens(Draft { rates: vec![2, 2, 4], ..job_a() }))?;
+    for number in 1..=15 {
+        let refusal = Refusal::from_number(number).ok_or(format!("no refusal {number}"))?;
+        same("a refusal's number", number, refusal.number())?;
+        ensure!(!refusal.to_string().is_empty(), "refusal {number} has no words");
+    }
+    same("refusals beyond", (None, None), (Refusal::from_number(0), Refusal::from_number(16)))?;
+    Ok("as written".to_string())
+}
+
+/// Job A with a wrong record for each of the first five numbers, and right.
+fn job_a_wrong(number: Refusal) -> Vec<u8> {
+    let mut draft = job_a();
+    match number {
+        1 => return draft.bytes()[..63].to_vec(),
+        2 => return patched(&draft.bytes(), 2, &[2]),
+        3 => draft.header[DELAY] = 65,
+        4 => draft.rates[2] = 2,
+        5 => draft.units[1][1].0 = 4096,
+        _ => (),
+    }
+    draft.bytes()
+}
+
+/// The number of the first defect that is there, in the order due.
+fn first_of(defects: &[(bool, Refusal)]) -> u32 {
+    defects.iter().find(|defect| defect.0).map_or(0, |defect| defect.1 as u32)
+}
+
+/// `need`, or less by one or by all of it.
+fn cut_to(need: usize, short: bool, by_all: bool) -> usize {
+    match (short, by_all) {
+        (false, _) => need,
+        (true, false) => need - 1,
+        (true, true) => 0,
+    }
+}
+
+/// Calls with an unknown kind, a cut last call, or both.
+fn faulty_calls(pins: &[u16], kind: bool, cut: bool, longer: bool) -> Vec<u16> {
+    let mut calls = pins.to_vec();
+    if kind {
+        let last = calls.len() - 3;
+        calls[last] = 5;
+    }
+    if cut {
+        calls.push(9);
+        calls.extend(longer.then_some(1));
+    }
+    calls
+}
+
+/// Every set of defects at once: the first in order gives the number, and
+/// nothing is written.
+fn order_group() -> Result<String, String> {
+    let mut rng = Rng(1);
+    let mut sets = 0;
+    for wrong in 0..=5 {
+        let job = job_a_wrong(wrong);
+        for bits in 0..1 << 9 {
+            let has = |bit: usize| bits >> bit & 1 == 1;
+            let named = |trouble: String| format!("job {wrong}, defects {bits:b}: {trouble}");
+            check_plan_order(&mut rng, &job, wrong, has).map_err(named)?;
+            check_other_orders(&mut rng, &job, wrong, has).map_err(named)?;
+            sets += 1;
+        }
+    }
+    Ok(format!("{sets} sets of defects"))
+}
+
+fn check_plan_order(
+    rng: &mut Rng,
+    job: &[u8],
+    wrong: Refusal,
+    has: impl Fn(usize) -> bool,
+) -> Checked {
+    let [values, kind, cut, table, answers, entries, no_plan] = std::array::from_fn(&has);
+    let by_all = has(7);
+    let pins: [u16; 6] = if no_plan { [6, 1, 0, 6, 2, 0] } else { [6, 1, 0, 7, 1, 9] };
+    let calls = faulty_calls(&pins, kind, cut, has(8));
+    let lengths = [
+        cut_to(2, answers, by_all),
+        cut_to(80, table, by_all),
+        cut_to(6, entries, by_all),
+        cut_to(3, values, by_all),
+    ];
+    let mut lent = PlanLists::new(rng, lengths);
+    let due = first_of(&[
+        (values, 12),
+        (wrong > 0, wrong),
+        (kind, 2),
+        (cut, 1),
+        (table, 11),
+        (answers || entries, 12),
+        (no_plan, 13),
+    ]);
+    same("plan", due, lent.plan(job, &calls))?;
+    match due {
+        0 => {
+            lent.entries.wrote("entries", &[1, 255, 1, 1, 2, 0])?;
+            lent.values.wrote("values", &[42, 7, 8])
+        }
+        13 => {
+            lent.answers.wrote("answers", &[0, 0])?;
+            let read = read_job(&mut Reader { rest: job }).expect("Job A");
+            lent.table.wrote("table", &brute_table(&read, &vec![Some(0), Some(0)]))?;
+            lent.entries.kept("entries")?;
+            lent.values.kept("values")
+        }
+        _ => lent.kept(),
+    }
+}
+
+fn check_other_orders(
+    rng: &mut Rng,
+    job: &[u8],
+    wrong: Refusal,
+    has: impl Fn(usize) -> bool,
+) -> Checked {
+    let [short, kind, cut, shape, list] = std::array::from_fn(&has);
+    let by_all = has(7);
+    let mut entries = vec![1, 255, 1, 1, 2, 0];
+    if shape {
+        match has(5) {
+            true => entries[2] = 3,
+            false => entries.truncate(5),
+        }
+    }
+    entries.shrink_to_fit();
+    let calls = faulty_calls(&[6, 2, 0], kind, cut, has(8));
+    let mut values = Lent::new(rng, cut_to(5, short, by_all));
+    let mut levels = Lent::new(rng, cut_to(6, list, by_all));
+    let due =
+        first_of(&[(short, 12), (wrong > 0, wrong), (kind, 2), (cut, 1), (shape, 14), (list, 12)]);
+    let found = numbers::replay(job, &calls, &entries, levels.list(), values.list());
+    same("replay", due, found)?;
+    if due == 0 {
+        values.wrote("values of replay", &[0, 0, 42, 7, 8])?;
+        levels.wrote("levels", &[2, 0, 2, 0, 1, 2])?;
+    } else {
+        values.kept("values of replay")?;
+        levels.kept("levels")?;
+    }
+
+    let mut sums = Lent::new(rng, cut_to(3, list, by_all));
+    let due = first_of(&[(wrong > 0, wrong), (shape, 14), (list, 12)]);
+    same("report", due, numbers::report(job, &entries, sums.list()))?;
+    sums.wrote("sums", if due == 0 { &[2, 2, 4] } else { &[] })?;
+
+    let mut values = Lent::new(rng, cut_to(4, short, by_all));
+    let due = first_of(&[(short, 12), (wrong > 0, wrong)]);
+    same("open", due, numbers::open(job, values.list()))?;
+    values.wrote("values of open", if due == 0 { &[64, 2, 3, 80] } else { &[] })
+}
+
+/// Lists of every length up to what is needed, each alone.
+fn lengths_group() -> Result<String, String> {
+    let mut rng = Rng(2);
+    let job = job_a().bytes();
+    let calls = [6, 1, 1, 7, 1, 0, 7, 1, 0, 6, 2, 0];
+    let needs = [4, 80, 6, 3];
+    let mut lists = 0;
+    for (which, need) in needs.into_iter().enumerate() {
+        for length in 0..=need + 2 {
+            let mut lengths = needs;
+            lengths[which] = length;
+            let mut lent = PlanLists::new(&mut rng, lengths);
+            let number = if which == 1 { 11 } else { 12 };
+            let due = if length < need { number } else { 0 };
+            let found = lent.plan(&job, &calls);
+            let what = format!("list {which} of {length}");
+            same(&what, due, found)?;
+            if due > 0 {
+                lent.kept().map_err(|trouble| format!("{what}: {trouble}"))?;
+            } else {
+                lent.answers.wrote("answers", &[0, 0, 10, 0])?;
+                lent.entries.wrote("entries", &[1, 255, 1, 1, 2, 0])?;
+                lent.values.wrote("values", &[42, 7, 8])?;
+            }
+            lists += 1;
+        }
+    }
+    for length in 0..=8 {
+        let mut levels = Lent::new(&mut rng, length);
+        let mut values = Lent::new(&mut rng, 5);
+        // The first interval breaks off, yet room is asked for all of them.
+        let entries = [2, 255, 2, 1, 0, 0];
+        let found = numbers::replay(&job, &[], &entries, levels.list(), values.list());
+        same(&format!("levels of {length}"), if length < 6 { 12 } else { 0 }, found)?;
+        let breach: (&[u16], &[u64]) = (&[4, 2], &[2, 2, 0, 0, 0]);
+        let (due, valued) = if length < 6 { (&[][..], &[][..]) } else { breach };
+        levels.wrote("levels", due)?;
+        values.wrote("values of replay", valued)?;
+        let mut sums = Lent::new(&mut rng, length);
+        let found = numbers::report(&job, &entries, sums.list());
+        same(&format!("sums of {length}"), if length < 3 { 12 } else { 0 }, found)?;
+        sums.wrote("sums", if length < 3 { &[] } else { &[4, 4, 0] })?;
+        lists += 2;
+    }
+    Ok(format!("{lists} lists"))
+}
+
+/// Calls of other kinds in every place, and last calls that are cut, whatever
+/// their kind.
+fn kinds_group() -> Result<String, String> {
+    let mut rng = Rng(3);
+    let job = job_a().bytes();
+    let whole = [6, 1, 1, 7, 1, 0, 6, 2, 1];
+    let kinds = [0, 1, 2, 3, 4, 5, 6, 7, 8, 255, 256, 262, 263, 0x0600, 0x8006, 0xffff];
+    let tails: [&[u16]; 7] = [&[], &[6], &[7], &[9], &[6, 1], &[7, 1], &[9, 1]];
+    let mut lists = 0;
+    for place in 0..3 {
+        for kind in kinds {
+            for tail in tails {
+                let mut calls = whole.to_vec();
+                calls[3 * place] = kind;
+                calls.extend_from_slice(tail);
+                let known = kind == 6 || kind == 7;
+                let due = first_of(&[(!known, 2), (!tail.is_empty(), 1)]);
+                let mut lent = PlanLists::new(&mut rng, [4, 80, 6, 3]);
+                let found = lent.plan(&job, &calls);
+                let mut levels = Lent::<u16>::new(&mut rng, 6);
+                let mut values = Lent::<u64>::new(&mut rng, 5);
+                let entries = [1, 255, 1, 1, 2, 0];
+                let again = numbers::replay(&job, &calls, &entries, levels.list(), values.list());
+                same(&format!("calls {calls:?}"), (due, due), (found, again))?;
+                if due > 0 {
+                    lent.kept()?;
+                    levels.kept("levels")?;
+                    values.kept("values of replay")?;
+                }
+                lists += 1;
+            }
+        }
+    }
+    Ok(format!("{lists} lists of calls"))
+}
+
+// ---------------------------------------------------------------------------
+// Large jobs.
+// ---------------------------------------------------------------------------
+
+/// A job with a plan: units of fine and coarse codings around what the line
+/// carries in an interval.
+fn large_job(rng: &mut Rng, size: &Size) -> Draft {
+    let drain = 20;
+    let rates: Vec<u16> = (0..size.rates).map(|i| (i * 40 / size.rates.max(2)) as u16).collect();
+    let mut unit = || {
+        let finest = if rng.one_in(12) { rng.from(80, 200) } else { rng.from(10, 50) };
+        let coding = |choice: usize| {
+            let grains = finest * (size.choices - choice) / size.choices;
+            let lost = (finest - grains) * rng.from(3, 40);
+            (grains as u16, (lost * lost / 8 + rng.from(0, 60)).min(1_000_000) as u32)
+        };
+        (0..size.choices).map(coding).collect::<Vec<(u16, u32)>>()
+    };
+    let units: Vec<_> = (0..size.units).map(|_| unit()).collect();
+    let starts = [size.decoder / 3, size.bucket / 2];
+    let levels = [size.delay, size.decoder, size.bucket, drain, starts[0], starts[1]];
+    let mut draft = Draft::new(levels.map(|level| level as u16), &rates, &units);
+    for _ in 0..size.units / 16 {
+        let unit = rng.from(1, size.units);
+        // Of the coarsest, so that a small decoder can hold them.
+        let choice = size.choices - 1 - rng.from(0, size.choices / 8);
+        draft.commands.push(Pin(unit as u16, choice as u16));
+    }
+    draft
+}
+
+struct Size {
+    units: usize,
+    delay: usize,
+    decoder: usize,
+    bucket: usize,
+    rates: usize,
+    choices: usize,
+}
+
+const FULL: Size =
+    Size { units: 512, delay: 64, decoder: 255, bucket: 255, rates: 16, choices: 31 };
+
+/// Parts of the largest work, cut down in one way or another.
+fn large_group() -> Result<String, String> {
+    let sizes = [
+        ("few rates and choices", Size { rates: 4, choices: 4, ..FULL }),
+        ("few units", Size { units: 32, delay: 4, ..FULL }),
+        ("a small decoder", Size { decoder: 15, ..FULL }),
+        ("small buffers", Size { decoder: 127, bucket: 63, ..FULL }),
+    ];
+    let mut rng = Rng(5);
+    let mut words = 0;
+    for (name, size) in &sizes {
+        // Such a job is too long to print; its name tells.
+        let checked = check_large(&mut rng, size);
+        words += checked.map_err(|trouble| format!("{name}: {trouble}"))?;
+    }
+    Ok(format!("{} jobs, {words} words", sizes.len()))
+}
+
+fn full_group() -> Result<String, String> {
+    let words = check_large(&mut Rng(6), &FULL)?;
+    Ok(format!("1 job, {words} words"))
+}
+
+/// Gives the number of words compared.
+fn check_large(rng: &mut Rng, size: &Size) -> Result<usize, String> {
+    let draft = large_job(rng, size);
+    let asked = Asked::new(rng, &draft);
+    let table = fast_table(&asked.job, &asked.book);
+    let plan = read_off(&asked.job, &asked.book, &table).ok_or("no plan".to_string())?;
+    let start = asked.job.start_decoder * (asked.job.bucket_size + 1) + asked.job.start_bucket;
+    let word = table[start as usize];
+    same("the table's word of the start", word as u64, totals_of(&asked, &plan)[0])?;
+    check_open(rng, &asked)?;
+    check_plan(rng, &asked, &table, &Some(plan.clone()))?;
+    check_replay(rng, &asked, &plan)?;
+    check_report(rng, &asked, &plan)?;
+    Ok(table.len())
+}
+
+// ---------------------------------------------------------------------------
+// The run.
+// ---------------------------------------------------------------------------
+
+fn print_group(name: &str, result: Result<String, String>) -> bool {
+    match &result {
+        Ok(counts) => println!("ok {name}: {counts}"),
+        Err(trouble) => println!("FAILED {name}: {trouble}"),
+    }
+    result.is_ok()
+}
+
+fn run_all(new_seed: u64, with_full: bool) -> bool {
+    println!("new seed {new_seed}");
+    let mut results = vec![
+        print_group("Job A as written", job_a_group()),
+        print_group("refusals in their order", order_group()),
+        print_group("lists of every length", lengths_group()),
+        print_group("kinds of calls", kinds_group()),
+        print_group("limits", limits_group()),
+        print_group("cuts at every byte", cuts_group()),
+    ];
+    // How much a new seed or a small run brings is chance, so nothing is asked.
+    let mut seeded = |name: &str, seeds: &[u64], group: fn(u64, bool) -> Result<String, String>| {
+        for seed in seeds {
+            let result = group(*seed, !small());
+            results.push(print_group(&format!("{name}, seed {seed}"), result));
+        }
+        results.push(print_group(&format!("{name}, new seed"), group(new_seed, false)));
+    };
+    seeded("harmed bytes", &[1], harmed_group);
+    seeded("replay and report", &[1, 2], replay_group);
+    seeded("tiny jobs", &[1, 2, 3], tiny_group);
+    seeded("long sittings", &[1, 2], sittings_group);
+    seeded("larger jobs", &[4], larger_group);
+    if !small() {
+        results.push(print_group("large jobs", large_group()));
+    }
+    if !small() && with_full {
+        results.push(print_group("a job of the largest size", full_group()));
+    }
+    let passed = results.iter().filter(|held| **held).count();
+    println!("{passed} passed, {} failed", results.len() - passed);
+    passed == results.len()
+}
+
+fn main() -> ExitCode {
+    let (mut seed, mut with_full) = (None, true);
+    for argument in std::env::args().skip(1) {
+        if argument == "--small" {
+            SMALL.store(true, Ordering::Relaxed);
+        } else if argument == "--no-full" {
+            with_full = false;
+        } else if let Ok(number) = argument.parse() {
+            seed = Some(number);
+        } else {
+            println!("usage: library [SEED] [--no-full] [--small]");
+            return ExitCode::from(2);
+        }
+    }
+    if run_all(seed.unwrap_or_else(clock_seed), with_full) {
+        ExitCode::SUCCESS
+    } else {
+        ExitCode::from(1)
+    }
+}
