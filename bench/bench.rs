@@ -361,6 +361,14 @@ fn line(name: impl Into<String>, work: f64, times: [f64; 2]) -> Line {
     Line { name: name.into(), work, times }
 }
 
+fn shown(seconds: f64) -> String {
+    match seconds {
+        _ if seconds < 1e-3 => format!("{:.2} us", seconds * 1e6),
+        _ if seconds < 1.0 => format!("{:.2} ms", seconds * 1e3),
+        _ => format!("{seconds:.2} s"),
+    }
+}
+
 /// Prints a line as soon as it is measured.
 struct Table {
     last: Option<Line>,
@@ -373,7 +381,7 @@ impl Table {
         println!("\n{title}");
         println!(
             "  {:<34} {:>12} {:>12} {:>7} {:>16} {:>8} {:>8}",
-            "", "library us", "plain us", "ratio", "ns each", "grows", "work"
+            "", "library", "plain", "ratio", "ns each", "grows", "work"
         );
         Table { last: None, each }
     }
@@ -385,10 +393,10 @@ impl Table {
         });
         let each = format!("{:.2} a {}", ours * 1e9 / line.work, self.each);
         println!(
-            "  {:<34} {:>12.2} {:>12.2} {:>7.2} {:>16} {:>8} {:>8}",
+            "  {:<34} {:>12} {:>12} {:>7.2} {:>16} {:>8} {:>8}",
             line.name,
-            ours * 1e6,
-            plain * 1e6,
+            shown(ours),
+            shown(plain),
             ours / plain,
             each,
             growth[0],

@@ -776,12 +776,11 @@ const SITTING: Shape = Shape {
     commands: 0,
 };
 
-/// Hundreds of calls, about a third of them refused. In half of the sittings
+/// Calls of which about a third are refused. In half of the sittings
 /// the last calls lift most of what is pinned, so that there is a plan.
-fn long_list(rng: &mut Rng, job: &Job) -> Vec<u16> {
+fn long_list(rng: &mut Rng, job: &Job, count: usize) -> Vec<u16> {
     let mut book: Book = vec![None; job.units.len()];
     let mut calls = Vec::new();
-    let count = if small() { rng.from(20, 60) } else { rng.from(200, 600) };
     let light = rng.one_in(2);
     for _ in 0..count {
         let call = if rng.one_in(3) {
@@ -840,7 +839,14 @@ fn sittings_group(seed: u64, asks: bool) -> Result<String, String> {
             random_job(&mut rng, &SITTING)
         };
         let mut asked = Asked::new(&mut rng, &draft);
-        asked.calls = long_list(&mut rng, &asked.job);
+        let count = match index {
+            _ if small() => rng.from(20, 60),
+            // More calls, and more numbers, than sixteen bits count.
+            2 => 70_000,
+            3 => 22_000,
+            _ => rng.from(200, 600),
+        };
+        asked.calls = long_list(&mut rng, &asked.job, count);
         (asked.answers, asked.book) = keep_book(&asked.job, &asked.calls);
         let planned = check_sitting(&mut rng, &asked);
         plans += planned.map_err(|trouble| failed(seed, index, &trouble, &asked))? as usize;

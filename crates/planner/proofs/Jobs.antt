@@ -25,7 +25,7 @@ use Rattle.pinning.specs.State.{lines}
 use Rattle.pinning.proofs.Lines.{lines-at}
 use Rattle.planning.specs.Rule.{choice-in, allowed-in}
 use Rattle.planner.specs.declared.Choices.{Choices}
-use Rattle.planner.specs.Answers.{line-is, allowed-is, LineOf, NoChoices, UnitChoices, ChoicesOf}
+use Rattle.planner.specs.Answers.{line-is, coding-if, allowed-is, LineOf, NoChoices, UnitChoices, ChoicesOf}
 use Rattle.planner.proofs.Arrays.{Filled, filled-list}
 
 pub not-reached : (v : Violation) (s : model.Levels) → violates v ≡ reaches s → ⊥
@@ -54,7 +54,7 @@ line-read b h rates o f =
 
 -- a unit's choices, where they fill three arrays
 pub unit-read : (b : List ℕ) (h : Header) (unit pin : ℕ) (allowed : List Bool) (sizes distortions : List ℕ) → Filled false (λ x. pin-held (choice-of pin) (choice-of x)) 31 (h .choices) allowed → Filled 0 (λ x. coding-at b h unit x .size) 31 (h .choices) sizes → Filled 0 (λ x. coding-at b h unit x .distortion) 31 (h .choices) distortions → UnitChoices b h unit pin (record { count = h .choices; allowed = allowed; sizes = sizes; distortions = distortions })
-unfolding allowed-is coding-at
+unfolding allowed-is coding-if coding-at
 unit-read b h unit pin allowed sizes distortions a s d = record {
   count = refl;
   each = λ x l. rw (a .each x l, s .each x l, d .each x l);

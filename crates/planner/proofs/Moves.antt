@@ -34,13 +34,13 @@ use Rattle.planning.proofs.Layers.{layers-table}
 use Rattle.planning.proofs.Reading.{FirstPair, first-pair, here-is}
 use Rattle.planner.specs.declared.Line.{Line}
 use Rattle.planner.specs.declared.Choices.{Choices}
-use Rattle.planner.specs.Answers.{line-is, allowed-is, ChoicesOf, Starts, Layered, IntervalOf, step-of, Reached, chosen, Tabled, Standing, BestMove}
+use Rattle.planner.specs.Answers.{line-is, coding-if, allowed-is, ChoicesOf, Starts, Layered, IntervalOf, step-of, Reached, chosen, Tabled, Standing, BestMove}
 use Rattle.planner.proofs.Sizes.{rates-count}
 use Rattle.planner.proofs.Offers.{line-steps}
 
 -- a choice that is left open has its coding's size and distortion
 open-coding : (c : Choices) (x : ℕ) (k : Coding) → allowed-is c x ≡ some k → (getD (c .sizes) x 0 ≡ k .size) × (getD (c .distortions) x 0 ≡ k .distortion)
-unfolding allowed-is if_then_else_
+unfolding allowed-is coding-if if_then_else_
 open-coding c x k e = go (getD (c .allowed) x false) e
   where
     go : (t : Bool) → (if t then some (record { size = getD (c .sizes) x 0; distortion = getD (c .distortions) x 0 }) else none) ≡ some k → (getD (c .sizes) x 0 ≡ k .size) × (getD (c .distortions) x 0 ≡ k .distortion)
@@ -139,14 +139,14 @@ module _ (b : List ℕ) (h : Header) (l : Line) (pins table : List ℕ) (place :
       unfolding entry chosen
       choice-is byte q = rw (delay-is b (plain h) (st .opens), inner-is) (sym q)
 
-      module _ (x : Interval) (is : IntervalOf c (getD (l .rates) rate 0) choice x) where
+      module _ (x : Interval) (is : IntervalOf (getD (l .rates) rate 0) (getD (c .sizes) choice 0) (getD (c .distortions) choice 0) x) where
         -- the step of the job's header is that of its line
         header-steps : step-of h at x ≡ step-of (l .header) at x
         unfolding step-of
         header-steps = ap (λ (g : format.Header). outcome-of (line-of g) (choice-of (x .pin)) (choice-of (x .choice)) (at .decoder) (at .bucket ∷ []) (x .sent) (x .size)) (sym (st .line .header))
 
         lands : step-of h at x ≡ reaches (first .end)
-        lands = header-steps ∙ line-steps l c at (getD (l .rates) rate 0) choice x is ∙ rw (st .line .is, sent-is, coding-is .0) (first .step)
+        lands = header-steps ∙ line-steps l at (getD (l .rates) rate 0) (getD (c .sizes) choice 0) (getD (c .distortions) choice 0) x is ∙ rw (st .line .is, sent-is, coding-is .0) (first .step)
 
         pub reached-end : Reached h at x
         reached-end = record { end = first .end; is = lands }

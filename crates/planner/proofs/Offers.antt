@@ -2,7 +2,7 @@
 -- Assumes nothing.
 use Prim.Native.Nat.{ℕ, _+_, _<_}
 use mathlib.Core.Path.{_≡_, refl, sym, _∙_}
-use mathlib.Core.Bool.{true, false}
+use mathlib.Core.Bool.{Bool, true, false}
 use mathlib.Core.Option.{none}
 use lib.Dec.{leb}
 use lib.ListN.{getD}
@@ -24,8 +24,7 @@ use Rattle.replay.specs.declared.Interval.{Interval}
 use Rattle.replay.specs.Answers.{levels-of, line-of}
 use Rattle.planning.specs.Rule.{Allowed, coding-offer, pair-offer}
 use Rattle.planner.specs.declared.Line.{Line}
-use Rattle.planner.specs.declared.Choices.{Choices}
-use Rattle.planner.specs.Answers.{line-is, allowed-is, IntervalOf, step-of}
+use Rattle.planner.specs.Answers.{line-is, coding-if, IntervalOf, step-of}
 
 -- a pair offers what its choice does with what its rate sends
 pub pair-offers : (l : Line) (c : Allowed) (W : model.Levels → ℕ) (s : model.Levels) (rate choice : ℕ) → rate < l .header .rates → coding-offer (line-is l) W s (getD (l .rates) rate 0) (c choice) ≡ pair-offer (line-is l) c W s (pair rate choice)
@@ -33,26 +32,26 @@ unfolding pair-offer line-is
 pair-offers l c W s rate choice h = rw (getD-take (l .header .rates) (l .rates) rate 0 h)
 
 -- a choice that the pin rules out
-pub barred-offers : (line : model.Line) (W : model.Levels → ℕ) (s : model.Levels) (sent : ℕ) (c : Choices) (choice : ℕ) → getD (c .allowed) choice false ≡ false → mark ≡ coding-offer line W s sent (allowed-is c choice)
-unfolding coding-offer allowed-is if_then_else_
-barred-offers line W s sent c choice e = rw e
+pub barred-offers : (line : model.Line) (W : model.Levels → ℕ) (s : model.Levels) (sent : ℕ) (free : Bool) (size distortion : ℕ) → free ≡ false → mark ≡ coding-offer line W s sent (coding-if free size distortion)
+unfolding coding-offer coding-if if_then_else_
+barred-offers line W s sent free size distortion e = rw e
 
-module _ (l : Line) (c : Choices) (from : Levels) (sent choice : ℕ) (x : Interval) (is : IntervalOf c sent choice x) where
+module _ (l : Line) (from : Levels) (sent size distortion : ℕ) (x : Interval) (is : IntervalOf sent size distortion x) where
   -- no step looks at the rates
-  pub line-steps : step-of (l .header) from x ≡ outcome-of (line-is l) none none (levels-of from .decoder) (levels-of from .buckets) sent (getD (c .sizes) choice 0)
+  pub line-steps : step-of (l .header) from x ≡ outcome-of (line-is l) none none (levels-of from .decoder) (levels-of from .buckets) sent size
   unfolding step-of outcome-of line-of line-is plain levels-of
   line-steps = rw (is .sent-is, is .size-is, is .no-pin, is .no-unit, of-mark)
 
   pub reached-below : (to : Levels) → step-of (l .header) from x ≡ reaches (levels-of to) → place (tops (line-is l)) (flat (levels-of to)) < layerWords (line-is l)
   unfolding line-is levels-of
-  reached-below to h = place-below (layer-each (reaches-in-layer (line-is l) none none sent (getD (c .sizes) choice 0) (levels-of from) (levels-of to) refl (sym line-steps ∙ h)))
+  reached-below to h = place-below (layer-each (reaches-in-layer (line-is l) none none sent size (levels-of from) (levels-of to) refl (sym line-steps ∙ h)))
 
   -- a choice that it leaves open
-  module _ (W : model.Levels → ℕ) (free : getD (c .allowed) choice false ≡ true) where
-    pub violation-offers : (v : Violation) → step-of (l .header) from x ≡ violates v → mark ≡ coding-offer (line-is l) W (levels-of from) sent (allowed-is c choice)
-    unfolding coding-offer allowed-is if_then_else_ fare reached
-    violation-offers v h = rw (free, sym line-steps ∙ h)
+  module _ (W : model.Levels → ℕ) (free : Bool) (e : free ≡ true) where
+    pub violation-offers : (v : Violation) → step-of (l .header) from x ≡ violates v → mark ≡ coding-offer (line-is l) W (levels-of from) sent (coding-if free size distortion)
+    unfolding coding-offer coding-if if_then_else_ fare reached
+    violation-offers v h = rw (e, sym line-steps ∙ h)
 
-    pub reached-offers : (to : Levels) → step-of (l .header) from x ≡ reaches (levels-of to) → charge mark bound _+_ (leb (W (levels-of to)) bound) (x .distortion) (W (levels-of to)) ≡ coding-offer (line-is l) W (levels-of from) sent (allowed-is c choice)
-    unfolding coding-offer allowed-is if_then_else_ fare reached
-    reached-offers to h = rw (free, sym line-steps ∙ h, is .distortion-is)
+    pub reached-offers : (to : Levels) → step-of (l .header) from x ≡ reaches (levels-of to) → charge mark bound _+_ (leb (W (levels-of to)) bound) distortion (W (levels-of to)) ≡ coding-offer (line-is l) W (levels-of from) sent (coding-if free size distortion)
+    unfolding coding-offer coding-if if_then_else_ fare reached
+    reached-offers to h = rw (e, sym line-steps ∙ h)

@@ -2,7 +2,7 @@
 -- Assumes nothing.
 use Prim.Native.Nat.{ℕ, suc, _+_, _*_, _<_, _≤_}
 use mathlib.Core.Path.{_≡_}
-use mathlib.Core.Bool.{false}
+use mathlib.Core.Bool.{Bool, false}
 use mathlib.Core.Option.{Option, none, some}
 use mathlib.Core.List.{List, [], _∷_}
 use lib.Dec.{ltb}
@@ -54,9 +54,13 @@ line-is l = record {
   rates = take (l .header .rates) (l .rates);
 }
 
+-- a coding, where its choice is open
+unfoldable pub coding-if : Bool → ℕ → ℕ → Option model.Coding
+coding-if free size distortion = if free then some (record { size = size; distortion = distortion }) else none
+
 -- the codings of an interval, those that its pin leaves open
 unfoldable pub allowed-is : Choices → Allowed
-allowed-is c x = if getD (c .allowed) x false then some (record { size = getD (c .sizes) x 0; distortion = getD (c .distortions) x 0 }) else none
+allowed-is c x = coding-if (getD (c .allowed) x false) (getD (c .sizes) x 0) (getD (c .distortions) x 0)
 
 -- (T + 1) × (D + 1) × (K + 1)
 unfoldable pub table-words : format.Header → ℕ
@@ -132,11 +136,11 @@ pub record Layered (table : List ℕ) (l : Line) (c : Choices) (place : ℕ) (s 
   pub inside : InLayer (line-is l) s
   pub attained : Attained (line-is l) (c .count) (allowed-is c) (layerOf (line-is l) table (suc place)) s (wordIn (line-is l) (layerOf (line-is l) table place) s)
 
--- what an interval does that sends so much and makes this choice
-pub record IntervalOf (c : Choices) (sent choice : ℕ) (x : Interval) : Type 0 where
+-- what an interval does that sends so much and decodes a coding of this size and distortion
+pub record IntervalOf (sent size distortion : ℕ) (x : Interval) : Type 0 where
   pub sent-is : x .sent ≡ sent
-  pub size-is : x .size ≡ getD (c .sizes) choice 0
-  pub distortion-is : x .distortion ≡ getD (c .distortions) choice 0
+  pub size-is : x .size ≡ size
+  pub distortion-is : x .distortion ≡ distortion
   pub no-pin : x .pin ≡ no-choice
   pub no-unit : x .choice ≡ no-choice
 

@@ -24,7 +24,7 @@ ghost use Rattle.replaying.specs.Calls.{over};
 ghost use Rattle.planning.specs.Rule.{coding-offer, pair-offer, least-offer, layer-from};
 ghost use Rattle.planning.specs.Words.{layer, layers, table-of};
 ghost use Rattle.planning.specs.Calls.{search-in, plan-call};
-ghost use Rattle.planner.specs.Answers.{planned, line-is, allowed-is, table-words, LineFits, ChoicesFit, Offers, Attained, LineOf, NoChoices, UnitChoices, ChoicesOf, Starts, Layered, IntervalOf, step-of, Reached, chosen, Tabled, Standing, BestMove, PlanRead};
+ghost use Rattle.planner.specs.Answers.{planned, line-is, coding-if, allowed-is, table-words, LineFits, ChoicesFit, Offers, Attained, LineOf, NoChoices, UnitChoices, ChoicesOf, Starts, Layered, IntervalOf, step-of, Reached, chosen, Tabled, Standing, BestMove, PlanRead};
 use job::Header;
 use job::Reading;
 use pins::PinSet;
@@ -122,32 +122,39 @@ fn price(next: &[u32], place: usize, distortion: u32) -> u32
     }
 }
 
-// What a choice offers from these levels where so much is sent. The pins are in the choices already.
-fn offer(next: &[u32], line: Line, choices: Choices, from: Levels, sent: u16, choice: usize) -> u32
-    requires { ⌜ Offers (now next) line choices × (choice < choices .count) ⌝ }
-    ensures { λ r. ⌜ r ≡ coding-offer (line-is line) (wordIn (line-is line) (now (next .entry))) (levels-of from) sent (allowed-is choices choice) ⌝ }
-{
-    if !choices.allowed[choice] {
-        return NONE;
-    }
-    let x = interval_of(choices, sent, choice);
-    match replay::step(line.header, from, x) {
-        Outcome::Violates(_) => NONE,
-        Outcome::Reaches(to) => price(next, word_place(line, to), x.distortion),
-    }
-}
-
-// What an interval does that sends so much and makes this choice.
-fn interval_of(choices: Choices, sent: u16, choice: usize) -> Interval
-    requires { ⌜ choice < 31 ⌝ }
-    ensures { λ r. ⌜ IntervalOf choices sent choice r ⌝ }
+// What an interval does that sends so much and decodes a coding of this size and distortion.
+fn interval_of(sent: u16, size: u16, distortion: u32) -> Interval
+    ensures { λ r. ⌜ IntervalOf sent size distortion r ⌝ }
 {
     Interval {
         sent,
-        size: choices.sizes[choice],
-        distortion: choices.distortions[choice],
+        size,
+        distortion,
         pin: NO_UNIT,
         choice: NO_UNIT,
+    }
+}
+
+// What a coding offers from these levels where so much is sent, if its choice is open. The pins are in the choices already. The coding comes as numbers: this runs for every move, and the choices of an interval are too large to hand on each time.
+fn offer(
+    next: &[u32],
+    line: Line,
+    from: Levels,
+    sent: u16,
+    free: bool,
+    size: u16,
+    distortion: u32,
+) -> u32
+    requires { ⌜ (length (now next) ≡ layerWords (line-is line)) × (distortion ≤ 1000000) ⌝ }
+    ensures { λ r. ⌜ r ≡ coding-offer (line-is line) (wordIn (line-is line) (now (next .entry))) (levels-of from) sent (coding-if free size distortion) ⌝ }
+{
+    if !free {
+        return NONE;
+    }
+    let x = interval_of(sent, size, distortion);
+    match replay::step(line.header, from, x) {
+        Outcome::Violates(_) => NONE,
+        Outcome::Reaches(to) => price(next, word_place(line, to), distortion),
     }
 }
 
@@ -160,7 +167,10 @@ fn rate_word(next: &[u32], line: Line, choices: Choices, from: Levels, rate: usi
     let count = choices.count;
     let mut least = NONE;
     for choice in 0..count {
-        least = lesser(least, offer(next, line, choices, from, sent, choice));
+        let free = choices.allowed[choice];
+        let size = choices.sizes[choice];
+        let distortion = choices.distortions[choice];
+        least = lesser(least, offer(next, line, from, sent, free, size, distortion));
     }
     least
 }
@@ -212,7 +222,10 @@ fn first_entry(next: &[u32], line: Line, choices: Choices, from: Levels, word: u
     'search: for rate in 0..rates {
         let sent = line.rates[rate];
         for choice in 0..count {
-            if offer(next, line, choices, from, sent, choice) == word {
+            let free = choices.allowed[choice];
+            let size = choices.sizes[choice];
+            let distortion = choices.distortions[choice];
+            if offer(next, line, from, sent, free, size, distortion) == word {
                 found = Pick { rate, choice };
                 break 'search;
             }
@@ -361,7 +374,10 @@ fn best_move(
     let pick = best_entry(table, line, choices, place, at);
     let rate = pick.rate;
     let choice = pick.choice;
-    let interval = interval_of(choices, line.rates[rate], choice);
+    let sent = line.rates[rate];
+    let size = choices.sizes[choice];
+    let distortion = choices.distortions[choice];
+    let interval = interval_of(sent, size, distortion);
     Move {
         rate: rate as u8,
         choice: choice_byte(header, place, choice),

@@ -12,30 +12,58 @@ best-entry-requires c κs =
     let a = c .before .before .before in
     layered _ _ _ _ _ _ _ (a .pre .0) (a .pre .1) (a .pre .2) (a .pre .3) _ (c .choices-in .ensures)
 
-mul-interval-of : tie.Need-mul-interval-of
-mul-interval-of c =
-    let i = c .before in
+mul-sent : tie.Need-mul-sent
+mul-sent c =
+    let e = c in
+    let i = e .before in
     let a = i .before .before .before in
-    let l = rate-below _ _ _ _ _ _ _ (a .pre .0) (a .pre .1) (a .pre .2) (a .pre .3) _ (i .choices-in .ensures) _ _ (c .best-entry .ensures) in
+    let l = rate-below _ _ _ _ _ _ _ (a .pre .0) (a .pre .1) (a .pre .2) (a .pre .3) _ (i .choices-in .ensures) _ _ (e .best-entry .ensures) in
     record { fits = omega (arith, a .pre .0 .line .fits .rates) }
 
-element-copy-out-interval-of : tie.Need-element-copy-out-interval-of
-element-copy-out-interval-of c =
-    let i = c .before in
+element-copy-out-sent : tie.Need-element-copy-out-sent
+element-copy-out-sent c =
+    let e = c in
+    let i = e .before in
     let a = i .before .before .before in
-    let l = rate-below _ _ _ _ _ _ _ (a .pre .0) (a .pre .1) (a .pre .2) (a .pre .3) _ (i .choices-in .ensures) _ _ (c .best-entry .ensures) in
+    let l = rate-below _ _ _ _ _ _ _ (a .pre .0) (a .pre .1) (a .pre .2) (a .pre .3) _ (i .choices-in .ensures) _ _ (e .best-entry .ensures) in
     omega (arith, a .pre .0 .line .fits .rates)
 
-interval-of-requires : tie.Need-interval-of-requires
-interval-of-requires c κs =
+mul-size : tie.Need-mul-size
+mul-size c =
+    let e = c .before in
+    let i = e .before in
+    let a = i .before .before .before in
+    let l = choice-below _ _ _ _ _ _ _ (a .pre .0) (a .pre .1) (a .pre .2) (a .pre .3) _ (i .choices-in .ensures) _ _ (e .best-entry .ensures) in
+    record { fits = omega arith }
+
+element-copy-out-size : tie.Need-element-copy-out-size
+element-copy-out-size c =
     let e = c .before in
     let i = e .before in
     let a = i .before .before .before in
     choice-below _ _ _ _ _ _ _ (a .pre .0) (a .pre .1) (a .pre .2) (a .pre .3) _ (i .choices-in .ensures) _ _ (e .best-entry .ensures)
 
-cast-t19 : tie.Need-cast-t19
-cast-t19 c =
+mul-distortion : tie.Need-mul-distortion
+mul-distortion c =
     let e = c .before .before in
+    let i = e .before in
+    let a = i .before .before .before in
+    let l = choice-below _ _ _ _ _ _ _ (a .pre .0) (a .pre .1) (a .pre .2) (a .pre .3) _ (i .choices-in .ensures) _ _ (e .best-entry .ensures) in
+    record { fits = omega arith }
+
+element-copy-out-distortion : tie.Need-element-copy-out-distortion
+element-copy-out-distortion c =
+    let e = c .before .before in
+    let i = e .before in
+    let a = i .before .before .before in
+    choice-below _ _ _ _ _ _ _ (a .pre .0) (a .pre .1) (a .pre .2) (a .pre .3) _ (i .choices-in .ensures) _ _ (e .best-entry .ensures)
+
+interval-of-requires : tie.Need-interval-of-requires
+interval-of-requires c κs = search needs
+
+cast-t28 : tie.Need-cast-t28
+cast-t28 c =
+    let e = c .before .before .before .before in
     let i = e .before in
     let a = i .before .before .before in
     let l = rate-below _ _ _ _ _ _ _ (a .pre .0) (a .pre .1) (a .pre .2) (a .pre .3) _ (i .choices-in .ensures) _ _ (e .best-entry .ensures) in
@@ -43,7 +71,7 @@ cast-t19 c =
 
 choice-byte-requires : tie.Need-choice-byte-requires
 choice-byte-requires c κs =
-    let e = c .before .before in
+    let e = c .before .before .before .before in
     let i = e .before in
     let a = i .before .before .before in
     choice-below _ _ _ _ _ _ _ (a .pre .0) (a .pre .1) (a .pre .2) (a .pre .3) _ (i .choices-in .ensures) _ _ (e .best-entry .ensures)
@@ -51,7 +79,7 @@ choice-byte-requires c κs =
 levels-after-requires : tie.Need-levels-after-requires
 levels-after-requires c κs =
     let x = c .before in
-    let e = x .before .before in
+    let e = x .before .before .before .before in
     let i = e .before in
     let a = i .before .before .before in
     reached-end _ _ _ _ _ _ _ (a .pre .0) (a .pre .1) (a .pre .2) (a .pre .3) _ (i .choices-in .ensures) _ _ (e .best-entry .ensures) _ (x .interval-of .ensures)
@@ -60,7 +88,7 @@ returns : tie.Need-returns
 returns c =
     let d = c .before in
     let x = d .before in
-    let e = x .before .before in
+    let e = x .before .before .before .before in
     let i = e .before in
     let a = i .before .before .before in
     best-move _ _ _ _ _ _ _ (a .pre .0) (a .pre .1) (a .pre .2) (a .pre .3) _ (i .choices-in .ensures) _ _ (e .best-entry .ensures) _ (x .interval-of .ensures) _ _ (d .choice-byte .ensures) (c .levels-after .ensures)
@@ -71,10 +99,14 @@ best-move-spec =
     (tie.spec
     choices-in-requires
     best-entry-requires
-    mul-interval-of
-    element-copy-out-interval-of
+    mul-sent
+    element-copy-out-sent
+    mul-size
+    element-copy-out-size
+    mul-distortion
+    element-copy-out-distortion
     interval-of-requires
-    cast-t19
+    cast-t28
     choice-byte-requires
     levels-after-requires
     returns)

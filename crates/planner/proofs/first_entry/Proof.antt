@@ -19,16 +19,16 @@ use Rattle.planner.proofs.first_entry.Statement.{statement}
 use Rattle.planner.proofs.first_entry.Tie as tie
 
 abbrev Inv-loop : tie.InvT-loop
-Inv-loop next choices from word line rates count found₀ rate sent choice₀ found choice = (choice ≤ count) × (first-at (pair-offer (line-is line) (allowed-is choices) (wordIn (line-is line) next) (levels-of from)) word (rising rate count ++ row rate choice) ≡ none)
+Inv-loop next from word line choices rates count found₀ rate sent choice₀ found choice = (choice ≤ count) × (first-at (pair-offer (line-is line) (allowed-is choices) (wordIn (line-is line) next) (levels-of from)) word (rising rate count ++ row rate choice) ≡ none)
 
 abbrev μ-loop : tie.MeasureT-loop
-μ-loop next choices from word line rates count found₀ rate sent choice₀ found choice = count - choice
+μ-loop next from word line choices rates count found₀ rate sent choice₀ found choice = count - choice
 
 abbrev Inv-search : tie.InvT-search
-Inv-search next choices from word line rates count found₀ rate₀ found rate = (rate ≤ rates) × (first-at (pair-offer (line-is line) (allowed-is choices) (wordIn (line-is line) next) (levels-of from)) word (rising rate count) ≡ none)
+Inv-search next from word line choices rates count found₀ rate₀ found rate = (rate ≤ rates) × (first-at (pair-offer (line-is line) (allowed-is choices) (wordIn (line-is line) next) (levels-of from)) word (rising rate count) ≡ none)
 
 abbrev μ-search : tie.MeasureT-search
-μ-search next choices from word line rates count found₀ rate₀ found rate = rates - rate
+μ-search next from word line choices rates count found₀ rate₀ found rate = rates - rate
 
 cast-rates : tie.Need-cast-rates Inv-loop μ-loop Inv-search μ-search
 cast-rates c = search needs
@@ -47,8 +47,26 @@ loop-holds : tie.Need-loop-holds Inv-loop μ-loop Inv-search μ-search
 unfolding row
 loop-holds c = (search needs, rw (append-nil _) (c .before .before .search .inv .1))
 
+element-copy-out-free : tie.Need-element-copy-out-free Inv-loop μ-loop Inv-search μ-search
+element-copy-out-free c = let a = c .before .before .before .before .before .before in omega (arith, a .pre .0 .choices .count)
+
+mul-size : tie.Need-mul-size Inv-loop μ-loop Inv-search μ-search
+mul-size c = let a = c .before .before .before .before .before .before .before in record { fits = omega (arith, a .pre .0 .choices .count) }
+
+element-copy-out-size : tie.Need-element-copy-out-size Inv-loop μ-loop Inv-search μ-search
+element-copy-out-size c = let a = c .before .before .before .before .before .before .before in omega (arith, a .pre .0 .choices .count)
+
+mul-distortion : tie.Need-mul-distortion Inv-loop μ-loop Inv-search μ-search
+mul-distortion c = let a = c .before .before .before .before .before .before .before .before in record { fits = omega (arith, a .pre .0 .choices .count) }
+
+element-copy-out-distortion : tie.Need-element-copy-out-distortion Inv-loop μ-loop Inv-search μ-search
+element-copy-out-distortion c = let a = c .before .before .before .before .before .before .before .before in omega (arith, a .pre .0 .choices .count)
+
 offer-requires : tie.Need-offer-requires Inv-loop μ-loop Inv-search μ-search
-offer-requires c κs = search needs
+offer-requires c κs =
+    let i = c .before .before .before in
+    let a = i .before .before .before .before .before .before in
+    (a .pre .0 .whole, a .pre .0 .choices .small _ (i .loop-test .taken))
 
 add-choice : tie.Need-add-choice Inv-loop μ-loop Inv-search μ-search
 add-choice c = search needs
@@ -57,12 +75,13 @@ loop-less : tie.Need-loop-less Inv-loop μ-loop Inv-search μ-search
 loop-less c = search needs
 
 loop-again : tie.Need-loop-again Inv-loop μ-loop Inv-search μ-search
+unfolding allowed-is
 loop-again c =
     let o = c .before in
-    let l = o .before .before in
+    let l = o .before .before .before .before .before in
     let s = l .before .before .before in
     let a = s .before .before in
-    (omega arith, pair-passed _ _ (rising (s .search .rate) (a .args .choices .count)) (s .search .rate) (l .loop .choice) (l .loop .inv .1) (λ e. c .if1 .left (o .offer .ensures ∙ pair-offers (a .args .t2) _ _ _ (s .search .rate) (l .loop .choice) (l .before .before .search-test .taken) ∙ e)))
+    (omega arith, pair-passed _ _ (rising (s .search .rate) (a .args .t3 .count)) (s .search .rate) (l .loop .choice) (l .loop .inv .1) (λ e. c .if1 .left (o .offer .ensures ∙ pair-offers (a .args .t2) (allowed-is (a .args .t3)) _ _ (s .search .rate) (l .loop .choice) (l .before .before .search-test .taken) ∙ e)))
 
 add-rate : tie.Need-add-rate Inv-loop μ-loop Inv-search μ-search
 add-rate c = search needs
@@ -74,7 +93,7 @@ search-again : tie.Need-search-again Inv-loop μ-loop Inv-search μ-search
 search-again c =
     let l = c .before in
     let s = l .before .before .before in
-    let e : l .loop .choice ≡ s .before .before .args .choices .count = omega arith in
+    let e : l .loop .choice ≡ s .before .before .args .t3 .count = omega arith in
     (omega arith, row-passed _ _ (s .search .rate) _ (rw e at (l .loop .inv .1)))
 
 returns : tie.Need-returns Inv-loop μ-loop Inv-search μ-search
@@ -86,13 +105,13 @@ returns c =
     absurd (Option·none-ne-some (a .pre .1 .pick) (sym (rw e at (s .search .inv .1)) ∙ a .pre .1 .first))
 
 returns-2 : tie.Need-returns-2 Inv-loop μ-loop Inv-search μ-search
-unfolding pairs
+unfolding pairs allowed-is
 returns-2 c =
     let o = c .before in
-    let l = o .before .before in
+    let l = o .before .before .before .before .before in
     let s = l .before .before .before in
     let a = s .before .before in
-    pair-found _ _ _ _ (s .search .rate) (l .loop .choice) (omega (arith, rates-count (a .args .t2) (a .pre .0 .line))) (o .before .loop-test .taken) (l .loop .inv .1) (sym (pair-offers (a .args .t2) _ _ _ (s .search .rate) (l .loop .choice) (l .before .before .search-test .taken)) ∙ sym (o .offer .ensures) ∙ c .if1 .taken)
+    pair-found _ _ _ _ (s .search .rate) (l .loop .choice) (omega (arith, rates-count (a .args .t2) (a .pre .0 .line))) (o .before .before .before .before .loop-test .taken) (l .loop .inv .1) (sym (pair-offers (a .args .t2) (allowed-is (a .args .t3)) _ _ (s .search .rate) (l .loop .choice) (l .before .before .search-test .taken)) ∙ sym (o .offer .ensures) ∙ c .if1 .taken)
 
 pub first-entry-spec : {M : Type 1} → statement M
 first-entry-spec =
@@ -107,6 +126,11 @@ first-entry-spec =
     mul-sent
     element-copy-out-sent
     loop-holds
+    element-copy-out-free
+    mul-size
+    element-copy-out-size
+    mul-distortion
+    element-copy-out-distortion
     offer-requires
     add-choice
     loop-less

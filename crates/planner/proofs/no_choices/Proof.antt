@@ -1,5 +1,5 @@
 use Rattle.model.specs.If.{if_then_else_}
-use Rattle.planner.specs.Answers.{allowed-is}
+use Rattle.planner.specs.Answers.{coding-if, allowed-is}
 use lib.ListN.{getD-replicate}
 use mathlib.Core.Path.{refl}
 use Prim.Native.Nat.{ℕ}
@@ -8,7 +8,7 @@ use Rattle.planner.proofs.no_choices.Statement.{statement}
 use Rattle.planner.proofs.no_choices.Tie as tie
 
 returns : tie.Need-returns
-unfolding allowed-is if_then_else_
+unfolding allowed-is coding-if if_then_else_
 returns c = record {
   count = refl;
   each = refl;

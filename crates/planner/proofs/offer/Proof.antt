@@ -8,11 +8,8 @@ use borrow.Author.Needs.{needs}
 use Rattle.planner.proofs.offer.Statement.{statement}
 use Rattle.planner.proofs.offer.Tie as tie
 
-element-copy-out-if1 : tie.Need-element-copy-out-if1
-element-copy-out-if1 c = search needs
-
 returns : tie.Need-returns
-returns c = barred-offers _ _ _ _ _ _ (not-true _ (c .if1 .taken))
+returns c = barred-offers _ _ _ _ _ _ _ (not-true _ (c .if1 .taken))
 
 interval-of-requires : tie.Need-interval-of-requires
 interval-of-requires c κs = search needs
@@ -34,9 +31,9 @@ unfolding outcome-is step-of
 price-requires c κs =
     let m = c .before .before .before in
     let i = m .before .before in
-    let a = i .before .before .before .before in
+    let a = i .before .before .before in
     let h = sym (m .before .step .ensures) ∙ ap outcome-is (c .before .before .to .given .1) in
-    (rw (c .word-place .ensures, a .pre .0 .whole) (reached-below _ _ _ _ _ _ (i .interval-of .ensures) _ h), rw (i .interval-of .ensures .distortion-is) (a .pre .0 .choices .small _ (a .pre .1)))
+    (rw (c .word-place .ensures, a .pre .0) (reached-below _ _ _ _ _ _ (i .interval-of .ensures) _ h), a .pre .1)
 
 returns-2 : tie.Need-returns-2
 unfolding outcome-is step-of
@@ -44,7 +41,7 @@ returns-2 c =
     let m = c .before in
     let i = m .before .before in
     let h = sym (m .before .step .ensures) ∙ ap outcome-is (c .enum-told .given .1) in
-    violation-offers _ _ _ _ _ _ (i .interval-of .ensures) _ (not-false _ (i .before .if1 .left)) _ h
+    violation-offers _ _ _ _ _ _ (i .interval-of .ensures) _ _ (not-false _ (i .before .if1 .left)) _ h
 
 returns-3 : tie.Need-returns-3
 unfolding outcome-is step-of wordIn
@@ -53,13 +50,12 @@ returns-3 c =
     let m = t .before in
     let i = m .before .before in
     let h = sym (m .before .step .ensures) ∙ ap outcome-is (t .to .given .1) in
-    c .price .ensures ∙ rw (c .before .word-place .ensures) (reached-offers _ _ _ _ _ _ (i .interval-of .ensures) _ (not-false _ (i .before .if1 .left)) _ h)
+    c .price .ensures ∙ rw (c .before .word-place .ensures) (reached-offers _ _ _ _ _ _ (i .interval-of .ensures) _ _ (not-false _ (i .before .if1 .left)) _ h)
 
 pub offer-spec : {M : Type 1} → statement M
 offer-spec =
     tie.close
     (tie.spec
-    element-copy-out-if1
     returns
     interval-of-requires
     step-requires
