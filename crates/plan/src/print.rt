@@ -3,9 +3,6 @@ use job::Header;
 use libc::STDOUT_FILENO;
 use replay::Totals;
 
-// The choice byte where no unit is decoded.
-const NO_UNIT: u8 = 255;
-
 fn text(s: &[u8]) {
     io::write_all(STDOUT_FILENO, s);
 }
@@ -26,7 +23,7 @@ pub fn end() {
 
 // The choice behind a space, or `-` where no unit is decoded.
 pub fn choice(x: u8) {
-    if x == NO_UNIT {
+    if x == replay::NO_UNIT {
         text(b" -");
     } else {
         number(x as u64);

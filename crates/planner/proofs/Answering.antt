@@ -29,6 +29,7 @@ use Rattle.pinning.specs.Check.{checked, Ready}
 use Rattle.pinning.proofs.Agree.{matched}
 use Rattle.replay.specs.declared.Totals as replay
 use Rattle.replay.specs.Answers.{totals-of}
+use Rattle.replaying.specs.Entries.{entry-size}
 use Rattle.replaying.specs.Calls.{over}
 use Rattle.replaying.proofs.Flat.{over-length}
 use Rattle.planning.specs.Words.{table-of}
@@ -136,10 +137,10 @@ module _ (b : List ℕ) (h : Header) (s : State) (r : Ready b h s) (table entrie
     room-is : words (job-in b) ≤ length table
     room-is = omega (arith, words-are b h (ready-opens b h s r))
 
-    pub plan-12 : length entries < 2 * (h .units + h .delay) → record { answer = refused 12; table = table; entries = entries } ≡ plan-call b s table entries
+    pub plan-12 : length entries < entry-size * (h .units + h .delay) → record { answer = refused 12; table = table; entries = entries } ≡ plan-call b s table entries
     unfolding plan-in refuse if_then_else_
-    plan-12 l = sym (plan-on ∙ rw (le-ltb (length table) (words (job-in b)) room-is, lt-ltb (length entries) (2 * intervals (job-in b)) (omega (arith, intervals-are b h (ready-opens b h s r)))))
+    plan-12 l = sym (plan-on ∙ rw (le-ltb (length table) (words (job-in b)) room-is, lt-ltb (length entries) (entry-size * intervals (job-in b)) (omega (arith, intervals-are b h (ready-opens b h s r)))))
 
-    pub plan-searched : 2 * (h .units + h .delay) ≤ length entries → search-in (job-in b) (lines (h .units) (s .bytes)) table entries ≡ plan-call b s table entries
+    pub plan-searched : entry-size * (h .units + h .delay) ≤ length entries → search-in (job-in b) (lines (h .units) (s .bytes)) table entries ≡ plan-call b s table entries
     unfolding plan-in if_then_else_
-    plan-searched l = sym (plan-on ∙ rw (le-ltb (length table) (words (job-in b)) room-is, le-ltb (length entries) (2 * intervals (job-in b)) (omega (arith, intervals-are b h (ready-opens b h s r))), units-are b h (ready-opens b h s r)))
+    plan-searched l = sym (plan-on ∙ rw (le-ltb (length table) (words (job-in b)) room-is, le-ltb (length entries) (entry-size * intervals (job-in b)) (omega (arith, intervals-are b h (ready-opens b h s r))), units-are b h (ready-opens b h s r)))

@@ -15,7 +15,7 @@ use Rattle.model.specs.Replay.{with-entry, totals, none-yet}
 use Rattle.model.specs.Best.{late, best-plan}
 use Rattle.format.specs.Choices.{choice-byte}
 use Rattle.format.proofs.Choices.{byte-back}
-use Rattle.replaying.specs.Entries.{entry-bytes}
+use Rattle.replaying.specs.Entries.{entry-size, entry-bytes}
 use Rattle.replaying.specs.Calls.{over}
 use Rattle.replaying.proofs.Entries.{bytes-size, bytes-more}
 use Rattle.replay.specs.declared.Levels.{Levels}
@@ -33,7 +33,7 @@ module _ (j : Job) (m : PinMap) (entries₀ : List ℕ) where
     pub plan : best-plan j m 0 (j .start) late ≡ done ++ best-plan j m place (levels-of at) late
     pub stands : Standing j m place (levels-of at)
     pub sums : totals j 0 (best-plan j m 0 (j .start) late) ≡ plus (totals-of sum) (totals j place (best-plan j m place (levels-of at) late))
-    pub list : entries ≡ entry-bytes done ++ drop (2 * place) entries₀
+    pub list : entries ≡ entry-bytes done ++ drop (entry-size * place) entries₀
     pub size : length entries ≡ length entries₀
     pub small : (sum .distortion ≤ place * 1000000) × (sum .source ≤ place * 4095) × (sum .channel ≤ place * 4095)
 
@@ -55,10 +55,10 @@ module _ (j : Job) (m : PinMap) (entries₀ : List ℕ) where
       }
 
   -- one entry more
-  pub read-on : (place : ℕ) (at : Levels) (sum : Totals) (entries : List ℕ) (x : Move) (sum′ : Totals) → ReadTo place at sum entries → BestMove j m place (levels-of at) x → totals-of sum′ ≡ added sum (x .interval) → 2 * place + 2 ≤ length entries₀ → ReadTo (place + 1) (x .to) sum′ (set (set entries (2 * place) (x .rate)) (2 * place + 1) (x .choice))
+  pub read-on : (place : ℕ) (at : Levels) (sum : Totals) (entries : List ℕ) (x : Move) (sum′ : Totals) → ReadTo place at sum entries → BestMove j m place (levels-of at) x → totals-of sum′ ≡ added sum (x .interval) → entry-size * place + 2 ≤ length entries₀ → ReadTo (place + 1) (x .to) sum′ (set (set entries (entry-size * place) (x .rate)) (entry-size * place + 1) (x .choice))
   unfolding plus totals with-entry totals-of added
   read-on place at sum entries x sum′ g b e room =
-      let n : 2 * place + 2 ≡ 2 * suc place = omega arith in
+      let n : entry-size * place + 2 ≡ entry-size * suc place = omega arith in
       let d : sum′ .distortion ≡ sum .distortion + x .interval .distortion = ap (λ (t : model-replay.Totals). t .distortion) e in
       let r : sum′ .source ≡ sum .source + x .interval .size = ap (λ (t : model-replay.Totals). t .source) e in
       let c : sum′ .channel ≡ sum .channel + x .interval .sent = ap (λ (t : model-replay.Totals). t .channel) e in
@@ -71,8 +71,8 @@ module _ (j : Job) (m : PinMap) (entries₀ : List ℕ) where
         stands = b .ends;
         sums = g .sums ∙ ap (λ (p : List Entry). plus (totals-of sum) (totals j place p)) (b .rest) ∙ totals-same (omega (arith, b .distortion)) (omega (arith, b .size)) (omega (arith, b .sent));
         list =
-            ap (λ (l : List ℕ). set (set l (2 * place) (x .rate)) (2 * place + 1) (x .choice)) (g .list)
-            ∙ two-set (entry-bytes (g .done)) entries₀ (2 * place) (x .rate) (x .choice) (omega (arith, bytes-size (g .done), g .count)) room
+            ap (λ (l : List ℕ). set (set l (entry-size * place) (x .rate)) (entry-size * place + 1) (x .choice)) (g .list)
+            ∙ two-set (entry-bytes (g .done)) entries₀ (entry-size * place) (x .rate) (x .choice) (omega (arith, bytes-size (g .done), g .count)) room
             ∙ ap₂ (λ (w : List ℕ) (i : ℕ). w ++ drop i entries₀) (sym bytes) n;
         size = simp length-set (g .size);
         small = (omega (arith, g .small, b .limits), omega (arith, g .small, b .limits), omega (arith, g .small, b .limits));

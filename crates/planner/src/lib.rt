@@ -20,6 +20,7 @@ ghost use Rattle.job.specs.Answers.{plain};
 ghost use Rattle.pinning.specs.State.{lines};
 ghost use Rattle.pins.specs.Answers.{state};
 ghost use Rattle.replay.specs.Answers.{levels-of, totals-of, added, Room};
+ghost use Rattle.replaying.specs.Entries.{entry-size};
 ghost use Rattle.replaying.specs.Calls.{over};
 ghost use Rattle.planning.specs.Rule.{coding-offer, pair-offer, least-offer, layer-from};
 ghost use Rattle.planning.specs.Words.{layer, layers, table-of};
@@ -66,11 +67,6 @@ struct Move {
     interval: Interval,
     to: Levels,
 }
-
-// The bytes of an entry, and the choice byte where no unit is decoded.
-const ENTRY: usize = 2;
-
-const NO_UNIT: u8 = 255;
 
 // The word for "cannot be completed", and the largest that is read as a distortion.
 const NONE: u32 = 4294967295;
@@ -130,8 +126,8 @@ fn interval_of(sent: u16, size: u16, distortion: u32) -> Interval
         sent,
         size,
         distortion,
-        pin: NO_UNIT,
-        choice: NO_UNIT,
+        pin: replay::NO_UNIT,
+        choice: replay::NO_UNIT,
     }
 }
 
@@ -352,7 +348,7 @@ fn choice_byte(header: Header, place: usize, choice: usize) -> u8
     ensures { λ r. ⌜ choice-of r ≡ chosen (plain header) place choice ⌝ }
 {
     if place < header.delay as usize {
-        return NO_UNIT;
+        return replay::NO_UNIT;
     }
     choice as u8
 }
@@ -388,10 +384,10 @@ fn best_move(
 
 // Writes the entry in this place.
 fn put_entry(entries: &mut [u8], place: usize, rate: u8, choice: u8)
-    requires { ⌜ (place < 600) × (2 * place + 1 < length (now entries)) ⌝ }
-    ensures { λ _. ⌜ now (entries .exit) ≡ set (set (now (entries .entry)) (2 * place) rate) (2 * place + 1) choice ⌝ }
+    requires { ⌜ (place < 600) × (entry-size * place + 1 < length (now entries)) ⌝ }
+    ensures { λ _. ⌜ now (entries .exit) ≡ set (set (now (entries .entry)) (entry-size * place) rate) (entry-size * place + 1) choice ⌝ }
 {
-    let at = ENTRY * place;
+    let at = replay::ENTRY * place;
     let next = at + 1;
     entries[at] = rate;
     entries[next] = choice;
@@ -418,7 +414,7 @@ fn read_off(
     table: &[u32],
     entries: &mut [u8],
 ) -> Totals
-    requires { ⌜ Starts (now job) (plain header) line (now pins) × Tabled (job-in (now job)) (lines (header .units) (now pins)) (now table) × Standing (job-in (now job)) (lines (header .units) (now pins)) 0 (job-in (now job) .start) × (2 * (header .units + header .delay) ≤ length (now entries)) ⌝ }
+    requires { ⌜ Starts (now job) (plain header) line (now pins) × Tabled (job-in (now job)) (lines (header .units) (now pins)) (now table) × Standing (job-in (now job)) (lines (header .units) (now pins)) 0 (job-in (now job) .start) × (entry-size * (header .units + header .delay) ≤ length (now entries)) ⌝ }
     ensures { λ r. ⌜ PlanRead (job-in (now (job .entry))) (lines (header .units) (now (pins .entry))) (now (entries .entry)) r (now (entries .exit)) ⌝ }
 {
     let total = replay::intervals(header);
@@ -448,7 +444,7 @@ fn search(
     table: &mut [u32],
     entries: &mut [u8],
 ) -> Planned
-    requires { ⌜ Opens (now job) (plain header) × (length (now pins) ≡ 512) × (words (job-in (now job)) ≤ length (now table)) × (2 * (header .units + header .delay) ≤ length (now entries)) ⌝ }
+    requires { ⌜ Opens (now job) (plain header) × (length (now pins) ≡ 512) × (words (job-in (now job)) ≤ length (now table)) × (entry-size * (header .units + header .delay) ≤ length (now entries)) ⌝ }
     ensures { λ r. ⌜ planned r (now (table .exit)) (now (entries .exit)) ≡ search-in (job-in (now (job .entry))) (lines (header .units) (now (pins .entry))) (now (table .entry)) (now (entries .entry)) ⌝ }
 {
     let line = line_in(job, header);
@@ -483,7 +479,7 @@ pub fn plan(job: &[u8], set: PinSet, table: &mut [u32], entries: &mut [u8]) -> P
             if table.len() < table_words(header) {
                 return Planned::Refused(refusal::TABLE);
             }
-            if entries.len() < ENTRY * replay::intervals(header) {
+            if entries.len() < replay::ENTRY * replay::intervals(header) {
                 return Planned::Refused(refusal::LIST);
             }
             let pins = set.pins;

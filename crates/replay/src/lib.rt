@@ -77,9 +77,12 @@ pub struct Interval {
 }
 
 // The bytes of an entry, and the choice byte where no unit is decoded.
-const ENTRY: usize = 2;
+pub const ENTRY: usize = 2;
 
-const NO_UNIT: u8 = 255;
+pub const NO_UNIT: u8 = 255;
+
+// How many levels an interval has: the decoder's and the bucket's.
+pub const LEVELS_EACH: usize = 2;
 
 // (16), and its limits: short before over, tested after the unit has left.
 pub fn decoder_step(size: u16, level: u16, sent: u16, taken: u16) -> Decoded
@@ -248,7 +251,7 @@ fn put_levels(levels: &mut [u16], place: usize, l: Levels)
     requires { ⌜ (place < 600) × (2 * place + 1 < length (now levels)) ⌝ }
     ensures { λ _. ⌜ now (levels .exit) ≡ set (set (now (levels .entry)) (2 * place) (l .decoder)) (2 * place + 1) (l .bucket) ⌝ }
 {
-    let at = 2 * place;
+    let at = LEVELS_EACH * place;
     let next = at + 1;
     levels[at] = l.decoder;
     levels[next] = l.bucket;
@@ -305,7 +308,7 @@ pub fn replay(job: &[u8], set: PinSet, entries: &[u8], levels: &mut [u16]) -> Re
             if !shaped(header, entries) {
                 return Replayed::Refused(refusal::PLAN);
             }
-            if levels.len() < 2 * intervals(header) {
+            if levels.len() < LEVELS_EACH * intervals(header) {
                 return Replayed::Refused(refusal::LIST);
             }
             let pins = set.pins;

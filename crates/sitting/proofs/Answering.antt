@@ -17,6 +17,7 @@ use Rattle.format.proofs.Opened.{held-job, opens-by, intervals-are}
 use Rattle.pinning.specs.State.{State}
 use Rattle.pins.specs.declared.PinSet.{PinSet}
 use Rattle.pins.specs.Answers.{state}
+use Rattle.replaying.specs.Entries.{entry-size}
 use Rattle.replaying.specs.Calls as replaying
 use Rattle.replaying.specs.Calls.{Replayed, Ended, replay-call}
 use Rattle.planner.specs.Answers.{table-words}
@@ -64,13 +65,13 @@ module _ (b calls answers table entries : List ℕ) where
         sit-12-answers l = sym (sit-on ∙ rw (← f, le-ltb (length table) (words j) (omega (arith, words-of)), lt-ltb (length answers) (length calls / 3) l))
 
         module _ (few : length calls / 3 ≤ length answers) where
-          pub sit-12-entries : length entries < 2 * (h .units + h .delay) → refusing 12 ≡ sitting-call b calls answers table entries
+          pub sit-12-entries : length entries < entry-size * (h .units + h .delay) → refusing 12 ≡ sitting-call b calls answers table entries
           unfolding sit-in refuse plan.refuse if_then_else_
-          sit-12-entries l = sym (sit-on ∙ rw (← f, le-ltb (length table) (words j) (omega (arith, words-of)), le-ltb (length answers) (length calls / 3) few, lt-ltb (length entries) (2 * intervals j) (omega (arith, intervals-of))))
+          sit-12-entries l = sym (sit-on ∙ rw (← f, le-ltb (length table) (words j) (omega (arith, words-of)), le-ltb (length answers) (length calls / 3) few, lt-ltb (length entries) (entry-size * intervals j) (omega (arith, intervals-of))))
 
-          pub sit-made : 2 * (h .units + h .delay) ≤ length entries → (s : PinSet) (new : List ℕ) → Made b calls answers s new → (p : Planned) → p ≡ plan-call b (state s) table entries → record { answers = new; planned = p } ≡ sitting-call b calls answers table entries
+          pub sit-made : entry-size * (h .units + h .delay) ≤ length entries → (s : PinSet) (new : List ℕ) → Made b calls answers s new → (p : Planned) → p ≡ plan-call b (state s) table entries → record { answers = new; planned = p } ≡ sitting-call b calls answers table entries
           unfolding sit-in sat if_then_else_
-          sit-made l s new m p i = rw (i, m .written, m .set-is) (sym (sit-on ∙ rw (← f, le-ltb (length table) (words j) (omega (arith, words-of)), le-ltb (length answers) (length calls / 3) few, le-ltb (length entries) (2 * intervals j) (omega (arith, intervals-of)))))
+          sit-made l s new m p i = rw (i, m .written, m .set-is) (sym (sit-on ∙ rw (← f, le-ltb (length table) (words j) (omega (arith, words-of)), le-ltb (length answers) (length calls / 3) few, le-ltb (length entries) (entry-size * intervals j) (omega (arith, intervals-of)))))
 
 -- a replay after calls
 module _ (b calls entries levels : List ℕ) where

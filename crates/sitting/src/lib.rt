@@ -148,7 +148,7 @@ pub fn sit(
             if answers.len() < calls.len() / NUMBERS {
                 return Planned::Refused(planner::refusal::LIST);
             }
-            if entries.len() < 2 * replay::intervals(header) {
+            if entries.len() < replay::ENTRY * replay::intervals(header) {
                 return Planned::Refused(planner::refusal::LIST);
             }
             let set = make_calls(job, calls, answers);

@@ -1,4 +1,5 @@
 use Prim.Native.Nat.{_≤_, _-_, _*_}
+use Rattle.replaying.specs.Entries.{entry-size}
 use native.Mathlib.Omega.{arith}
 use borrow.Author.Needs.{needs}
 use Rattle.plan.proofs.print_intervals.Statement.{statement}
@@ -43,6 +44,12 @@ mul-at c = search needs
 add-next : tie.Need-add-next Inv-loop μ-loop
 add-next c = search needs
 
+mul-decoder : tie.Need-mul-decoder Inv-loop μ-loop
+mul-decoder c = search needs
+
+add-bucket : tie.Need-add-bucket Inv-loop μ-loop
+add-bucket c = search needs
+
 add-number : tie.Need-add-number Inv-loop μ-loop
 add-number c = search needs
 
@@ -50,7 +57,7 @@ shared-slice-read-rate-at : tie.Need-shared-slice-read-rate-at Inv-loop μ-loop
 shared-slice-read-rate-at c = search needs
 
 cast-rate-at : tie.Need-cast-rate-at Inv-loop μ-loop
-cast-rate-at c = record { fits = omega (arith, c .shared-slice-known3 .given (2 * c .before .before .loop .place)) }
+cast-rate-at c = record { fits = omega (arith, c .shared-slice-known3 .given (entry-size * c .before .before .loop .place)) }
 
 rate-at-requires : tie.Need-rate-at-requires Inv-loop μ-loop
 rate-at-requires c κs = search needs
@@ -102,6 +109,8 @@ print-intervals-spec =
     loop-holds
     mul-at
     add-next
+    mul-decoder
+    add-bucket
     add-number
     shared-slice-read-rate-at
     cast-rate-at
