@@ -480,7 +480,7 @@ pub fn plan(job: &[u8], set: PinSet, table: &mut [u32], entries: &mut [u8]) -> P
                 return Planned::Refused(refusal::TABLE);
             }
             if entries.len() < replay::ENTRY * replay::intervals(header) {
-                return Planned::Refused(refusal::LIST);
+                return Planned::Refused(replay::refusal::LIST);
             }
             let pins = set.pins;
             search(job, header, &pins, table, entries)

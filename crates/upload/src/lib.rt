@@ -27,7 +27,7 @@ const REPLAY_VALUES: usize = 5;
 const DONE: u32 = 0;
 
 // The list to be filled is too short.
-const SHORT_LIST: u32 = 12;
+const SHORT_LIST: u32 = replay::refusal::LIST as u32;
 
 // Of a job that opens: how many bytes it took, N, T, and how many words its table has.
 fn put_opened(values: &mut [u64], taken: usize, header: Header)
