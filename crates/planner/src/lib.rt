@@ -19,7 +19,7 @@ ghost use Rattle.format.specs.JobBytes.{job-in, Opens};
 ghost use Rattle.job.specs.Answers.{plain};
 ghost use Rattle.pinning.specs.State.{lines};
 ghost use Rattle.pins.specs.Answers.{state};
-ghost use Rattle.replay.specs.Answers.{levels-of, totals-of, added, Room};
+ghost use Rattle.replay.specs.Answers.{levels-of};
 ghost use Rattle.replaying.specs.Entries.{entry-size};
 ghost use Rattle.replaying.specs.Calls.{over};
 ghost use Rattle.planning.specs.Rule.{coding-offer, pair-offer, least-offer, layer-from};
@@ -393,18 +393,6 @@ fn put_entry(entries: &mut [u8], place: usize, rate: u8, choice: u8)
     entries[next] = choice;
 }
 
-// The totals with one interval more.
-fn with_interval(sum: Totals, x: Interval) -> Totals
-    requires { ⌜ Room sum x ⌝ }
-    ensures { λ r. ⌜ totals-of r ≡ added sum x ⌝ }
-{
-    Totals {
-        distortion: sum.distortion + x.distortion,
-        source: sum.source + x.size as u32,
-        channel: sum.channel + x.sent as u32,
-    }
-}
-
 // Reads the best plan off the table, from the start, and answers its totals.
 fn read_off(
     job: &[u8],
@@ -430,7 +418,7 @@ fn read_off(
     for place in 0..total {
         let taken = best_move(job, header, line, pins, table, place, at);
         put_entry(entries, place, taken.rate, taken.choice);
-        sum = with_interval(sum, taken.interval);
+        sum = replay::with_interval(sum, taken.interval);
         at = taken.to;
     }
     sum

@@ -75,6 +75,16 @@ reported x list = record { answer = report-answer x; list = list }
 unfoldable pub line-of : format.Header → model.Line
 line-of h = record { decoder = h .decoder; buckets = record { size = h .bucket; drain = h .drain } ∷ []; rates = [] }
 
+-- the totals with one interval more
+unfoldable pub added : Totals → Interval → model-replay.Totals
+added t x = record { distortion = t .distortion + x .distortion; source = t .source + x .size; channel = t .channel + x .sent }
+
+-- and that they fit
+pub record Room (t : Totals) (x : Interval) : Type 0 where
+  pub distortion : t .distortion + x .distortion < 4294967296
+  pub source : t .source + x .size < 4294967296
+  pub channel : t .channel + x .sent < 4294967296
+
 -- What the private functions say and ask.
 
 -- the bytes are those of a job with this header, and the entries a plan of it in shape
@@ -100,16 +110,6 @@ pub record IsInterval (j : model.Job) (m : PinMap) (entries : List ℕ) (place :
   pub pin : choice-of (x .pin) ≡ pinAt j m (suc place)
   pub choice : choice-of (x .choice) ≡ entry-at entries place .choice
   pub limits : (x .sent ≤ 4095) × (x .size ≤ 4095) × (x .distortion ≤ 1000000)
-
--- the totals with one interval more
-unfoldable pub added : Totals → Interval → model-replay.Totals
-added t x = record { distortion = t .distortion + x .distortion; source = t .source + x .size; channel = t .channel + x .sent }
-
--- and that they fit
-pub record Room (t : Totals) (x : Interval) : Type 0 where
-  pub distortion : t .distortion + x .distortion < 4294967296
-  pub source : t .source + x .size < 4294967296
-  pub channel : t .channel + x .sent < 4294967296
 
 -- a plan in shape, the pins of a set, and a list that is long enough for its levels
 pub record Plays (b : List ℕ) (h : format.Header) (pins entries levels : List ℕ) : Type 0 where

@@ -235,7 +235,7 @@ fn interval_at(
 }
 
 // The totals with one interval more.
-fn with_interval(sum: Totals, x: Interval) -> Totals
+pub fn with_interval(sum: Totals, x: Interval) -> Totals
     requires { ⌜ Room sum x ⌝ }
     ensures { λ r. ⌜ totals-of r ≡ added sum x ⌝ }
 {
