@@ -15,7 +15,7 @@ use Rattle.pins.specs.declared.PinSet.{PinSet}
 use Rattle.pins.specs.Answers.{state}
 use Rattle.replaying.specs.Calls.{over}
 use Rattle.planning.specs.Commands.{call-at, calls-from, calls-of}
-use Rattle.planning.specs.Sittings.{answer-number, set-after}
+use Rattle.planning.specs.Sittings.{answer-number}
 use Rattle.sitting.specs.Answers.{Made}
 
 -- a sitting behind answers that are written
@@ -38,58 +38,56 @@ module _ (calls : List ℕ) where
   unfolding calls-from
   left-more i h = let e : length calls / 3 - i ≡ suc (length calls / 3 - suc i) = omega arith in rw e
 
--- the set alone: i calls are made
+-- i calls are made, with the set s after them and the answers done
 module _ (b calls : List ℕ) where
-  abbrev pub Held : ℕ → State → Type 0
-  Held i s = set-after b calls ≡ run b s (left calls i) .state
-
-  pub held-start : (s : State) → s ≡ open-call b .state → Held 0 s
-  unfolding set-after calls-of
-  held-start s e = let n : length calls / 3 - 0 ≡ length calls / 3 = omega arith in rw (e, n)
-
-  pub held-on : (i : ℕ) (s : State) → Held i s → i < length calls / 3 → (r : Handed) → r ≡ call b s (call-at calls i) → Held (i + 1) (r .state)
-  unfolding run after
-  held-on i s g h r e = rw (add-one i) (g ∙ rw (left-more calls i h, ← e))
-
-  pub held-end : (i : ℕ) (s : State) → Held i s → i ≡ length calls / 3 → s ≡ set-after b calls
-  unfolding run calls-from
-  held-end i s g q = let n : length calls / 3 - i ≡ 0 = omega arith in sym (rw n at g)
-
--- the set and the answers
-module _ (b calls answers₀ : List ℕ) where
-  -- i calls are made
-  pub record Going (i : ℕ) (s : State) (answers : List ℕ) : Type 0 where
-    pub done : List (Option ℕ)
+  pub record Ran (i : ℕ) (s : State) (done : List (Option ℕ)) : Type 0 where
     pub count : length done ≡ i
     pub rest : run b (open-call b .state) (calls-of calls) ≡ behind done (run b s (left calls i))
-    pub list : answers ≡ map answer-number done ++ drop i answers₀
-    pub size : length answers ≡ length answers₀
 
-  pub going-start : (s : State) → s ≡ open-call b .state → Going 0 s answers₀
+  pub ran-start : (s : State) → s ≡ open-call b .state → Ran 0 s []
   unfolding behind calls-of
-  going-start s e =
+  ran-start s e =
       let n : length calls / 3 - 0 ≡ length calls / 3 = omega arith in
-      record { done = []; count = refl; rest = rw (e, n); list = refl; size = refl }
+      record { count = refl; rest = rw (e, n) }
 
   -- one call more, taken or refused
-  pub going-on : (i : ℕ) (s : State) (answers : List ℕ) → Going i s answers → i < length calls / 3 → i < length answers₀ → (r : Handed) → r ≡ call b s (call-at calls i) → (x : ℕ) → x ≡ answer-number (r .refused) → Going (i + 1) (r .state) (set answers i x)
+  pub ran-on : (i : ℕ) (s : State) (done : List (Option ℕ)) → Ran i s done → i < length calls / 3 → (r : Handed) → r ≡ call b s (call-at calls i) → Ran (i + 1) (r .state) (done ++ (r .refused ∷ []))
   unfolding run after behind
-  going-on i s answers g h room r e x q =
+  ran-on i s done g h r e =
       rw (add-one i) (record {
-        done = g .done ++ (r .refused ∷ []);
-        count = length-append (g .done) (r .refused ∷ []) ∙ omega (arith, g .count);
-        rest = g .rest ∙ rw (left-more calls i h, ← e) (ap (λ (os : List (Option ℕ)). record { answers = os; state = run b (r .state) (left calls (suc i)) .state }) (sym (append-assoc (g .done) (r .refused ∷ []) (run b (r .state) (left calls (suc i)) .answers))));
-        list = rw (g .list, map-append answer-number (g .done) (r .refused ∷ []), q) (one-set (map answer-number (g .done)) answers₀ i (answer-number (r .refused)) (length-map (g .done) answer-number ∙ g .count) room);
-        size = simp length-set (g .size);
+        count = length-append done (r .refused ∷ []) ∙ omega (arith, g .count);
+        rest = g .rest ∙ rw (left-more calls i h, ← e) (ap (λ (os : List (Option ℕ)). record { answers = os; state = run b (r .state) (left calls (suc i)) .state }) (sym (append-assoc done (r .refused ∷ []) (run b (r .state) (left calls (suc i)) .answers))));
       })
 
   -- all calls are made
+  pub ran-end : (i : ℕ) (s : State) (done : List (Option ℕ)) → Ran i s done → i ≡ length calls / 3 → run b (open-call b .state) (calls-of calls) ≡ record { answers = done; state = s }
+  unfolding run behind calls-from
+  ran-end i s done g q = let n : length calls / 3 - i ≡ 0 = omega arith in rw append-nil at (rw n at (g .rest))
+
+-- and their numbers are written
+module _ (b calls answers₀ : List ℕ) where
+  pub record Going (i : ℕ) (s : State) (answers : List ℕ) : Type 0 where
+    pub done : List (Option ℕ)
+    pub ran : Ran b calls i s done
+    pub list : answers ≡ map answer-number done ++ drop i answers₀
+    pub size : length answers ≡ length answers₀
+
+  pub going-start : (s : State) → Ran b calls 0 s [] → Going 0 s answers₀
+  going-start s r = record { done = []; ran = r; list = refl; size = refl }
+
+  pub going-on : (i : ℕ) (s : State) (answers : List ℕ) (g : Going i s answers) → i < length answers₀ → (r : Handed) → Ran b calls (i + 1) (r .state) (g .done ++ (r .refused ∷ [])) → (x : ℕ) → x ≡ answer-number (r .refused) → Going (i + 1) (r .state) (set answers i x)
+  going-on i s answers g room r n x q = record {
+    done = g .done ++ (r .refused ∷ []);
+    ran = n;
+    list = rw (add-one i, g .list, map-append answer-number (g .done) (r .refused ∷ []), q) (one-set (map answer-number (g .done)) answers₀ i (answer-number (r .refused)) (length-map (g .done) answer-number ∙ g .ran .count) room);
+    size = simp length-set (g .size);
+  }
+
   pub going-end : (i : ℕ) (s : PinSet) (answers : List ℕ) → Going i (state s) answers → i ≡ length calls / 3 → Made b calls answers₀ s answers
-  unfolding run behind calls-from over
+  unfolding over
   going-end i s answers g q =
-      let n : length calls / 3 - i ≡ 0 = omega arith in
-      let e = rw n at (g .rest) in
+      let e = ran-end b calls i (state s) (g .done) (g .ran) q in
       record {
         set-is = sym (ap (λ (r : Sitting). r .state) e);
-        written = rw (e, append-nil, length-map (g .done) answer-number, g .count) (g .list);
+        written = rw (e, length-map (g .done) answer-number, g .ran .count) (g .list);
       }

@@ -55,7 +55,7 @@ const HEAD: usize = 4;
 const NUMBERS: usize = 3;
 
 // How many bytes the program takes.
-pub const MOST_INPUT: usize = 32768;
+const MOST_INPUT: usize = 32768;
 
 fn kind_fits(kind: u16) -> bool
     ensures { λ r. ⌜ r ≡ kind-fits kind ⌝ }
@@ -165,8 +165,8 @@ fn set_after(job: &[u8], calls: &[u16]) -> PinSet
     let opened = pins::open(job);
     let mut set = opened.set;
     for place in 0..count {
-        let made = make_call(job, set, calls, place);
-        set = made.set;
+        let handed = make_call(job, set, calls, place);
+        set = handed.set;
     }
     set
 }

@@ -1,4 +1,4 @@
-use Rattle.sitting.proofs.Sessions.{Going, going-start, going-on, going-end}
+use Rattle.sitting.proofs.Sessions.{ran-start, ran-on, Going, going-start, going-on, going-end}
 use Rattle.pins.specs.Answers.{state, opening, handed}
 use Rattle.pinning.specs.Calls.{Opening}
 use mathlib.Core.Path.{ap}
@@ -19,7 +19,7 @@ open-requires c κs = search needs
 
 loop-holds : tie.Need-loop-holds Inv-loop μ-loop
 unfolding opening
-loop-holds c = (search needs, going-start _ _ _ _ (ap (λ (o : Opening). o .state) (c .before .«open» .ensures)))
+loop-holds c = (search needs, going-start _ _ _ _ (ran-start _ _ _ (ap (λ (o : Opening). o .state) (c .before .«open» .ensures))))
 
 make-call-requires : tie.Need-make-call-requires Inv-loop μ-loop
 make-call-requires c κs = search needs
@@ -46,7 +46,9 @@ loop-again c =
     let m = n .before in
     let l = m .before .before in
     let a = l .before .before .before .before .before .before in
-    (omega arith, going-on _ _ _ (l .loop .place) _ _ (l .loop .inv .1) (omega arith) (omega (arith, a .pre)) (handed (m .make-call .result)) (m .make-call .ensures) _ (n .answer-number .ensures))
+    let g = l .loop .inv .1 in
+    let r = ran-on _ _ (l .loop .place) _ _ (g .ran) (omega arith) (handed (m .make-call .result)) (m .make-call .ensures) in
+    (omega arith, going-on _ _ _ (l .loop .place) _ _ g (omega (arith, a .pre)) (handed (m .make-call .result)) r _ (n .answer-number .ensures))
 
 same-length : tie.Need-same-length Inv-loop μ-loop
 same-length c = search needs

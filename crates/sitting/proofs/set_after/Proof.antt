@@ -1,15 +1,18 @@
-use Rattle.sitting.proofs.Sessions.{Held, held-start, held-on, held-end}
+use Rattle.sitting.proofs.Sessions.{Ran, ran-start, ran-on, ran-end}
 use Rattle.pins.specs.Answers.{state, opening, handed}
-use Rattle.pinning.specs.Calls.{Opening}
-use mathlib.Core.Path.{ap}
-use Prim.Native.Nat.{_≤_, _-_}
+use Rattle.planning.specs.Sittings.{set-after}
+use Rattle.pinning.specs.Calls.{Opening, Sitting}
+use mathlib.Core.Path.{ap, sym}
+use mathlib.Core.Option.{Option}
+use mathlib.Core.List.{List, []}
+use Prim.Native.Nat.{ℕ, _≤_, _-_}
 use native.Mathlib.Omega.{arith}
 use borrow.Author.Needs.{needs}
 use Rattle.sitting.proofs.set_after.Statement.{statement}
 use Rattle.sitting.proofs.set_after.Tie as tie
 
 abbrev Inv-loop : tie.InvT-loop
-Inv-loop job calls count set₀ place₀ set place = (place ≤ count) × Held job calls place (state set)
+Inv-loop job calls count set₀ place₀ set place = (place ≤ count) × (done : List (Option ℕ)) × Ran job calls place (state set) done
 
 abbrev μ-loop : tie.MeasureT-loop
 μ-loop job calls count set₀ place₀ set place = count - place
@@ -19,7 +22,7 @@ open-requires c κs = search needs
 
 loop-holds : tie.Need-loop-holds Inv-loop μ-loop
 unfolding opening
-loop-holds c = (search needs, held-start _ _ _ (ap (λ (o : Opening). o .state) (c .before .«open» .ensures)))
+loop-holds c = (search needs, [], ran-start _ _ _ (ap (λ (o : Opening). o .state) (c .before .«open» .ensures)))
 
 make-call-requires : tie.Need-make-call-requires Inv-loop μ-loop
 make-call-requires c κs = search needs
@@ -35,10 +38,13 @@ unfolding handed
 loop-again c =
     let m = c .before in
     let l = m .before .before in
-    (omega arith, held-on _ _ (l .loop .place) _ (l .loop .inv .1) (omega arith) (handed (m .make-call .result)) (m .make-call .ensures))
+    (omega arith, _, ran-on _ _ (l .loop .place) _ _ (l .loop .inv .2) (omega arith) (handed (m .make-call .result)) (m .make-call .ensures))
 
 returns : tie.Need-returns Inv-loop μ-loop
-returns c = let l = c .before in held-end _ _ (l .loop .place) _ (l .loop .inv .1) (omega arith)
+unfolding set-after
+returns c =
+    let l = c .before in
+    sym (ap (λ (r : Sitting). r .state) (ran-end _ _ (l .loop .place) _ _ (l .loop .inv .2) (omega arith)))
 
 pub set-after-spec : {M : Type 1} → statement M
 set-after-spec =
