@@ -24,6 +24,15 @@ total-is c = c .intervals .ensures ∙ sym (intervals-are _ _ (c .before .before
 room : (c : tie.After-intervals) → c .intervals .result * c .before .layer-words .result + c .before .layer-words .result ≤ length (c .before .before .before .before .args .table .now)
 room c = rw (total-is c, size-is c) (room-for-last _ (c .before .before .before .before .args .table .now) (c .before .before .before .before .pre .1))
 
+-- where the last layer starts
+start-small : (c : tie.After-intervals) → c .intervals .result * c .before .layer-words .result ≤ 8589934592
+unfolding plain
+start-small c =
+    let a = c .before .before .before .before in
+    let few = few-intervals _ _ (a .pre .0 .opens) in
+    let small = layer-small _ (a .pre .0 .line .fits) in
+    product-small (c .intervals .result) (c .before .layer-words .result) (omega (arith, few, c .intervals .ensures)) (omega (arith, small, c .before .layer-words .ensures))
+
 layer-words-requires : tie.Need-layer-words-requires
 layer-words-requires c κs = search needs
 
@@ -31,20 +40,10 @@ intervals-requires : tie.Need-intervals-requires
 intervals-requires c κs = search needs
 
 mul-start : tie.Need-mul-start
-unfolding plain
-mul-start c =
-    let a = c .before .before .before .before in
-    let few = few-intervals _ _ (a .pre .0 .opens) in
-    let small = layer-small _ (a .pre .0 .line .fits) in
-    omega (arith, product-small (c .intervals .result) (c .before .layer-words .result) (omega (arith, few, c .intervals .ensures)) (omega (arith, small, c .before .layer-words .ensures)))
+mul-start c = omega (arith, start-small c)
 
 mul-fill-last : tie.Need-mul-fill-last
-unfolding plain
-mul-fill-last c =
-    let a = c .before .before .before .before in
-    let few = few-intervals _ _ (a .pre .0 .opens) in
-    let small = layer-small _ (a .pre .0 .line .fits) in
-    omega (arith, product-small (c .intervals .result) (c .before .layer-words .result) (omega (arith, few, c .intervals .ensures)) (omega (arith, small, c .before .layer-words .ensures)))
+mul-fill-last c = omega (arith, start-small c)
 
 sub-fill-last : tie.Need-sub-fill-last
 sub-fill-last c = omega (arith, room c)
