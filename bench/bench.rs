@@ -14,7 +14,7 @@ use upload_planner::{numbers, Call};
 #[allow(dead_code)]
 #[path = "../tests/reference.rs"]
 mod reference;
-use reference::{u16_at, u32_at, Draft, Rng};
+use reference::{u16_at, u32_at, Draft, Rng, Size, FULL};
 
 const NEVER: u32 = u32::MAX;
 
@@ -267,19 +267,6 @@ fn plain_report(job: &[u8], entries: &[u8], sums: &mut [u32]) -> Option<()> {
 // ---------------------------------------------------------------------------
 // Jobs.
 // ---------------------------------------------------------------------------
-
-#[derive(Clone, Copy)]
-struct Size {
-    units: usize,
-    delay: usize,
-    decoder: usize,
-    bucket: usize,
-    rates: usize,
-    choices: usize,
-}
-
-const FULL: Size =
-    Size { units: 512, delay: 64, decoder: 255, bucket: 255, rates: 16, choices: 31 };
 
 impl Size {
     /// States times rates times choices, over all intervals that decode.

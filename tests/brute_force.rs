@@ -201,19 +201,8 @@ fn job_a_group() -> Group {
 /// Each header field at its limits and one beyond them. Where a field sets the
 /// count of what follows, what follows agrees with it.
 fn header_group() -> Group {
-    let limits: [(usize, u16, u16); 9] = [
-        (UNITS, 1, 512),
-        (DELAY, 0, 64),
-        (DECODER, 0, 255),
-        (BUCKET, 0, 255),
-        (DRAIN, 0, 4095),
-        (START_DECODER, 0, 4),
-        (START_BUCKET, 0, 3),
-        (RATES, 1, 16),
-        (CHOICES, 1, 31),
-    ];
     let mut cases = Vec::new();
-    for (field, low, high) in limits {
+    for (field, low, high) in LIMITS {
         for value in [low, low + 1, high - 1, high] {
             let by_hand = if takes_plan(field) { APlan } else { Nothing };
             cases.push(case(format!("field {field} is {value}"), sized(field, value), by_hand));

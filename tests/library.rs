@@ -912,20 +912,11 @@ fn harmed_job(rng: &mut Rng) -> Vec<u8> {
     let shape = if rng.one_in(5) { &WIDE } else { &TINY };
     let mut draft = random_job(rng, shape);
     draft.commands.clear();
-    let mut records = draft.records();
-    if rng.one_in(20) {
-        let (from, to) = (rng.from(0, records.len() - 1), rng.from(0, records.len() - 1));
-        let moved = records.remove(from);
-        records.insert(to, moved);
-    }
-    let mut bytes = records.concat();
-    for _ in 0..rng.pick(&[1, 1, 1, 2, 3]) {
-        match rng.from(0, 9) {
-            0 => harm_head(rng, &mut bytes),
-            1 => harm_value(rng, &mut bytes),
-            _ => harm(rng, &mut bytes),
-        }
-    }
+    let mut bytes = harmed(rng, &draft, 20, |rng, bytes| match rng.from(0, 9) {
+        0 => harm_head(rng, bytes),
+        1 => harm_value(rng, bytes),
+        _ => harm(rng, bytes),
+    });
     bytes.shrink_to_fit();
     bytes
 }
@@ -1041,24 +1032,13 @@ fn cuts_group() -> Result<String, String> {
 /// Each header field at its limits and one beyond them, as the paper has them.
 fn limits_group() -> Result<String, String> {
     let mut rng = Rng(1);
-    let limits: [(usize, u16, u16); 9] = [
-        (UNITS, 1, 512),
-        (DELAY, 0, 64),
-        (DECODER, 0, 255),
-        (BUCKET, 0, 255),
-        (DRAIN, 0, 4095),
-        (START_DECODER, 0, 4),
-        (START_BUCKET, 0, 3),
-        (RATES, 1, 16),
-        (CHOICES, 1, 31),
-    ];
     let mut inputs = 0;
     let mut check = |input: &[u8], due: Refusal, what: String| -> Checked {
         inputs += 1;
         let found = check_bytes(&mut rng, input).map_err(|trouble| format!("{what}: {trouble}"))?;
         same(&what, due, found)
     };
-    for (field, low, high) in limits {
+    for (field, low, high) in LIMITS {
         for value in [low, low + 1, high - 1, high] {
             check(&sized(field, value), 0, format!("field {field} is {value}"))?;
         }
@@ -1411,18 +1391,6 @@ fn large_job(rng: &mut Rng, size: &Size) -> Draft {
     }
     draft
 }
-
-struct Size {
-    units: usize,
-    delay: usize,
-    decoder: usize,
-    bucket: usize,
-    rates: usize,
-    choices: usize,
-}
-
-const FULL: Size =
-    Size { units: 512, delay: 64, decoder: 255, bucket: 255, rates: 16, choices: 31 };
 
 /// Parts of the largest work, cut down in one way or another.
 fn large_group() -> Result<String, String> {

@@ -402,6 +402,35 @@ pub const START_BUCKET: usize = 6;
 pub const RATES: usize = 7;
 pub const CHOICES: usize = 8;
 
+/// Each header field with its least and its greatest value; the starting
+/// levels' greatest are the sizes of Job A.
+pub const LIMITS: [(usize, u16, u16); 9] = [
+    (UNITS, 1, 512),
+    (DELAY, 0, 64),
+    (DECODER, 0, 255),
+    (BUCKET, 0, 255),
+    (DRAIN, 0, 4095),
+    (START_DECODER, 0, 4),
+    (START_BUCKET, 0, 3),
+    (RATES, 1, 16),
+    (CHOICES, 1, 31),
+];
+
+/// How large a job is.
+#[derive(Clone, Copy)]
+pub struct Size {
+    pub units: usize,
+    pub delay: usize,
+    pub decoder: usize,
+    pub bucket: usize,
+    pub rates: usize,
+    pub choices: usize,
+}
+
+/// The largest job that opens.
+pub const FULL: Size =
+    Size { units: 512, delay: 64, decoder: 255, bucket: 255, rates: 16, choices: 31 };
+
 #[derive(Clone, Copy)]
 pub enum Command {
     Pin(u16, u16),
@@ -722,18 +751,28 @@ pub fn random_long_job(rng: &mut Rng) -> Draft {
     draft
 }
 
-/// A job with commands, its bytes then harmed in one to three places.
+/// A job with commands, its bytes then harmed.
 pub fn scrambled(rng: &mut Rng) -> Vec<u8> {
     let draft = random_job(rng, &TINY);
+    harmed(rng, &draft, 10, harm)
+}
+
+/// The bytes of a draft, harmed in one to three places; before that, one time in
+/// `times`, a record is moved.
+pub fn harmed(
+    rng: &mut Rng,
+    draft: &Draft,
+    times: usize,
+    harm: impl Fn(&mut Rng, &mut Vec<u8>),
+) -> Vec<u8> {
     let mut records = draft.records();
-    if rng.one_in(10) {
+    if rng.one_in(times) {
         let (from, to) = (rng.from(0, records.len() - 1), rng.from(0, records.len() - 1));
         let moved = records.remove(from);
         records.insert(to, moved);
     }
     let mut bytes = records.concat();
-    let harms = rng.pick(&[1, 1, 1, 2, 3]);
-    for _ in 0..harms {
+    for _ in 0..rng.pick(&[1, 1, 1, 2, 3]) {
         harm(rng, &mut bytes);
     }
     bytes
