@@ -1,4 +1,4 @@
--- A whole sitting: `Sittings` and `SittingRefusals`; and a replay after calls: `ReplaySittings`.
+-- A whole sitting: `Sittings` and `SittingRefusals`; and a replay after calls: `ReplaySittings` and `ReplaySittingRefusals`.
 -- Assumes nothing.
 use Prim.Native.Nat.{ℕ, _*_, _/_, _≤_}
 use mathlib.Core.Path.{_≡_, refl, sym, _∙_, ap}
@@ -15,17 +15,20 @@ use Rattle.model.proofs.Answers.{not-refused, refused-same}
 use Rattle.model.proofs.Tests.{branch}
 use Rattle.format.specs.Parser as P
 use Rattle.format.specs.JobBytes.{parse}
+use Rattle.pinning.specs.Check.{Matches}
 use Rattle.pinning.specs.Calls.{open-call, run}
 use Rattle.pinning.proofs.Agree.{passes-matches}
 use Rattle.pinning.proofs.History.{history}
 use Rattle.replaying.specs.Entries.{entry-size}
 use Rattle.replaying.specs.Calls as replaying
 use Rattle.replaying.specs.Calls.{over}
+use Rattle.replaying.specs.Claims as replayed
 use Rattle.replaying.proofs.DemandTwo.{replay-calls}
+use Rattle.replaying.proofs.Reports as reports
 use Rattle.planning.specs.Calls.{Planned}
 use Rattle.planning.specs.Commands.{calls-of, calls-refusal}
 use Rattle.planning.specs.Sittings.{answer-number, refuse, sat, sit-in, on-job, sitting-call, set-after, replay-after, replay-sitting}
-use Rattle.planning.specs.Claims.{PlanClaim, SittingKeeping, Sittings, SittingRefusals, ReplaySittings}
+use Rattle.planning.specs.Claims.{PlanClaim, SittingKeeping, Sittings, SittingRefusals, ReplaySittings, ReplaySittingRefusals}
 use Rattle.planning.proofs.DemandThree.{demand-three}
 use Rattle.planning.proofs.Refusals.{refusals, refuse-keeps}
 
@@ -84,8 +87,35 @@ sitting-refusals b calls answers table entries = (
   call-keeps b calls answers table entries (parse b) refl,
 )
 
+-- a replay after calls: the job first, then the set that the calls leave, which matches the job
+module _ (b calls entries levels : List ℕ) where
+  replay-job-first : (n : ℕ) → parse b ≡ P.refused n → replay-sitting b calls entries levels ≡ replaying.refuse n levels
+  unfolding replay-sitting replaying.on-job
+  replay-job-first n e = rw e
+
+  set-matches : (j : Job) (k : ℕ) → parse b ≡ P.took j k → Matches j (set-after b calls)
+  unfolding set-after
+  set-matches j k e = passes-matches b j k e _ (history b j k e (calls-of calls) .passes)
+
 pub replay-sittings : ReplaySittings
 unfolding replay-sitting replaying.on-job replay-after set-after
 replay-sittings b j n calls entries levels parsed good fit room =
-    let h = history b j n parsed (calls-of calls) in
-    rw (parsed, good, ← h .pins) (replay-calls b j n (run b (open-call b .state) (calls-of calls) .state) entries levels parsed (passes-matches b j n parsed _ (h .passes)) fit room)
+    rw (parsed, good, ← history b j n parsed (calls-of calls) .pins) (replay-calls b j n (set-after b calls) entries levels parsed (set-matches b calls entries levels j n parsed) fit room)
+
+after-keeps : (b : List ℕ) (o : Option ℕ) (calls entries levels : List ℕ) → replayed.Keeping levels (replay-after b o calls entries levels)
+unfolding replay-after
+after-keeps b (some n) calls entries levels = reports.refuse-keeps levels n
+after-keeps b none calls entries levels = reports.refusals b (set-after b calls) entries levels .2
+
+pub replay-sitting-refusals : ReplaySittingRefusals
+unfolding replay-sitting replaying.on-job replay-after
+replay-sitting-refusals b calls entries levels =
+    let order = reports.refusals b (set-after b calls) entries levels .0 in (
+      record {
+        job-first = replay-job-first b calls entries levels;
+        then-calls = λ j k n e q. rw (e, q);
+        then-plan = λ j k e q f. rw (e, q) (order .then-plan j k e (set-matches b calls entries levels j k e) f);
+        then-list = λ j k e q f l. rw (e, q) (order .then-list j k e (set-matches b calls entries levels j k e) f l);
+      },
+      reports.on-job-keeps levels _ (parse b) (λ j. after-keeps b (calls-refusal calls) calls entries levels),
+    )

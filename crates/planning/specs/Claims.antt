@@ -4,7 +4,7 @@ use Prim.Native.Nat.{ℕ, _*_, _/_, _<_, _≤_}
 use mathlib.Core.Path.{_≡_}
 use mathlib.Core.Logic.{_↔_}
 use mathlib.Core.Bool.{true}
-use mathlib.Core.Option.{none, some}
+use mathlib.Core.Option.{Option, none, some}
 use mathlib.Core.List.{List, [], _∷_, map}
 use lib.ListN.{length, take, drop}
 use Rattle.model.specs.Answer.{refused, gives}
@@ -20,10 +20,13 @@ use Rattle.format.specs.Parser as P
 use Rattle.format.specs.JobBytes.{header-in, parse}
 use Rattle.pinning.specs.State.{State}
 use Rattle.pinning.specs.Check.{Matches}
-use Rattle.pinning.specs.Calls.{open-call, run}
+use Rattle.pinning.specs.Calls as pinning
+use Rattle.pinning.specs.Calls.{Handed, open-call, call, run}
 use Rattle.pinning.specs.Claims.{HistoryClaim}
 use Rattle.replaying.specs.Entries.{entry-size, entry-bytes, plan-of, shaped}
+use Rattle.replaying.specs.Calls as replaying
 use Rattle.replaying.specs.Calls.{over, level-count}
+use Rattle.replaying.specs.Claims as replayed
 use Rattle.replaying.specs.Claims.{DemandTwo}
 use Rattle.planning.specs.Calls.{Planned, refuse, plan-call}
 use Rattle.planning.specs.Commands.{command, commands-call, calls-of, calls-refusal}
@@ -89,21 +92,41 @@ pub record SittingKeeping (answers table entries : List ℕ) (r : Sat) : Type 0 
   pub lists : Keeping table entries (r .planned)
   pub answers-kept : (n : ℕ) → r .planned .answer ≡ refused n → (n ≡ 13 → ⊥) → r .answers ≡ answers
 
--- bytes that are the command records of these calls and nothing else
-pub data Records : List ℕ → List Call → Type 0 where
-  none-left : {rest : List ℕ} → length rest ≡ 0 → Records rest []
-  one-more : {rest : List ℕ} {k : Call} {used : ℕ} {ks : List Call} → command rest ≡ P.took k used → Records (drop used rest) ks → Records rest (k ∷ ks)
+-- in which order a replay after calls looks at what it is given; the set that the calls leave is never refused
+pub record ReplaySittingOrder (b calls entries levels : List ℕ) : Type 0 where
+  pub job-first : (n : ℕ) → parse b ≡ P.refused n → replay-sitting b calls entries levels ≡ replaying.refuse n levels
+  pub then-calls : (j : Job) (k n : ℕ) → parse b ≡ P.took j k → calls-refusal calls ≡ some n → replay-sitting b calls entries levels ≡ replaying.refuse n levels
+  pub then-plan : (j : Job) (k : ℕ) → parse b ≡ P.took j k → calls-refusal calls ≡ none → (shaped (header-in j) entries ≡ true → ⊥) → replay-sitting b calls entries levels ≡ replaying.refuse 14 levels
+  pub then-list : (j : Job) (k : ℕ) → parse b ≡ P.took j k → calls-refusal calls ≡ none → shaped (header-in j) entries ≡ true → length levels < level-count j → replay-sitting b calls entries levels ≡ replaying.refuse 12 levels
 
--- commands behind a job of k bytes, none of them refused: the set is that of the calls in turn
-pub record CommandsClaim (b : List ℕ) (k : ℕ) (s : State) : Type 0 where
+-- bytes that begin with the command records of these calls, and what is left behind them
+pub data Records : List ℕ → List Call → List ℕ → Type 0 where
+  no-more : {rest : List ℕ} → Records rest [] rest
+  one-more : {rest left : List ℕ} {k : Call} {used : ℕ} {ks : List Call} → command rest ≡ P.took k used → Records (drop used rest) ks left → Records rest (k ∷ ks) left
+
+-- where commands end, by what is left and the set that is held: at the end of the bytes, at bytes that are no command record, or at a call that is refused
+pub data Ending (b : List ℕ) (s : State) (left : List ℕ) : Option ℕ → Type 0 where
+  none-left : length left ≡ 0 → Ending b s left none
+  not-read : {n : ℕ} → (length left ≡ 0 → ⊥) → command left ≡ P.refused n → Ending b s left (some n)
+  not-taken : {n used : ℕ} {k : Call} → command left ≡ P.took k used → call b s k .refused ≡ some n → Ending b s left (some n)
+
+-- commands from a set on: those before the end are calls in turn, all taken, whose set is handed back with the number that ends them
+pub record CommandsClaim (b : List ℕ) (s : State) (rest : List ℕ) (r : Handed) : Type 0 where
   pub calls : List Call
-  pub records : Records (drop k b) calls
-  pub all-taken : run b (open-call b .state) calls .answers ≡ map (λ c. none) calls
-  pub held : run b (open-call b .state) calls .state ≡ s
+  pub left : List ℕ
+  pub records : Records rest calls left
+  pub all-taken : run b s calls .answers ≡ map (λ c. none) calls
+  pub held : run b s calls .state ≡ r .state
+  pub ending : Ending b (r .state) left (r .refused)
+
+-- the job, then the commands behind it
+pub record CommandsOrder (b : List ℕ) : Type 0 where
+  pub job-first : (n : ℕ) → parse b ≡ P.refused n → commands-call b ≡ pinning.refuse (open-call b .state) n
+  pub then-commands : (j : Job) (k : ℕ) → parse b ≡ P.took j k → CommandsClaim b (open-call b .state) (drop k b) (commands-call b)
 
 -- what the program plans, from lists that are long enough
 pub record InputClaim (b : List ℕ) (j : Job) (k : ℕ) (table entries : List ℕ) : Type 0 where
-  pub commands : CommandsClaim b k (commands-call b .state)
+  pub commands : CommandsClaim b (open-call b .state) (drop k b) (commands-call b)
   pub planning : PlanClaim j (pins-after (j .choices) (no-pins (length (j .units))) (commands .calls)) table entries (input-call b table entries)
 
 -- in which order the program looks at its input
@@ -132,6 +155,14 @@ SittingRefusals = (b calls answers table entries : List ℕ) → SittingOrder b 
 -- demand 2 of a replay after calls
 abbrev pub ReplaySittings : Type 0
 ReplaySittings = (b : List ℕ) (j : Job) (n : ℕ) (calls entries levels : List ℕ) → parse b ≡ P.took j n → calls-refusal calls ≡ none → shaped (header-in j) entries ≡ true → level-count j ≤ length levels → DemandTwo j (pins-after (j .choices) (no-pins (length (j .units))) (calls-of calls)) (plan-of j entries) levels (replay-sitting b calls entries levels)
+
+-- demand 1 of it: its order of refusals, and that a refusal leaves the list as it came
+abbrev pub ReplaySittingRefusals : Type 0
+ReplaySittingRefusals = (b calls entries levels : List ℕ) → ReplaySittingOrder b calls entries levels × replayed.Keeping levels (replay-sitting b calls entries levels)
+
+-- demand 1 of commands, taken and refused
+abbrev pub Commands : Type 0
+Commands = (b : List ℕ) → CommandsOrder b
 
 -- and of what the program reads
 abbrev pub Inputs : Type 0

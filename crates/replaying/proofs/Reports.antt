@@ -44,14 +44,14 @@ not-passed true f = absurd (f refl)
 not-passed false f = refl
 
 module _ (list : List ℕ) where
-  refuse-keeps : {A : Type 0} (n : ℕ) → Keeping {A = A} list (refuse n list)
+  pub refuse-keeps : {A : Type 0} (n : ℕ) → Keeping {A = A} list (refuse n list)
   unfolding refuse
   refuse-keeps n k e = refl
 
   gives-keeps : {A : Type 0} (a : A) (l : List ℕ) → Keeping list (record { answer = gives a; list = l })
   gives-keeps a l n e = absurd (not-refused e)
 
-  on-job-keeps : {A : Type 0} (f : Job → Ended A) (r : P.Result Job) → ((j : Job) → Keeping list (f j)) → Keeping list (on-job r list f)
+  pub on-job-keeps : {A : Type 0} (f : Job → Ended A) (r : P.Result Job) → ((j : Job) → Keeping list (f j)) → Keeping list (on-job r list f)
   unfolding on-job
   on-job-keeps f (P.refused n) h = refuse-keeps n
   on-job-keeps f (P.took j k) h = h j
