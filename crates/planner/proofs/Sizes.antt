@@ -5,6 +5,8 @@ use mathlib.Core.Path.{_≡_}
 use mathlib.Core.List.{[], _∷_}
 use native.Mathlib.Nat.{mul-one, div-one, mul-le-mul, div-lt-iff-lt-mul, mod-lt}
 use native.Mathlib.Omega.{arith}
+use mir.Syntax.{w64}
+use mir.Val.{Fits}
 use lib.ListN.{length}
 use lib.Seq.{length-take-le}
 use Rattle.model.specs.Job as model
@@ -18,8 +20,8 @@ use Rattle.planner.specs.Answers.{line-is, LineFits}
 pub product-small : (a b : ℕ) → a ≤ 131072 → b ≤ 65536 → a * b ≤ 8589934592
 product-small a b h k = mul-le-mul {n₂ = 131072} {m₂ = 65536} h k
 
-pub product-fits : (a b : ℕ) → a ≤ 8589934592 → b ≤ 65536 → a * b ≤ 562949953421312
-product-fits a b h k = mul-le-mul {n₂ = 8589934592} {m₂ = 65536} h k
+pub product-fits : (a b : ℕ) → a ≤ 8589934592 → b ≤ 65536 → Fits w64 (a * b)
+product-fits a b h k = let small : a * b ≤ 562949953421312 = mul-le-mul {n₂ = 8589934592} {m₂ = 65536} h k in record { fits = omega arith }
 
 module _ (l : Line) where
   pub layer-size : (l .header .decoder + 1) * (l .header .bucket + 1) ≡ layerWords (line-is l)

@@ -1,7 +1,6 @@
 use Rattle.planner.proofs.Sizes.{product-small, product-fits}
 use Rattle.planner.specs.Answers.{table-words}
 use Rattle.job.specs.Answers.{plain}
-use Prim.Native.Nat.{_+_, _*_}
 use native.Mathlib.Omega.{arith}
 use borrow.Author.Needs.{needs}
 use Rattle.planner.proofs.table_words.Statement.{statement}
@@ -20,7 +19,7 @@ add-result-2 : tie.Need-add-result-2
 add-result-2 c = search needs
 
 mul-result : tie.Need-mul-result
-mul-result c = let b = c .before in record { fits = omega (arith, product-small (b .intervals .result + 1) (b .before .args .header .decoder + 1) (omega arith) (omega arith)) }
+mul-result c = product-fits _ _ (omega arith) (omega arith)
 
 cast-result-2 : tie.Need-cast-result-2
 cast-result-2 c = search needs
@@ -29,11 +28,7 @@ add-result-3 : tie.Need-add-result-3
 add-result-3 c = search needs
 
 mul-result-2 : tie.Need-mul-result-2
-mul-result-2 c =
-    let b = c .before .before in
-    let h = b .before .args .header in
-    let m = product-small (b .intervals .result + 1) (h .decoder + 1) (omega arith) (omega arith) in
-    record { fits = omega (arith, product-fits ((b .intervals .result + 1) * (h .decoder + 1)) (h .bucket + 1) m (omega arith)) }
+mul-result-2 c = product-fits _ _ (product-small _ _ (omega arith) (omega arith)) (omega arith)
 
 returns : tie.Need-returns
 unfolding table-words plain
