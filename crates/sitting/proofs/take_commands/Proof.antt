@@ -1,5 +1,6 @@
 use Rattle.sitting.proofs.Inputs.{no-job, job-within, then-commands}
 use mathlib.Core.Path.{_∙_}
+use native.Mathlib.Omega.{arith}
 use borrow.Author.Needs.{needs}
 use Rattle.sitting.proofs.take_commands.Statement.{statement}
 use Rattle.sitting.proofs.take_commands.Tie as tie
@@ -17,7 +18,7 @@ follow-requires : tie.Need-follow-requires
 follow-requires c κs =
     let k = c .before in
     let o = k .before .before .before in
-    job-within _ (o .«open» .result) (o .«open» .ensures) _ (k .answer2 .given .1)
+    omega (arith, job-within _ (o .«open» .result) (o .«open» .ensures) _ (k .answer2 .given .1))
 
 returns : tie.Need-returns
 returns c =
