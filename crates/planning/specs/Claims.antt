@@ -110,7 +110,7 @@ pub data Ending (b : List ℕ) (s : State) (left : List ℕ) : Option ℕ → Ty
   not-read : {n : ℕ} → (length left ≡ 0 → ⊥) → command left ≡ P.refused n → Ending b s left (some n)
   not-taken : {n used : ℕ} {k : Call} → command left ≡ P.took k used → call b s k .refused ≡ some n → Ending b s left (some n)
 
--- commands from a set on: those before the end are calls in turn, all taken, whose set is handed back with the number that ends them
+-- commands from a set on: those before the end are calls in turn, all taken, and their set is handed back with the number that ends them, or none
 pub record CommandsClaim (b : List ℕ) (s : State) (rest : List ℕ) (r : Handed) : Type 0 where
   pub calls : List Call
   pub left : List ℕ
@@ -124,7 +124,7 @@ pub record CommandsOrder (b : List ℕ) : Type 0 where
   pub job-first : (n : ℕ) → parse b ≡ P.refused n → commands-call b ≡ pinning.refuse (open-call b .state) n
   pub then-commands : (j : Job) (k : ℕ) → parse b ≡ P.took j k → CommandsClaim b (open-call b .state) (drop k b) (commands-call b)
 
--- what the program plans, from lists that are long enough
+-- what the program plans, from lists that are long enough; no command is refused, so that nothing is left behind them
 pub record InputClaim (b : List ℕ) (j : Job) (k : ℕ) (table entries : List ℕ) : Type 0 where
   pub commands : CommandsClaim b (open-call b .state) (drop k b) (commands-call b)
   pub planning : PlanClaim j (pins-after (j .choices) (no-pins (length (j .units))) (commands .calls)) table entries (input-call b table entries)
