@@ -1,6 +1,7 @@
 -- What is proved of the definitions, for the proofs of crates that name this one.
 pub mod Fields
 pub mod Limits
+pub mod Left
 pub mod Records
 pub mod Choices
 pub mod Parsing

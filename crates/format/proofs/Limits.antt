@@ -4,12 +4,13 @@ use Prim.Native.Nat.{ℕ, _≤_}
 use mathlib.Core.Path.{_≡_, refl, sym, ap, _∙_}
 use mathlib.Core.Bool.{Bool, true, false}
 use mathlib.Core.Option.{Option, none, some}
-use mathlib.Core.List.{List, [], _∷_}
+use mathlib.Core.List.{List, [], _∷_, _++_}
 use native.Mathlib.Omega.{arith}
 use borrow.Author.Tests.{leb-true, le-leb}
 use lib.Dec.{leb}
 use Rattle.model.specs.If.{if_then_else_}
-use Rattle.format.specs.Limits.{Limit, kept, broken, AllKept}
+use Rattle.model.proofs.Tests.{both-true}
+use Rattle.format.specs.Limits.{Limit, kept, both-kept, broken, AllKept}
 
 abbrev pub Kept : Limit → Type 0
 Kept l = (l .low ≤ l .value) × (l .value ≤ l .high)
@@ -87,3 +88,38 @@ if-same false = refl
 pub kept-under : (l : Limit) → l .value ≤ l .high → leb (l .low) (l .value) ≡ kept l
 unfolding kept
 kept-under l h = rw (le-leb (l .value) (l .high) h) (sym (if-same (leb (l .low) (l .value))))
+
+-- two limits that are both kept break nothing
+pub broken-both : (l m : Limit) (ls : List Limit) → both-kept l m ≡ true → broken (l ∷ m ∷ ls) ≡ broken ls
+unfolding both-kept
+broken-both l m ls e = let t = both-true (kept l) (kept m) e in broken-step l (m ∷ ls) (t .0) ∙ broken-step m ls (t .1)
+
+-- two limits with one refusal that are not both kept
+pub broken-either : (l m : Limit) (ls : List Limit) → l .refusal ≡ m .refusal → both-kept l m ≡ false → broken (l ∷ m ∷ ls) ≡ some (l .refusal)
+unfolding both-kept
+broken-either l m ls q e = go (kept l) refl
+  where
+    go : (s : Bool) → kept l ≡ s → broken (l ∷ m ∷ ls) ≡ some (l .refusal)
+    go true k = broken-step l (m ∷ ls) k ∙ broken-here m ls (unfold if_then_else_ in (rw k at e)) ∙ ap some (sym q)
+    go false k = broken-here l (m ∷ ls) k
+
+-- one list of limits after another
+pub all-kept-join : (ks ls : List Limit) → AllKept ks → AllKept ls → AllKept (ks ++ ls)
+all-kept-join [] ls h g = g
+all-kept-join (k ∷ ks) ls h g = (h .0, all-kept-join ks ls (h .1) g)
+
+pub all-kept-part : (ks ls : List Limit) → AllKept (ks ++ ls) → AllKept ks × AllKept ls
+all-kept-part [] ls h = (tt, h)
+all-kept-part (k ∷ ks) ls h = let r = all-kept-part ks ls (h .1) in ((h .0, r .0), r .1)
+
+pub broken-first : (ks ls : List Limit) (n : ℕ) → broken ks ≡ some n → broken (ks ++ ls) ≡ some n
+broken-first [] ls n e = unfold broken in (not-some (sym e))
+broken-first (k ∷ ks) ls n e = go (kept k) refl (λ f. broken-first ks ls n f)
+  where
+    go : (t : Bool) → kept k ≡ t → (broken ks ≡ some n → broken (ks ++ ls) ≡ some n) → broken (k ∷ (ks ++ ls)) ≡ some n
+    go true q r = broken-step k (ks ++ ls) q ∙ r (sym (broken-step k ks q) ∙ e)
+    go false q r = broken-here k (ks ++ ls) q ∙ sym (broken-here k ks q) ∙ e
+
+pub broken-later : (ks ls : List Limit) → AllKept ks → broken (ks ++ ls) ≡ broken ls
+broken-later [] ls h = refl
+broken-later (k ∷ ks) ls h = broken-step k (ks ++ ls) (is-kept k (h .0)) ∙ broken-later ks ls (h .1)

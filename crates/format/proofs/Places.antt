@@ -105,7 +105,7 @@ module _ {A : Type 0} (p : Parser A) (s : ℕ) (same : (b : List ℕ) (a : A) (k
       rw (t .list) (rw (drop-drop, a) at r)
 
 -- the x-th entry of a unit's fields
-entry-at : (m x : ℕ) (b : List ℕ) → x < m → getD (codings (fields (entry-widths m) b)) x nothing ≡ record { size = number (take 2 (drop (6 * x) b)); distortion = number (take 4 (drop (6 * x + 2) b)) }
+pub entry-at : (m x : ℕ) (b : List ℕ) → x < m → getD (codings (fields (entry-widths m) b)) x nothing ≡ record { size = number (take 2 (drop (6 * x) b)); distortion = number (take 4 (drop (6 * x + 2) b)) }
 unfolding fields entry-widths codings
 entry-at zero x b h = absurd (omega arith)
 entry-at (suc m) zero b h = refl
@@ -179,7 +179,7 @@ header-of-parts b j n t =
     )
 
 -- a unit that was read has its entries, each within its limits
-entries-count : (m : ℕ) (b : List ℕ) → length (codings (fields (entry-widths m) b)) ≡ m
+pub entries-count : (m : ℕ) (b : List ℕ) → length (codings (fields (entry-widths m) b)) ≡ m
 unfolding codings fields entry-widths
 entries-count zero b = refl
 entries-count (suc m) b = ap suc (entries-count m (drop 4 (drop 2 b)))

@@ -1,10 +1,11 @@
 -- A job's bytes there and back: what `encode` writes `parse` reads, and what `parse` reads `encode` writes.
 -- Assumes nothing.
-use Prim.Native.Nat.{ℕ, zero, suc, _+_, _≤_, _<_}
+use Prim.Native.Nat.{ℕ, zero, suc, _+_, _*_, _≤_, _<_}
 use mathlib.Core.Path.{_≡_, refl, sym, ap, ap₂, _∙_}
 use mathlib.Core.List.{List, [], _∷_, _++_}
 use native.Mathlib.Omega.{arith}
-use lib.ListN.{length, getD, replicate, length-replicate}
+use native.Mathlib.Nat.{zero-mul, suc-mul}
+use lib.ListN.{length, getD, replicate, length-append, length-replicate}
 use Rattle.model.specs.Job.{Bucket, Coding, Job}
 use Rattle.format.specs.JobBytes.{Header}
 use Rattle.format.specs.Fields.{total, Fit}
@@ -14,10 +15,11 @@ use Rattle.format.specs.Parser.{done, _>>=_, many, all-bytes, Each}
 use Rattle.format.specs.Parser as P
 use Rattle.format.specs.Records.{Form, head-widths, head-values, record-due, record-bytes}
 use Rattle.format.specs.JobBytes.{header-values, header-of, header-limits, rate-limits, unit-values, codings, coding-limits, entry-widths, header-form, rates-form, unit-form, job-of, header-in, header-parser, unit-parser, parse, unit-bytes, encode, UnitKept, WellFormed}
-use Rattle.format.specs.Claims.{ReadsBack, WritesBack}
+use Rattle.format.specs.Places.{unit-size}
+use Rattle.format.specs.Claims.{ReadsBack, WritesBack, Sized}
 use Rattle.format.proofs.Records.{total-same, total-entries}
 use Rattle.format.proofs.Header.{header-back}
-use Rattle.format.proofs.Exact.{Exact, RecordGood, exact-record, exact-map, exact-then, exact-many, exact-same}
+use Rattle.format.proofs.Exact.{Exact, RecordGood, record-length, exact-record, exact-map, exact-then, exact-many, exact-same}
 
 -- values of two bytes
 small : (vs : List ℕ) → Each (λ v. v < 65536) vs → Fit (replicate (length vs) 2) vs
@@ -45,10 +47,14 @@ header-good : (h : Header) → AllKept (header-limits h) → RecordGood header-f
 unfolding header-form header-values header-of
 header-good h k = record { fit = small (header-values h) (header-small h k); kept = k }
 
+header-head : Fit head-widths (head-values header-form)
+unfolding header-form total
+header-head = head-fit header-form (omega arith) (omega arith)
+
 exact-header : Exact header-parser (λ h. AllKept (header-limits h)) (λ h. record-bytes header-form (header-values h))
 unfolding header-parser header-form header-values header-of total
 exact-header =
-    exact-map (exact-record header-form (head-fit header-form (omega arith) (omega arith))) header-of header-values (λ h. AllKept (header-limits h))
+    exact-map (exact-record header-form header-head) header-of header-values (λ h. AllKept (header-limits h))
     (λ h k. (header-good h k, refl)) (λ vs g. (g .kept, nine-back (g .fit)))
 
 -- the rates
@@ -73,11 +79,12 @@ rates-kept : (p : ℕ) (rs : List ℕ) → RecordGood (rates-form p) rs → Rate
 unfolding rates-form
 rates-kept p rs g = record { count = fit-count (g .fit) ∙ length-replicate p 2; limits = g .kept }
 
+rates-head : (p : ℕ) → p ≤ 16 → Fit head-widths (head-values (rates-form p))
+unfolding rates-form
+rates-head p h = head-fit (rates-form p) (omega (arith, total-same p 2)) (omega arith)
+
 exact-rates : (p : ℕ) → p ≤ 16 → Exact (record-due (rates-form p)) (RatesKept p) (record-bytes (rates-form p))
-exact-rates p h = exact-same (RatesKept p) (exact-record (rates-form p) fit) (rates-good p) (rates-kept p)
-  where
-    fit : Fit head-widths (head-values (rates-form p))
-    fit = unfold rates-form in (head-fit (rates-form p) (omega (arith, total-same p 2)) (omega arith))
+exact-rates p h = exact-same (RatesKept p) (exact-record (rates-form p) (rates-head p h)) (rates-good p) (rates-kept p)
 
 -- a unit
 values-back : (u : List Coding) → codings (unit-values u) ≡ u
@@ -109,13 +116,14 @@ unit-same : (m : ℕ) (vs : List ℕ) → RecordGood (unit-form m) vs → unit-v
 unfolding unit-form
 unit-same m vs g = codings-back m vs (g .fit) .0
 
+unit-head : (m : ℕ) → m ≤ 31 → Fit head-widths (head-values (unit-form m))
+unfolding unit-form
+unit-head m h = head-fit (unit-form m) (omega (arith, total-entries m)) (omega arith)
+
 exact-unit : (m : ℕ) → m ≤ 31 → Exact (unit-parser m) (UnitKept m) (unit-bytes m)
 unfolding unit-parser unit-bytes
 exact-unit m h =
-    exact-map (exact-record (unit-form m) fit) codings unit-values (UnitKept m) (λ u k. (unit-good m u k, values-back u)) (λ vs g. (unit-kept m vs g, unit-same m vs g))
-  where
-    fit : Fit head-widths (head-values (unit-form m))
-    fit = unfold unit-form in (head-fit (unit-form m) (omega (arith, total-entries m)) (omega arith))
+    exact-map (exact-record (unit-form m) (unit-head m h)) codings unit-values (UnitKept m) (λ u k. (unit-good m u k, values-back u)) (λ vs g. (unit-kept m vs g, unit-same m vs g))
 
 -- the units make the job whole
 pub record UnitsGood (h : Header) (rs : List ℕ) (j : Job) : Type 0 where
@@ -165,7 +173,7 @@ with-buckets j bs ls = record {
   units = j .units;
 }
 
-job-back : (j : Job) → WellFormed j → j ≡ job-of (header-in j) (j .line .rates) (j .units)
+pub job-back : (j : Job) → WellFormed j → j ≡ job-of (header-in j) (j .line .rates) (j .units)
 unfolding job-of header-in with-buckets
 job-back j w = ap₂ (with-buckets j) (one-only (j .line .buckets) (record { size = 0; drain = 0 }) (w .one-bucket)) (one-only (j .start .buckets) 0 (w .one-fill))
 
@@ -206,3 +214,26 @@ parse-encode j w rest = exact-parse .forth j w rest
 
 pub encode-parse : WritesBack
 encode-parse b B j n e = let r = exact-parse .back b B j n e in record { size = r .size; same = r .same; well-formed = r .good }
+
+-- how many bytes that is
+unit-length : (m : ℕ) → m ≤ 31 → (u : List Coding) → UnitKept m u → length (unit-bytes m u) ≡ unit-size m
+unfolding unit-bytes unit-form
+unit-length m h u k = record-length (unit-form m) (unit-values u) (unit-head m h) (unit-good m u k .fit) ∙ rw total-entries
+
+units-length : (m : ℕ) → m ≤ 31 → (us : List (List Coding)) → Each (UnitKept m) us → length (all-bytes (unit-bytes m) us) ≡ length us * unit-size m
+unfolding all-bytes
+units-length m h [] P.no-more = sym (zero-mul (unit-size m))
+units-length m h (u ∷ us) (P.one-more k t) =
+    length-append (unit-bytes m u) (all-bytes (unit-bytes m) us)
+    ∙ ap₂ _+_ (unit-length m h u k) (units-length m h us t)
+    ∙ omega (arith, suc-mul (length us) (unit-size m))
+
+pub sized : Sized
+unfolding encode header-in header-form rates-form total
+sized j w =
+    let h = header-in j in
+    let r = record-length header-form (header-values h) (header-head) (header-good h (w .header) .fit) in
+    let s = record-length (rates-form (h .rates)) (j .line .rates) (rates-head (h .rates) (omega arith)) (rates-good (h .rates) (j .line .rates) (record { count = refl; limits = w .rates }) .fit) in
+    let u = units-length (h .choices) (omega arith) (j .units) (w .units) in
+    let units = all-bytes (unit-bytes (h .choices)) (j .units) in
+    omega (arith, total-same (h .rates) 2, length-append (record-bytes header-form (header-values h)) (record-bytes (rates-form (h .rates)) (j .line .rates) ++ units), length-append (record-bytes (rates-form (h .rates)) (j .line .rates)) units)

@@ -8,7 +8,7 @@ use Rattle.model.specs.Job.{bucketAt, Job, codingAt}
 use Rattle.format.specs.Fields.{Bytes}
 use Rattle.format.specs.Parser.{took}
 use Rattle.format.specs.JobBytes.{header-in, parse, encode, WellFormed}
-use Rattle.format.specs.Places.{rate-at, coding-at}
+use Rattle.format.specs.Places.{job-size, rate-at, coding-at}
 
 -- what is written is read back, whatever stands behind it
 abbrev pub ReadsBack : Type 0
@@ -22,6 +22,10 @@ pub record WrittenBack (b : List ℕ) (j : Job) (n : ℕ) : Type 0 where
 
 abbrev pub WritesBack : Type 0
 WritesBack = (b : List ℕ) → Bytes b → (j : Job) (n : ℕ) → parse b ≡ took j n → WrittenBack b j n
+
+-- how many bytes are written
+abbrev pub Sized : Type 0
+Sized = (j : Job) → WellFormed j → length (encode j) ≡ job-size (header-in j)
 
 -- what opens is within the limits
 abbrev pub WellRead : Type 0

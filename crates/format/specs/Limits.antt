@@ -19,6 +19,10 @@ limit k lo hi v = record { low = lo; value = v; high = hi; refusal = k }
 unfoldable pub kept : Limit → Bool
 kept l = if leb (l .low) (l .value) then leb (l .value) (l .high) else false
 
+-- both limits are kept
+unfoldable pub both-kept : Limit → Limit → Bool
+both-kept l m = if kept l then kept m else false
+
 -- the refusal of the first limit that is not kept
 unfoldable pub broken : List Limit → Option ℕ
 broken [] = none

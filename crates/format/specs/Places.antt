@@ -23,6 +23,10 @@ rates-size p = 4 + 2 * p
 abbrev pub unit-size : ℕ → ℕ
 unit-size m = 4 + 6 * m
 
+-- a whole job
+abbrev pub job-size : Header → ℕ
+job-size h = header-size + rates-size (h .rates) + h .units * unit-size (h .choices)
+
 -- a rate, by its index
 unfoldable pub rate-place : ℕ → ℕ
 rate-place y = header-size + 4 + 2 * y

@@ -1,7 +1,6 @@
 -- What the reader's structs and answers mean in the terms of the crates below, case by case.
 -- Assumes nothing.
 use Prim.Native.Nat.{ℕ, _≤_}
-use mathlib.Core.Bool.{Bool, false}
 use mathlib.Core.Option.{Option, none, some}
 use mathlib.Core.List.{List}
 use lib.Dec.{ltb}
@@ -9,7 +8,6 @@ use lib.ListN.{length, drop}
 use Rattle.model.specs.If.{if_then_else_}
 use Rattle.model.specs.Job as model
 use Rattle.format.specs.Fields.{total}
-use Rattle.format.specs.Limits.{Limit, kept}
 use Rattle.format.specs.Parser.{Result, refused, took, refusal-of}
 use Rattle.format.specs.Records.{Form, head-widths, head-limits, block}
 use Rattle.format.specs.JobBytes as format
@@ -61,10 +59,6 @@ abbrev pub Small : Due → Type 0
 Small d.Header = Unit {0}
 Small (d.Rates n) = n ≤ 1000
 Small (d.Unit n) = n ≤ 1000
-
--- both limits are kept
-unfoldable pub both-kept : Limit → Limit → Bool
-both-kept l m = if kept l then kept m else false
 
 -- the first refusal of two
 unfoldable pub first-of : Option ℕ → Option ℕ → Option ℕ

@@ -6,12 +6,12 @@ ghost use mathlib.Core.List.{[], _∷_};
 ghost use Prim.Native.Nat.{_+_, _*_, _-_, _≤_};
 ghost use lib.ListN.{length, take, drop, replicate};
 ghost use Rattle.format.specs.Fields.{number, fields};
-ghost use Rattle.format.specs.Limits.{limit, kept, broken, AllKept};
+ghost use Rattle.format.specs.Limits.{limit, kept, both-kept, broken, AllKept};
 ghost use Rattle.format.specs.Parser.{further, many, refusal-of, with-value};
 ghost use Rattle.format.specs.Records.{head-limits, record-due};
 ghost use Rattle.format.specs.JobBytes.{header-of, same-header, header-limits, rate-limit, rate-limits, size-limit, distortion-limit, coding-limits, codings, entry-widths, header-in, unit-parser, parse};
 ghost use Rattle.format.specs.Places.{unit-size, field-at, rate-at, coding-at};
-ghost use Rattle.job.specs.Answers.{plain, verdict, form-of, Small, reading, coding-of, shape, answering, both-kept};
+ghost use Rattle.job.specs.Answers.{plain, verdict, form-of, Small, reading, coding-of, shape, answering};
 
 // What kind 1 says of a job. Sizes and levels are counted in grains, document 01's fixed count of bits.
 pub struct Header {
@@ -253,7 +253,7 @@ fn shape_verdict(rest: &[u8], due: Due) -> Verdict
 }
 
 // Whether a rate is at most 4,095 and at least `low`.
-fn rate_fits(low: u16, rate: u16) -> bool
+pub fn rate_fits(low: u16, rate: u16) -> bool
     ensures { λ r. ⌜ r ≡ kept (rate-limit low rate) ⌝ }
 {
     match rate {
@@ -281,7 +281,7 @@ fn rates_verdict(body: &[u8], rates: u16) -> Verdict
 }
 
 // Whether a size is at most 4,095 and a distortion at most 1,000,000.
-fn coding_fits(size: u16, distortion: u32) -> bool
+pub fn coding_fits(size: u16, distortion: u32) -> bool
     ensures { λ r. ⌜ r ≡ both-kept (size-limit size) (distortion-limit distortion) ⌝ }
 {
     match size {

@@ -14,3 +14,6 @@ pub const RATES: u8 = 4;
 
 // A size or a distortion is over its limit.
 pub const CODINGS: u8 = 5;
+
+// A list to be filled is too short.
+pub const LIST: u8 = 12;

@@ -1,4 +1,4 @@
--- A refusal is no other answer, and has one number.
+-- A refusal is no other answer, and an answer has one number or value.
 -- Assumes nothing.
 use Prim.Native.Nat.{ℕ}
 use mathlib.Core.Path.{_≡_}
@@ -10,3 +10,6 @@ not-refused e = let z : _≡_ {A = ℕ} 0 1 = cc in omega arith
 
 pub refused-same : {A : Type 0} {n k : ℕ} → _≡_ {A = Answer A} (refused n) (refused k) → n ≡ k
 refused-same e = cc
+
+pub gives-same : {A : Type 0} {a b : A} → _≡_ {A = Answer A} (gives a) (gives b) → a ≡ b
+gives-same e = cc

@@ -3,6 +3,7 @@ pub mod Tests
 pub mod All
 pub mod Builds
 pub mod Answers
+pub mod Lent
 pub mod Violations
 pub mod Outcome
 pub mod Levels

@@ -2,6 +2,7 @@
 pub mod If
 pub mod All
 pub mod Answer
+pub mod Lent
 pub mod Job
 pub mod Levels
 pub mod Pins

@@ -30,8 +30,8 @@ use Rattle.pinning.proofs.Agree.{matched}
 use Rattle.replay.specs.declared.Totals as replay
 use Rattle.replay.specs.Answers.{totals-of}
 use Rattle.replaying.specs.Entries.{entry-size}
-use Rattle.replaying.specs.Calls.{over}
-use Rattle.replaying.proofs.Flat.{over-length}
+use Rattle.model.specs.Lent.{over}
+use Rattle.model.proofs.Lent.{over-length}
 use Rattle.planning.specs.Words.{table-of}
 use Rattle.planning.specs.Calls.{refuse, searched, search-in, plan-in, on-job, plan-call}
 use Rattle.planning.proofs.Layers.{table-length, layer-over, over-table}

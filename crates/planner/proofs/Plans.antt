@@ -16,7 +16,7 @@ use Rattle.model.specs.Best.{late, best-plan}
 use Rattle.format.specs.Choices.{choice-byte}
 use Rattle.format.proofs.Choices.{byte-back}
 use Rattle.replaying.specs.Entries.{entry-size, entry-bytes}
-use Rattle.replaying.specs.Calls.{over}
+use Rattle.model.specs.Lent.{over}
 use Rattle.replaying.proofs.Entries.{bytes-size, bytes-more}
 use Rattle.replay.specs.declared.Levels.{Levels}
 use Rattle.replay.specs.declared.Totals.{Totals}

@@ -15,7 +15,7 @@ use Rattle.model.specs.Pins.{PinMap}
 use Rattle.model.specs.Best.{width}
 use Rattle.model.specs.Table.{layerWords, words, layerOf, Bounded}
 use Rattle.model.proofs.Builds.{build-length, build-at}
-use Rattle.replaying.specs.Calls.{over}
+use Rattle.model.specs.Lent.{over}
 use Rattle.planning.specs.Rule.{Allowed, layer-from, allowed-in}
 use Rattle.planning.specs.Words.{layer, layers, table-of}
 use Rattle.planning.proofs.Offers.{layer-from-cong}

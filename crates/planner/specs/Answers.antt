@@ -28,7 +28,7 @@ use Rattle.replay.specs.declared.Levels.{Levels}
 use Rattle.replay.specs.declared.Interval.{Interval}
 use Rattle.replay.specs.Answers.{levels-of, totals-of, line-of}
 use Rattle.replaying.specs.Entries.{entry-bytes}
-use Rattle.replaying.specs.Calls.{over}
+use Rattle.model.specs.Lent.{over}
 use Rattle.planning.specs.Rule.{Allowed, pair-offer, allowed-in}
 use Rattle.planning.specs.Words.{layer}
 use Rattle.planning.specs.Calls as calls

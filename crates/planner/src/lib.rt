@@ -21,7 +21,7 @@ ghost use Rattle.pinning.specs.State.{lines};
 ghost use Rattle.pins.specs.Answers.{state};
 ghost use Rattle.replay.specs.Answers.{levels-of};
 ghost use Rattle.replaying.specs.Entries.{entry-size};
-ghost use Rattle.replaying.specs.Calls.{over};
+ghost use Rattle.model.specs.Lent.{over};
 ghost use Rattle.planning.specs.Rule.{coding-offer, pair-offer, least-offer, layer-from};
 ghost use Rattle.planning.specs.Words.{layer, layers, table-of};
 ghost use Rattle.planning.specs.Calls.{search-in, plan-call};
@@ -468,7 +468,7 @@ pub fn plan(job: &[u8], set: PinSet, table: &mut [u32], entries: &mut [u8]) -> P
                 return Planned::Refused(refusal::TABLE);
             }
             if entries.len() < replay::ENTRY * replay::intervals(header) {
-                return Planned::Refused(replay::refusal::LIST);
+                return Planned::Refused(job::refusal::LIST);
             }
             let pins = set.pins;
             search(job, header, &pins, table, entries)

@@ -14,7 +14,7 @@ use Rattle.pinning.specs.State.{lines, unpinned, fresh}
 use Rattle.pinning.specs.Check.{byte-fits, bytes-fit, same-totals, fits, accept, checked}
 use Rattle.pinning.specs.Calls.{opened, open-call, refuse, take-in, with-pin, without-pin, pin-line, lift-line, call-in, calling, call, after, run}
 use Rattle.replaying.specs.Entries.{entry-bytes}
-use Rattle.replaying.specs.Calls.{over}
+use Rattle.model.specs.Lent.{over}
 use Rattle.replaying.specs.Cases.{set-after}
 use Rattle.replaying.proofs.Cases.{map-at}
 use Rattle.planning.specs.Words.{layer, layers, table-of}

@@ -21,9 +21,9 @@ use Rattle.format.proofs.Bounds.{limited}
 use Rattle.format.proofs.Places.{well-read}
 use Rattle.pinning.proofs.History.{history}
 use Rattle.replaying.specs.Entries.{entry-size, entry-bytes}
-use Rattle.replaying.specs.Calls.{over}
+use Rattle.model.specs.Lent.{over}
 use Rattle.replaying.proofs.Entries.{bytes-size, plan-back}
-use Rattle.replaying.proofs.Flat.{over-length, over-rest}
+use Rattle.model.proofs.Lent.{over-length, over-rest}
 use Rattle.planning.specs.Words.{table-of}
 use Rattle.planning.specs.Calls.{searched, search-in, plan-in, on-job, plan-call}
 use Rattle.planning.specs.Claims.{BestWritten, PlanClaim, DemandThree}

@@ -20,8 +20,8 @@ use Rattle.model.proofs.Places.{layer-each, place-below, state-place, state-in-
 use Rattle.model.proofs.Steps.{layer-closed}
 use Rattle.model.proofs.Layers.{word-in-layer}
 use Rattle.model.proofs.Tables.{distortions-small}
-use Rattle.replaying.specs.Calls.{over}
-use Rattle.replaying.proofs.Flat.{over-length}
+use Rattle.model.specs.Lent.{over}
+use Rattle.model.proofs.Lent.{over-length}
 use Rattle.planning.specs.Rule.{layer-from, allowed-in}
 use Rattle.planning.specs.Words.{layer, layers, table-of}
 use Rattle.planning.proofs.Offers.{stage-is}

@@ -13,6 +13,7 @@ use Rattle.model.specs.Job.{Job, intervals}
 use Rattle.model.specs.Table.{words}
 use Rattle.model.proofs.Answers.{not-refused, refused-same}
 use Rattle.model.proofs.Tests.{branch}
+use Rattle.model.proofs.Lent as lent-laws
 use Rattle.format.specs.Parser as P
 use Rattle.format.specs.JobBytes.{parse}
 use Rattle.pinning.specs.Check.{Matches}
@@ -21,8 +22,8 @@ use Rattle.pinning.proofs.Agree.{passes-matches}
 use Rattle.pinning.proofs.History.{history}
 use Rattle.replaying.specs.Entries.{entry-size}
 use Rattle.replaying.specs.Calls as replaying
-use Rattle.replaying.specs.Calls.{over}
-use Rattle.replaying.specs.Claims as replayed
+use Rattle.model.specs.Lent.{over}
+use Rattle.model.specs.Lent as lent
 use Rattle.replaying.proofs.DemandTwo.{replay-calls}
 use Rattle.replaying.proofs.Reports as reports
 use Rattle.planning.specs.Calls.{Planned}
@@ -89,7 +90,7 @@ sitting-refusals b calls answers table entries = (
 
 -- a replay after calls: the job first, then the set that the calls leave, which matches the job
 module _ (b calls entries levels : List ℕ) where
-  replay-job-first : (n : ℕ) → parse b ≡ P.refused n → replay-sitting b calls entries levels ≡ replaying.refuse n levels
+  replay-job-first : (n : ℕ) → parse b ≡ P.refused n → replay-sitting b calls entries levels ≡ lent.refuse n levels
   unfolding replay-sitting replaying.on-job
   replay-job-first n e = rw e
 
@@ -102,9 +103,9 @@ unfolding replay-sitting replaying.on-job replay-after set-after
 replay-sittings b j n calls entries levels parsed good fit room =
     rw (parsed, good, ← history b j n parsed (calls-of calls) .pins) (replay-calls b j n (set-after b calls) entries levels parsed (set-matches b calls entries levels j n parsed) fit room)
 
-after-keeps : (b : List ℕ) (o : Option ℕ) (calls entries levels : List ℕ) → replayed.Keeping levels (replay-after b o calls entries levels)
+after-keeps : (b : List ℕ) (o : Option ℕ) (calls entries levels : List ℕ) → lent.Keeping levels (replay-after b o calls entries levels)
 unfolding replay-after
-after-keeps b (some n) calls entries levels = reports.refuse-keeps levels n
+after-keeps b (some n) calls entries levels = lent-laws.refuse-keeps levels n
 after-keeps b none calls entries levels = reports.refusals b (set-after b calls) entries levels .2
 
 pub replay-sitting-refusals : ReplaySittingRefusals

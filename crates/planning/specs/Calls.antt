@@ -16,7 +16,7 @@ use Rattle.format.specs.Parser as P
 use Rattle.pinning.specs.State.{State, lines}
 use Rattle.pinning.specs.Check.{checked}
 use Rattle.replaying.specs.Entries.{entry-size, entry-bytes}
-use Rattle.replaying.specs.Calls.{over}
+use Rattle.model.specs.Lent.{over}
 use Rattle.planning.specs.Words.{table-of}
 
 -- the answer, and the lists that were lent for the table and the entries

@@ -24,9 +24,9 @@ use Rattle.pinning.specs.Calls as pinning
 use Rattle.pinning.specs.Calls.{Handed, open-call, call, run}
 use Rattle.pinning.specs.Claims.{HistoryClaim}
 use Rattle.replaying.specs.Entries.{entry-size, entry-bytes, plan-of, shaped}
-use Rattle.replaying.specs.Calls as replaying
-use Rattle.replaying.specs.Calls.{over, level-count}
-use Rattle.replaying.specs.Claims as replayed
+use Rattle.model.specs.Lent.{over}
+use Rattle.model.specs.Lent as lent
+use Rattle.replaying.specs.Calls.{level-count}
 use Rattle.replaying.specs.Claims.{DemandTwo}
 use Rattle.planning.specs.Calls.{Planned, refuse, plan-call}
 use Rattle.planning.specs.Commands.{command, commands-call, calls-of, calls-refusal}
@@ -94,10 +94,10 @@ pub record SittingKeeping (answers table entries : List ℕ) (r : Sat) : Type 0 
 
 -- in which order a replay after calls looks at what it is given; the set that the calls leave is never refused
 pub record ReplaySittingOrder (b calls entries levels : List ℕ) : Type 0 where
-  pub job-first : (n : ℕ) → parse b ≡ P.refused n → replay-sitting b calls entries levels ≡ replaying.refuse n levels
-  pub then-calls : (j : Job) (k n : ℕ) → parse b ≡ P.took j k → calls-refusal calls ≡ some n → replay-sitting b calls entries levels ≡ replaying.refuse n levels
-  pub then-plan : (j : Job) (k : ℕ) → parse b ≡ P.took j k → calls-refusal calls ≡ none → (shaped (header-in j) entries ≡ true → ⊥) → replay-sitting b calls entries levels ≡ replaying.refuse 14 levels
-  pub then-list : (j : Job) (k : ℕ) → parse b ≡ P.took j k → calls-refusal calls ≡ none → shaped (header-in j) entries ≡ true → length levels < level-count j → replay-sitting b calls entries levels ≡ replaying.refuse 12 levels
+  pub job-first : (n : ℕ) → parse b ≡ P.refused n → replay-sitting b calls entries levels ≡ lent.refuse n levels
+  pub then-calls : (j : Job) (k n : ℕ) → parse b ≡ P.took j k → calls-refusal calls ≡ some n → replay-sitting b calls entries levels ≡ lent.refuse n levels
+  pub then-plan : (j : Job) (k : ℕ) → parse b ≡ P.took j k → calls-refusal calls ≡ none → (shaped (header-in j) entries ≡ true → ⊥) → replay-sitting b calls entries levels ≡ lent.refuse 14 levels
+  pub then-list : (j : Job) (k : ℕ) → parse b ≡ P.took j k → calls-refusal calls ≡ none → shaped (header-in j) entries ≡ true → length levels < level-count j → replay-sitting b calls entries levels ≡ lent.refuse 12 levels
 
 -- bytes that begin with the command records of these calls, and what is left behind them
 pub data Records : List ℕ → List Call → List ℕ → Type 0 where
@@ -158,7 +158,7 @@ ReplaySittings = (b : List ℕ) (j : Job) (n : ℕ) (calls entries levels : List
 
 -- demand 1 of it: its order of refusals, and that a refusal leaves the list as it came
 abbrev pub ReplaySittingRefusals : Type 0
-ReplaySittingRefusals = (b calls entries levels : List ℕ) → ReplaySittingOrder b calls entries levels × replayed.Keeping levels (replay-sitting b calls entries levels)
+ReplaySittingRefusals = (b calls entries levels : List ℕ) → ReplaySittingOrder b calls entries levels × lent.Keeping levels (replay-sitting b calls entries levels)
 
 -- demand 1 of commands, taken and refused
 abbrev pub Commands : Type 0

@@ -15,7 +15,9 @@ use Rattle.pinning.specs.State.{State}
 use Rattle.pinning.specs.Calls.{open-call, run, Sitting}
 use Rattle.replaying.specs.Entries.{entry-size}
 use Rattle.replaying.specs.Calls as replaying
-use Rattle.replaying.specs.Calls.{over, Replayed, Ended, replay-call}
+use Rattle.model.specs.Lent.{over, Ended}
+use Rattle.model.specs.Lent as lent
+use Rattle.replaying.specs.Calls.{Replayed, replay-call}
 use Rattle.planning.specs.Calls.{Planned, plan-call}
 use Rattle.planning.specs.Calls as plan
 use Rattle.planning.specs.Commands.{commands-call, calls-of, calls-refusal}
@@ -63,7 +65,7 @@ unfoldable pub set-after : List ℕ → List ℕ → State
 set-after b calls = run b (open-call b .state) (calls-of calls) .state
 
 unfoldable pub replay-after : List ℕ → Option ℕ → List ℕ → List ℕ → List ℕ → Ended Replayed
-replay-after b (some n) calls entries levels = replaying.refuse n levels
+replay-after b (some n) calls entries levels = lent.refuse n levels
 replay-after b none calls entries levels = replay-call b (set-after b calls) entries levels
 
 unfoldable pub replay-sitting : List ℕ → List ℕ → List ℕ → List ℕ → Ended Replayed

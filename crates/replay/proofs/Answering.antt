@@ -20,7 +20,8 @@ use Rattle.pinning.specs.State.{State, lines}
 use Rattle.pinning.specs.Check.{checked, Ready}
 use Rattle.pinning.proofs.Agree.{matched}
 use Rattle.replaying.specs.Entries.{plan-of, shaped}
-use Rattle.replaying.specs.Calls.{level-count, over, refuse, played, replay-in, on-job, replay-call, report-in, report-call}
+use Rattle.model.specs.Lent.{over, refuse}
+use Rattle.replaying.specs.Calls.{level-count, played, replay-in, on-job, replay-call, report-in, report-call}
 use Rattle.replay.specs.Answers.{Shaped}
 
 -- the bytes of a job with this header

@@ -19,7 +19,8 @@ use Rattle.format.specs.Choices.{choice-of}
 use Rattle.format.specs.JobBytes.{Header, job-in, Opens}
 use Rattle.format.proofs.Opened.{decoder-is, buckets-are}
 use Rattle.replaying.specs.Entries.{entry-at, plan-from, plan-of}
-use Rattle.replaying.specs.Calls.{totals-are, violated, replayed, flat, over, played}
+use Rattle.model.specs.Lent.{over}
+use Rattle.replaying.specs.Calls.{totals-are, violated, replayed, flat, played}
 use Rattle.replaying.proofs.Flat.{Single, none-left, one-more, flat-size}
 use Rattle.replay.specs.declared.Interval.{Interval}
 use Rattle.replay.specs.declared.Levels.{Levels}

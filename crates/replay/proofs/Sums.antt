@@ -13,7 +13,7 @@ use Rattle.format.specs.JobBytes.{Header, job-in}
 use Rattle.format.specs.Places.{rate-at}
 use Rattle.format.proofs.Opened.{intervals-are}
 use Rattle.replaying.specs.Entries.{rate-byte, entry-at, plan-from, plan-of}
-use Rattle.replaying.specs.Calls.{over}
+use Rattle.model.specs.Lent.{over}
 use Rattle.replay.specs.Answers.{Shaped}
 use Rattle.replay.proofs.Entries.{sent-is}
 

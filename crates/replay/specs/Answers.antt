@@ -18,6 +18,7 @@ use Rattle.format.specs.JobBytes as format
 use Rattle.job.specs.declared.Coding.{Coding}
 use Rattle.job.specs.Answers.{coding-of}
 use Rattle.replaying.specs.Entries.{entry-at, shaped}
+use Rattle.model.specs.Lent.{Ended}
 use Rattle.replaying.specs.Calls as calls
 use Rattle.replay.specs.declared.Totals.{Totals}
 use Rattle.replay.specs.declared.Violation.{Violation}
@@ -60,7 +61,7 @@ answered (r.Clean t) = gives (calls.totals-are (totals-of t))
 answered (r.Violated t x) = gives (calls.violated t (violation x))
 answered (r.Refused n) = refused n
 
-unfoldable pub ended : Replayed → List ℕ → calls.Ended calls.Replayed
+unfoldable pub ended : Replayed → List ℕ → Ended calls.Replayed
 ended x list = record { answer = answered x; list = list }
 
 -- the answer of the report and the list that was lent
@@ -68,7 +69,7 @@ unfoldable pub report-answer : Reported → Answer (Unit {0})
 report-answer p.Done = gives tt
 report-answer (p.Refused n) = refused n
 
-unfoldable pub reported : Reported → List ℕ → calls.Ended (Unit {0})
+unfoldable pub reported : Reported → List ℕ → Ended (Unit {0})
 reported x list = record { answer = report-answer x; list = list }
 
 -- the line of a header, whose rates no step looks at

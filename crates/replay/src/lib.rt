@@ -3,9 +3,9 @@
 pub mod refusal;
 
 ghost use mathlib.Core.Path.{_≡_};
-ghost use mathlib.Core.List.{[], _∷_, _++_};
+ghost use mathlib.Core.List.{[], _∷_};
 ghost use Prim.Native.Nat.{_+_, _*_, _-_, _<_, _≤_};
-ghost use lib.ListN.{length, getD, set, drop};
+ghost use lib.ListN.{length, set};
 ghost use Rattle.model.specs.Step.{decoder-step, pin-held, outcome-of};
 ghost use Rattle.model.specs.Levels.{sentAfter, effectiveBuffers};
 ghost use Rattle.format.specs.Choices.{choice-of};
@@ -14,7 +14,8 @@ ghost use Rattle.job.specs.Answers.{plain};
 ghost use Rattle.pinning.specs.State.{lines};
 ghost use Rattle.pins.specs.Answers.{state};
 ghost use Rattle.replaying.specs.Entries.{entry-fits, shaped, plan-of};
-ghost use Rattle.replaying.specs.Calls.{over, played, replay-call, report-call};
+ghost use Rattle.model.specs.Lent.{over};
+ghost use Rattle.replaying.specs.Calls.{played, replay-call, report-call};
 ghost use Rattle.replay.specs.Answers.{decoded, outcome-is, line-of, totals-of, ended, reported, Shaped, CodingIn, PinIn, IsInterval, added, Room, Plays, Sums};
 use job::Coding;
 use job::Header;
@@ -309,7 +310,7 @@ pub fn replay(job: &[u8], set: PinSet, entries: &[u8], levels: &mut [u16]) -> Re
                 return Replayed::Refused(refusal::PLAN);
             }
             if levels.len() < LEVELS_EACH * intervals(header) {
-                return Replayed::Refused(refusal::LIST);
+                return Replayed::Refused(job::refusal::LIST);
             }
             let pins = set.pins;
             play(job, header, &pins, entries, levels)
@@ -354,7 +355,7 @@ pub fn effective_buffers(job: &[u8], entries: &[u8], sums: &mut [u32]) -> Report
                 return Reported::Refused(refusal::PLAN);
             }
             if sums.len() <= header.units as usize {
-                return Reported::Refused(refusal::LIST);
+                return Reported::Refused(job::refusal::LIST);
             }
             put_sums(job, header, entries, sums);
             Reported::Done

@@ -1,7 +1,4 @@
-// Document 01's refusals of calls that fill a list or take a plan. Each number is document 01's own.
-
-// The list to be filled is too short.
-pub const LIST: u8 = 12;
+// Document 01's refusal of calls that take a plan; that of a list that is too short is `job::refusal::LIST`. The number is document 01's own.
 
 // The plan's bytes are not 2 × T, or an entry is out of range.
 pub const PLAN: u8 = 14;

@@ -23,10 +23,12 @@ use Rattle.format.proofs.Places.{well-read}
 use Rattle.pinning.specs.State.{lines}
 use Rattle.pinning.proofs.Agree.{matched}
 use Rattle.replaying.specs.Entries.{plan-of}
-use Rattle.replaying.specs.Calls.{Replayed, totals-are, violated, replayed, flat, level-count, over, played, replay-in, on-job, replay-call}
+use Rattle.model.specs.Lent.{over}
+use Rattle.replaying.specs.Calls.{Replayed, totals-are, violated, replayed, flat, level-count, played, replay-in, on-job, replay-call}
 use Rattle.replaying.specs.Claims.{Written, DemandTwo, ReplayCalls}
 use Rattle.replaying.proofs.Entries.{plan-bytes}
-use Rattle.replaying.proofs.Flat.{Single, single-each, flat-size, flat-decoder, flat-bucket, over-length, over-here, over-rest}
+use Rattle.model.proofs.Lent.{over-length, over-here, over-rest}
+use Rattle.replaying.proofs.Flat.{Single, single-each, flat-size, flat-decoder, flat-bucket}
 
 -- the answer's case is the result's
 clean-case : (s : Totals) (x : Result) → (_≡_ {A = Answer Replayed} (gives (replayed s x)) (gives (totals-are s))) ↔ (x ≡ clean)

@@ -1,13 +1,12 @@
 -- Levels as one list of numbers, of a job with one bucket.
 -- Assumes nothing.
-use Prim.Native.Nat.{ℕ, zero, suc, _+_, _*_, _<_, _≤_}
-use mathlib.Core.Path.{_≡_, refl, _∙_, ap}
+use Prim.Native.Nat.{ℕ, zero, suc, _+_, _*_, _<_}
+use mathlib.Core.Path.{_≡_, refl, ap}
 use mathlib.Core.List.{List, [], _∷_}
 use native.Mathlib.Omega.{arith}
-use lib.ListN.{length, getD, drop, length-append, length-drop, List·getD-append}
-use lib.Seq.{drop-at}
+use lib.ListN.{length, getD}
 use Rattle.model.specs.Job.{Levels}
-use Rattle.replaying.specs.Calls.{flat, over}
+use Rattle.replaying.specs.Calls.{flat}
 
 abbrev no-levels : Levels
 no-levels = record { decoder = 0; buckets = [] }
@@ -41,17 +40,3 @@ unfolding flat
 flat-bucket none-left i h = absurd (omega arith)
 flat-bucket (one-more r) zero h = refl
 flat-bucket (one-more r) (suc i) h = let e : 2 * suc i + 1 ≡ suc (suc (2 * i + 1)) = omega arith in rw e (flat-bucket r i (omega arith))
-
--- a list with its first numbers replaced
-module _ (new old : List ℕ) (fits : length new ≤ length old) where
-  pub over-length : length (over new old) ≡ length old
-  unfolding over
-  over-length = length-append new (drop (length new) old) ∙ omega (arith, length-drop (length new) old)
-
-  pub over-here : (i : ℕ) → i < length new → getD (over new old) i 0 ≡ getD new i 0
-  unfolding over
-  over-here i h = List·getD-append new (drop (length new) old) 0 i h
-
-  pub over-rest : (n : ℕ) → length new ≡ n → drop n (over new old) ≡ drop n old
-  unfolding over
-  over-rest n e = rw (← e) (drop-at new (drop (length new) old) (length new) refl)

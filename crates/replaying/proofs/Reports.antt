@@ -9,21 +9,20 @@ use lib.Dec.{ltb}
 use lib.ListN.{length}
 use borrow.Author.Tests.{lt-ltb, le-ltb}
 use Rattle.model.specs.If.{if_then_else_}
-use Rattle.model.specs.Answer.{gives}
 use Rattle.model.specs.Job.{Job}
 use Rattle.model.specs.Levels.{effectiveBuffer, build, effectiveBuffers}
 use Rattle.model.proofs.Builds.{build-length, build-at}
 use Rattle.model.proofs.Tests.{branch}
-use Rattle.model.proofs.Answers.{not-refused}
 use Rattle.format.specs.Parser as P
 use Rattle.format.specs.JobBytes.{header-in, parse}
 use Rattle.pinning.specs.State.{lines}
 use Rattle.pinning.specs.Check.{checked}
 use Rattle.pinning.proofs.Agree.{matched, unmatched, checked-refused}
 use Rattle.replaying.specs.Entries.{plan-of, shaped}
-use Rattle.replaying.specs.Calls.{Ended, refuse, level-count, played, replay-in, on-job, replay-call, report-in, report-call}
-use Rattle.replaying.specs.Claims.{Keeping, Reports, Refusals}
-use Rattle.replaying.proofs.Flat.{over-length, over-here, over-rest}
+use Rattle.model.specs.Lent.{Ended, refuse, Keeping}
+use Rattle.replaying.specs.Calls.{level-count, played, replay-in, on-job, replay-call, report-in, report-call}
+use Rattle.replaying.specs.Claims.{Reports, Refusals}
+use Rattle.model.proofs.Lent.{over-length, over-here, over-rest, refuse-keeps, gives-keeps}
 
 pub reports : Reports
 unfolding report-call on-job report-in effectiveBuffers if_then_else_
@@ -44,21 +43,14 @@ not-passed true f = absurd (f refl)
 not-passed false f = refl
 
 module _ (list : List ℕ) where
-  pub refuse-keeps : {A : Type 0} (n : ℕ) → Keeping {A = A} list (refuse n list)
-  unfolding refuse
-  refuse-keeps n k e = refl
-
-  gives-keeps : {A : Type 0} (a : A) (l : List ℕ) → Keeping list (record { answer = gives a; list = l })
-  gives-keeps a l n e = absurd (not-refused e)
-
   pub on-job-keeps : {A : Type 0} (f : Job → Ended A) (r : P.Result Job) → ((j : Job) → Keeping list (f j)) → Keeping list (on-job r list f)
   unfolding on-job
-  on-job-keeps f (P.refused n) h = refuse-keeps n
+  on-job-keeps f (P.refused n) h = refuse-keeps list n
   on-job-keeps f (P.took j k) h = h j
 
   -- 14, then 12, then what is given
   tests-keep : {A : Type 0} (t u : Bool) (r : Ended A) → Keeping list r → Keeping list (if t then if u then refuse 12 list else r else refuse 14 list)
-  tests-keep t u r h = branch (Keeping list) t (λ e. branch (Keeping list) u (λ q. refuse-keeps 12) (λ q. h)) (λ e. refuse-keeps 14)
+  tests-keep t u r h = branch (Keeping list) t (λ e. branch (Keeping list) u (λ q. refuse-keeps list 12) (λ q. h)) (λ e. refuse-keeps list 14)
 
 pub refusals : Refusals
 unfolding replay-call report-call on-job replay-in report-in played if_then_else_

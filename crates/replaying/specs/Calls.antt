@@ -3,9 +3,10 @@
 use Prim.Native.Nat.{ℕ, suc, _*_}
 use mathlib.Core.List.{List, [], _∷_, _++_}
 use lib.Dec.{ltb}
-use lib.ListN.{length, drop}
+use lib.ListN.{length}
 use Rattle.model.specs.If.{if_then_else_}
-use Rattle.model.specs.Answer.{Answer, refused, gives}
+use Rattle.model.specs.Answer.{gives}
+use Rattle.model.specs.Lent.{Ended, over, refuse}
 use Rattle.model.specs.Job.{Levels, Job, intervals}
 use Rattle.model.specs.Levels.{effectiveBuffers}
 use Rattle.model.specs.Pins.{PinMap}
@@ -34,19 +35,6 @@ flat (l ∷ ls) = l .decoder ∷ (l .buckets ++ flat ls)
 -- how many numbers the levels of a job's intervals are
 unfoldable pub level-count : Job → ℕ
 level-count j = suc (length (j .line .buckets)) * intervals j
-
--- these numbers first, the rest of the list as before
-unfoldable pub over : List ℕ → List ℕ → List ℕ
-over new old = new ++ drop (length new) old
-
--- the answer, and the list that was lent
-pub record Ended (A : Type 0) : Type 0 where
-  pub answer : Answer A
-  pub list : List ℕ
-
--- a refusal writes nothing
-unfoldable pub refuse : {A : Type 0} → ℕ → List ℕ → Ended A
-refuse n list = record { answer = refused n; list = list }
 
 -- the replay of a plan in shape with these pins, its levels over the first numbers of the list
 unfoldable pub played : Job → PinMap → List ℕ → List ℕ → Ended Replayed

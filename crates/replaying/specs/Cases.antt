@@ -11,7 +11,8 @@ use Rattle.model.specs.Pins.{Call, pin, lift, PinTotals}
 use Rattle.format.specs.JobA.{bytes-a}
 use Rattle.pinning.specs.State.{State}
 use Rattle.pinning.specs.Calls.{open-call, run}
-use Rattle.replaying.specs.Calls.{Replayed, totals-are, violated, Ended, replay-call, report-call}
+use Rattle.model.specs.Lent.{Ended}
+use Rattle.replaying.specs.Calls.{Replayed, totals-are, violated, replay-call, report-call}
 
 -- calls are made on the set that opening Job A answers; then their answers and the set's totals are asked for, or a replay, or a report. The lists that are lent are of sevens
 pub data Question : Type 0 where

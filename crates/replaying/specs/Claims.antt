@@ -7,7 +7,6 @@ use mathlib.Core.Bool.{true}
 use mathlib.Core.List.{List}
 use lib.ListN.{length, getD, drop}
 use lib.IntN.{pos}
-use Rattle.model.specs.Answer as answer
 use Rattle.model.specs.Answer.{gives}
 use Rattle.model.specs.Job.{Job, Entry, intervals, PlanFits}
 use Rattle.model.specs.Levels.{decoderLevel, bucketLevel, effectiveBuffer}
@@ -19,7 +18,8 @@ use Rattle.format.specs.JobBytes.{header-in, parse}
 use Rattle.pinning.specs.State.{State, lines}
 use Rattle.pinning.specs.Check.{Matches}
 use Rattle.replaying.specs.Entries.{entry-size, plan-of, shaped, entry-bytes}
-use Rattle.replaying.specs.Calls.{Replayed, totals-are, violated, level-count, Ended, refuse, replay-call, report-call}
+use Rattle.model.specs.Lent.{Ended, refuse, Keeping}
+use Rattle.replaying.specs.Calls.{Replayed, totals-are, violated, level-count, replay-call, report-call}
 
 -- the shape check passes exactly the bytes of the plans in shape: T entries in range, two bytes each
 pub record Shapes (j : Job) : Type 0 where
@@ -55,10 +55,6 @@ pub record ReportOrder (b entries sums : List ℕ) : Type 0 where
   pub job-first : (n : ℕ) → parse b ≡ refused n → report-call b entries sums ≡ refuse n sums
   pub then-plan : (j : Job) (n : ℕ) → parse b ≡ took j n → (shaped (header-in j) entries ≡ true → ⊥) → report-call b entries sums ≡ refuse 14 sums
   pub then-list : (j : Job) (n : ℕ) → parse b ≡ took j n → shaped (header-in j) entries ≡ true → length sums < suc (length (j .units)) → report-call b entries sums ≡ refuse 12 sums
-
--- a refusal leaves the list as it came
-abbrev pub Keeping : {A : Type 0} → List ℕ → Ended A → Type 0
-Keeping list r = (n : ℕ) → r .answer ≡ answer.refused n → r .list ≡ list
 
 -- (6) for i from 0 to N, and the rest of the list as before
 pub record Reported (j : Job) (p : List Entry) (sums : List ℕ) (r : Ended (Unit {0})) : Type 0 where

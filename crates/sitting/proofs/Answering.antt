@@ -19,7 +19,9 @@ use Rattle.pins.specs.declared.PinSet.{PinSet}
 use Rattle.pins.specs.Answers.{state}
 use Rattle.replaying.specs.Entries.{entry-size}
 use Rattle.replaying.specs.Calls as replaying
-use Rattle.replaying.specs.Calls.{Replayed, Ended, replay-call}
+use Rattle.model.specs.Lent.{Ended}
+use Rattle.model.specs.Lent as lent
+use Rattle.replaying.specs.Calls.{Replayed, replay-call}
 use Rattle.planner.specs.Answers.{table-words}
 use Rattle.planner.proofs.Answering.{words-are}
 use Rattle.planning.specs.Calls.{Planned, plan-call}
@@ -76,12 +78,12 @@ module _ (b calls answers table entries : List ℕ) where
 -- a replay after calls
 module _ (b calls entries levels : List ℕ) where
   pub replay-refused : (n : ℕ) → parse b ≡ P.refused n → record { answer = refused n; list = levels } ≡ replay-sitting b calls entries levels
-  unfolding replay-sitting replaying.on-job replaying.refuse
+  unfolding replay-sitting replaying.on-job lent.refuse
   replay-refused n e = rw e
 
   module _ (j : Job) (k : ℕ) (e : parse b ≡ P.took j k) where
     pub replay-calls : (n : ℕ) → some n ≡ calls-refusal calls → record { answer = refused n; list = levels } ≡ replay-sitting b calls entries levels
-    unfolding replay-sitting replaying.on-job replay-after replaying.refuse
+    unfolding replay-sitting replaying.on-job replay-after lent.refuse
     replay-calls n f = rw (e, ← f)
 
     pub replay-made : none ≡ calls-refusal calls → (s : State) → s ≡ set-after b calls → (r : Ended Replayed) → r ≡ replay-call b s entries levels → r ≡ replay-sitting b calls entries levels

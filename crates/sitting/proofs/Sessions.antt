@@ -13,7 +13,7 @@ use Rattle.pinning.specs.State.{State}
 use Rattle.pinning.specs.Calls.{Handed, call, open-call, Sitting, after, run}
 use Rattle.pins.specs.declared.PinSet.{PinSet}
 use Rattle.pins.specs.Answers.{state}
-use Rattle.replaying.specs.Calls.{over}
+use Rattle.model.specs.Lent.{over}
 use Rattle.planning.specs.Commands.{call-at, calls-from, calls-of}
 use Rattle.planning.specs.Sittings.{answer-number}
 use Rattle.sitting.specs.Answers.{Made}

@@ -13,7 +13,7 @@ use Rattle.pins.specs.declared.PinSet.{PinSet}
 use Rattle.pins.specs.Answers.{state, number}
 use Rattle.planner.specs.declared.Planned.{Planned}
 use Rattle.planner.specs.Answers.{planned}
-use Rattle.replaying.specs.Calls.{over}
+use Rattle.model.specs.Lent.{over}
 use Rattle.planning.specs.Commands.{command, calls-of}
 use Rattle.planning.specs.Sittings.{answer-number, Sat}
 use Rattle.sitting.specs.declared.Command.{Command}

@@ -146,10 +146,10 @@ pub fn sit(
                 return Planned::Refused(planner::refusal::TABLE);
             }
             if answers.len() < calls.len() / NUMBERS {
-                return Planned::Refused(replay::refusal::LIST);
+                return Planned::Refused(job::refusal::LIST);
             }
             if entries.len() < replay::ENTRY * replay::intervals(header) {
-                return Planned::Refused(replay::refusal::LIST);
+                return Planned::Refused(job::refusal::LIST);
             }
             let set = make_calls(job, calls, answers);
             planner::plan(job, set, table, entries)

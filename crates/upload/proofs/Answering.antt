@@ -19,7 +19,8 @@ use Rattle.replay.specs.declared.Reported.{Reported}
 use Rattle.replay.specs.declared.Reported.the-variants as reports
 use Rattle.replay.specs.Answers.{violation, totals-of, ended, report-answer}
 use Rattle.replay.specs.Answers as replay
-use Rattle.replaying.specs.Calls.{over, report-call}
+use Rattle.model.specs.Lent.{over}
+use Rattle.replaying.specs.Calls.{report-call}
 use Rattle.planner.specs.declared.Planned.{Planned}
 use Rattle.planner.specs.declared.Planned.the-variants as plans
 use Rattle.planner.specs.Answers as planner

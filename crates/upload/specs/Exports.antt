@@ -12,7 +12,8 @@ use Rattle.format.specs.JobBytes.{Header}
 use Rattle.pinning.specs.Calls.{open-call}
 use Rattle.replay.specs.declared.Totals.{Totals}
 use Rattle.replay.specs.Answers.{totals-of}
-use Rattle.replaying.specs.Calls.{over, Replayed, totals-are, violated, Ended, report-call}
+use Rattle.model.specs.Lent.{Ended, over}
+use Rattle.replaying.specs.Calls.{Replayed, totals-are, violated, report-call}
 use Rattle.planner.specs.Answers.{table-words}
 use Rattle.planning.specs.Sittings.{Sat, sitting-call, replay-sitting}
 

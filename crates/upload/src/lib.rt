@@ -6,7 +6,7 @@ ghost use mathlib.Core.List.{_∷_};
 ghost use lib.ListN.{length};
 ghost use Rattle.job.specs.Answers.{plain};
 ghost use Rattle.replay.specs.Answers.{violation};
-ghost use Rattle.replaying.specs.Calls.{over};
+ghost use Rattle.model.specs.Lent.{over};
 ghost use Rattle.upload.specs.Exports.{opened-values, totals-values, violation-number, opened, open-export, planned, plan-export, replayed, replay-export, reported, report-export};
 use job::Header;
 use pins::Opening;
@@ -27,7 +27,7 @@ const REPLAY_VALUES: usize = 5;
 const DONE: u32 = 0;
 
 // The list to be filled is too short.
-const SHORT_LIST: u32 = replay::refusal::LIST as u32;
+const SHORT_LIST: u32 = job::refusal::LIST as u32;
 
 // Of a job that opens: how many bytes it took, N, T, and how many words its table has.
 fn put_opened(values: &mut [u64], taken: usize, header: Header)

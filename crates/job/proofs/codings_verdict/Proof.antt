@@ -8,19 +8,21 @@ use borrow.Author.Tests.{not-true, not-false}
 use Rattle.format.specs.Fields.{fields}
 use Rattle.format.specs.Limits.{broken}
 use Rattle.format.specs.JobBytes.{coding-limits, codings, entry-widths}
+use Rattle.format.proofs.Left.{codings-left, codings-start, codings-end, codings-step, codings-here}
+use Rattle.format.proofs.Places.{entries-count}
 use Rattle.job.specs.Answers.{verdict}
-use Rattle.job.proofs.Loops.{codings-left, codings-start, codings-end, codings-step, codings-here}
+use Rattle.job.proofs.Loops.{coding-there}
 use Rattle.job.proofs.codings_verdict.Statement.{statement}
 use Rattle.job.proofs.codings_verdict.Tie as tie
 
 abbrev Inv-loop : tie.InvT-loop
-Inv-loop body choices count x₀ x = (x ≤ choices) × (broken (coding-limits (codings (fields (entry-widths choices) body))) ≡ codings-left body choices x)
+Inv-loop body choices count x₀ x = (x ≤ choices) × (broken (coding-limits (codings (fields (entry-widths choices) body))) ≡ codings-left (codings (fields (entry-widths choices) body)) x)
 
 abbrev μ-loop : tie.MeasureT-loop
 μ-loop body choices count x₀ x = choices - x
 
 loop-holds : tie.Need-loop-holds Inv-loop μ-loop
-loop-holds c = (search needs, codings-start _ _)
+loop-holds c = (search needs, codings-start _)
 
 mul-at : tie.Need-mul-at Inv-loop μ-loop
 mul-at c = search needs
@@ -42,7 +44,7 @@ unfolding verdict
 returns c =
     let u = c .before .before in
     let k = sym (c .before .coding-fits .ensures) ∙ not-true _ (c .if1 .taken) in
-    sym (u .before .before .before .loop .inv .1 ∙ codings-here _ _ _ (omega arith) _ _ (u .before .u16-at .ensures) (u .u32-at .ensures) k)
+    sym (u .before .before .before .loop .inv .1 ∙ codings-here _ _ (rw entries-count (omega arith)) _ _ (coding-there _ _ _ (omega arith) _ _ (u .before .u16-at .ensures) (u .u32-at .ensures)) k)
 
 add-x : tie.Need-add-x Inv-loop μ-loop
 add-x c = search needs
@@ -54,11 +56,11 @@ loop-again : tie.Need-loop-again Inv-loop μ-loop
 loop-again c =
     let u = c .before .before in
     let k = sym (c .before .coding-fits .ensures) ∙ not-false _ (c .if1 .left) in
-    (search needs, u .before .before .before .loop .inv .1 ∙ codings-step _ _ _ (omega arith) _ _ (u .before .u16-at .ensures) (u .u32-at .ensures) k)
+    (search needs, u .before .before .before .loop .inv .1 ∙ codings-step _ _ (rw entries-count (omega arith)) _ _ (coding-there _ _ _ (omega arith) _ _ (u .before .u16-at .ensures) (u .u32-at .ensures)) k)
 
 returns-2 : tie.Need-returns-2 Inv-loop μ-loop
 unfolding verdict
-returns-2 c = let l = c .before in let k : l .loop .x ≡ l .before .before .args .choices = omega arith in sym (l .loop .inv .1 ∙ rw k (codings-end _ _))
+returns-2 c = let l = c .before in sym (l .loop .inv .1 ∙ codings-end _ _ (rw entries-count (omega arith)))
 
 pub codings-verdict-spec : {M : Type 1} → statement M
 codings-verdict-spec =
