@@ -1,0 +1,143 @@
+-- What is written opens and holds what was given, and a job that opens is rewritten to its bytes: the round trips of `parse` and `encode`, of a job from lists.
+-- Assumes nothing.
+use Prim.Native.Nat.{ℕ, _*_, _≤_}
+use mathlib.Core.Path.{_≡_, refl, sym, ap, _∙_}
+use mathlib.Core.Option.{Option, none, some}
+use mathlib.Core.List.{List, [], _∷_, _++_, map}
+use native.Mathlib.Omega.{arith}
+use borrow.Author.Tests.{ltb-false, le-ltb}
+use lib.Dec.{ltb}
+use lib.ListN.{length, take, drop, length-map}
+use lib.Seq.{length-take-le}
+use Rattle.model.specs.If.{if_then_else_}
+use Rattle.model.specs.Answer.{gives}
+use Rattle.model.specs.Lent.{Ended, over, refuse}
+use Rattle.model.specs.Job.{Coding, Job}
+use Rattle.model.proofs.Tests.{branch}
+use Rattle.model.proofs.Answers.{not-refused, gives-same}
+use Rattle.model.proofs.Lent.{over-length, over-rest}
+use Rattle.format.specs.Limits.{broken, AllKept}
+use Rattle.format.specs.Parser.{Each, no-more, one-more}
+use Rattle.format.specs.JobBytes.{Header, job-of, header-in, parse, encode, UnitKept, WellFormed}
+use Rattle.format.proofs.Limits.{all-kept, none-broken}
+use Rattle.format.proofs.Header.{header-back}
+use Rattle.format.proofs.RoundTrip.{job-back, parse-encode, encode-parse}
+use Rattle.writing.specs.Lists.{joined, parted, sizes-in, distortions-in, codings-from, job-from}
+use Rattle.writing.specs.Calls.{write-limits, write-in, unless, write-call}
+use Rattle.writing.specs.Claims.{Written, Writes, Rewrites}
+use Rattle.writing.proofs.Order.{Accepted, accepted, accepts}
+use Rattle.writing.proofs.Lists.{joined-parted, parted-length, parted-joined, joined-length, sizes-back, distortions-back, codings-count, codings-back, joined-kept, parted-kept}
+
+module _ (h : Header) (rates sizes distortions : List ℕ) where
+  module _ (a : Accepted h rates sizes distortions) where
+    abbrev cs : List Coding
+    cs = codings-from sizes distortions
+
+    counted : length cs ≡ h .units * h .choices
+    counted = codings-count sizes distortions (omega (arith, a .lengths)) ∙ omega (arith, a .lengths)
+
+    pub header-given : header-in (job-from h rates sizes distortions) ≡ h
+    unfolding job-from
+    header-given = header-back h rates (parted (h .units) (h .choices) cs) (omega (arith, a .lengths)) (parted-length (h .units) (h .choices) cs)
+
+    joined-given : joined (job-from h rates sizes distortions .units) ≡ cs
+    unfolding job-from job-of
+    joined-given = joined-parted (h .units) (h .choices) cs counted
+
+    pub well-given : WellFormed (job-from h rates sizes distortions)
+    well-given = record {
+      one-bucket = unfold job-from job-of in refl;
+      one-fill = unfold job-from job-of in refl;
+      header = rw header-given (a .header);
+      rates = unfold job-from job-of in (a .rates-kept);
+      units = unfold job-from job-of in (parted-kept (h .units) (h .choices) cs counted (a .codings-kept));
+    }
+
+    -- the bytes of the job over those of a list that is long enough
+    over-written : (out : List ℕ) → length (encode (job-from h rates sizes distortions)) ≤ length out → (n : ℕ) → length (encode (job-from h rates sizes distortions)) ≡ n → Written h rates sizes distortions out n (over (encode (job-from h rates sizes distortions)) out)
+    over-written out fits n e = record {
+      job = job-from h rates sizes distortions;
+      opens = unfold over in (parse-encode (job-from h rates sizes distortions) well-given _ ∙ rw e);
+      header = header-given;
+      rates-are = unfold job-from job-of in refl;
+      sizes-are = unfold sizes-in in (ap (map (λ c. c .size)) joined-given ∙ sizes-back sizes distortions (omega (arith, a .lengths)));
+      distortions-are = unfold distortions-in in (ap (map (λ c. c .distortion)) joined-given ∙ distortions-back sizes distortions (omega (arith, a .lengths)));
+      rest = over-rest (encode (job-from h rates sizes distortions)) out fits n e;
+      size = over-length (encode (job-from h rates sizes distortions)) out fits;
+    }
+
+-- what an accepted job comes to
+pub taken : (h : Header) (rates sizes distortions out : List ℕ) → AllKept (write-limits h rates sizes distortions) → write-call h rates sizes distortions out ≡ write-in (job-from h rates sizes distortions) out
+unfolding write-call unless
+taken h rates sizes distortions out k = rw (none-broken (write-limits h rates sizes distortions) k)
+
+module _ (h : Header) (rates sizes distortions out : List ℕ) where
+  abbrev Good : Ended ℕ → Type 0
+  Good r = (n : ℕ) → r .answer ≡ gives n → Written h rates sizes distortions out n (r .list)
+
+  refused-good : (n : ℕ) → Good (refuse n out)
+  unfolding refuse
+  refused-good n k e = absurd (not-refused (sym e))
+
+  written-good : Accepted h rates sizes distortions → Good (write-in (job-from h rates sizes distortions) out)
+  unfolding write-in
+  written-good a =
+      branch Good (ltb (length out) (length (encode (job-from h rates sizes distortions)))) (λ e. refused-good 12)
+      (λ e n q. over-written h rates sizes distortions a out (ltb-false (length out) _ e) n (gives-same q))
+
+  call-good : (o : Option ℕ) → broken (write-limits h rates sizes distortions) ≡ o → Good (unless o out (write-in (job-from h rates sizes distortions) out))
+  unfolding unless
+  call-good none e = written-good (accepted h rates sizes distortions (all-kept (write-limits h rates sizes distortions) e))
+  call-good (some n) e = refused-good n
+
+pub writes : Writes
+unfolding write-call
+writes h rates sizes distortions out = call-good h rates sizes distortions out (broken (write-limits h rates sizes distortions)) refl
+
+-- a job's own lists
+each-count : (m : ℕ) (us : List (List Coding)) → Each (UnitKept m) us → Each (λ u. length u ≡ m) us
+each-count m [] no-more = no-more
+each-count m (u ∷ us) (one-more k t) = one-more (k .count) (each-count m us t)
+
+module _ (j : Job) (w : WellFormed j) where
+  own-units : parted (header-in j .units) (header-in j .choices) (joined (j .units)) ≡ j .units
+  unfolding header-in
+  own-units = parted-joined (j .choices) (j .units) (each-count (j .choices) (j .units) (w .units))
+
+  own-job : job-from (header-in j) (j .line .rates) (sizes-in j) (distortions-in j) ≡ j
+  unfolding job-from sizes-in distortions-in
+  own-job =
+      ap (job-of (header-in j) (j .line .rates)) (ap (parted (header-in j .units) (header-in j .choices)) (codings-back (joined (j .units))) ∙ own-units)
+      ∙ sym (job-back j w)
+
+  own-accepted : Accepted (header-in j) (j .line .rates) (sizes-in j) (distortions-in j)
+  unfolding sizes-in distortions-in header-in
+  own-accepted =
+      let n = joined-length (j .choices) (j .units) (each-count (j .choices) (j .units) (w .units)) in
+      let s = length-map (joined (j .units)) (λ (c : Coding). c .size) in
+      let d = length-map (joined (j .units)) (λ (c : Coding). c .distortion) in
+      record {
+        header = w .header;
+        lengths = omega arith;
+        rates-kept = w .rates;
+        codings-kept = rw codings-back (joined-kept (j .choices) (j .units) (w .units));
+      }
+
+-- a list that has room for a job's bytes
+pub room-for : (j : Job) (out : List ℕ) {n : ℕ} → length (encode j) ≡ n → n ≤ length out → write-in j out ≡ record { answer = gives n; list = over (encode j) out }
+unfolding write-in if_then_else_
+room-for j out {n} k h = rw (k, le-ltb (length out) n h)
+
+over-same : (j : Job) (out l : List ℕ) (n : ℕ) → l ≡ encode j → length (encode j) ≡ n → _≡_ {A = Ended ℕ} (record { answer = gives n; list = over (encode j) out }) (record { answer = gives n; list = l ++ drop n out })
+unfolding over
+over-same j out l n e k = rw (k, e)
+
+pub rewrites : Rewrites
+rewrites b B j n e out room =
+    let r = encode-parse b B j n e in
+    let w = r .well-formed in
+    let k : length (encode j) ≡ n = ap length (sym (r .same)) ∙ length-take-le n b (r .size) in
+    taken (header-in j) (j .line .rates) (sizes-in j) (distortions-in j) out (accepts (header-in j) (j .line .rates) (sizes-in j) (distortions-in j) (own-accepted j w))
+    ∙ ap (λ (i : Job). write-in i out) (own-job j w)
+    ∙ room-for j out k room
+    ∙ over-same j out (take n b) n (r .same) k
