@@ -1,0 +1,4 @@
+-- Laws that belong to no one function.
+pub mod Setting
+pub mod Records
+pub mod Answering

@@ -1,0 +1,52 @@
+-- `writer::put_unit` meets its contract.
+-- Assumes nothing.
+use Rattle.writer.proofs.Records.{put-unit}
+use lib.ListN.{length}
+use borrow.Author.Needs.{needs}
+use Rattle.writer.proofs.put_unit.Statement.{statement}
+use Rattle.writer.proofs.put_unit.Tie as tie
+
+cast-t8 : tie.Need-cast-t8
+cast-t8 c = search needs
+
+mul-t9 : tie.Need-mul-t9
+mul-t9 c = search needs
+
+add-t10 : tie.Need-add-t10
+add-t10 c = search needs
+
+add-body : tie.Need-add-body
+add-body c = search needs
+
+slice-aggregate-put-numbers : tie.Need-slice-aggregate-put-numbers
+slice-aggregate-put-numbers c = search needs
+
+put-numbers-requires : tie.Need-put-numbers-requires
+put-numbers-requires c κs = search needs
+
+put-codings-requires : tie.Need-put-codings-requires
+put-codings-requires c κs = search needs
+
+same-length : tie.Need-same-length
+same-length c = search needs
+
+returns : tie.Need-returns
+returns c =
+    let d = c .before .before in
+    let n = d .before .before .before .before in
+    let a = n .before .before .before .before .before .before in
+    put-unit (length (a .args .sizes .now)) _ _ _ _ _ (n .put-numbers .ensures) (d .put-codings .ensures)
+
+pub put-unit-spec : {M : Type 1} → statement M
+put-unit-spec =
+    tie.close
+    (tie.spec
+    cast-t8
+    mul-t9
+    add-t10
+    add-body
+    slice-aggregate-put-numbers
+    put-numbers-requires
+    put-codings-requires
+    same-length
+    returns)

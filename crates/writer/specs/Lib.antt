@@ -1,0 +1,2 @@
+-- What the writer's answers mean.
+pub mod Answers

@@ -1,0 +1,215 @@
+// Writing a job's bytes from its header and lists (document 02, E1). Everything is looked at before a byte is written.
+pub mod refusal;
+
+ghost use mathlib.Core.Path.{_≡_};
+ghost use Prim.Native.Nat.{_+_, _*_, _≤_};
+ghost use lib.ListN.{length, replicate};
+ghost use Rattle.format.specs.Fields.{bytes, spelled};
+ghost use Rattle.format.specs.Limits.{broken, AllKept};
+ghost use Rattle.format.specs.Parser.{all-bytes};
+ghost use Rattle.format.specs.JobBytes.{header-limits, rate-limits, coding-limits, unit-values, entry-widths, unit-bytes};
+ghost use Rattle.format.specs.Places.{job-size, unit-size};
+ghost use Rattle.job.specs.Answers.{plain, verdict};
+ghost use Rattle.writing.specs.Lists.{parted, codings-from};
+ghost use Rattle.writing.specs.Calls.{length-limits, write-limits, write-call};
+ghost use Rattle.writer.specs.Answers.{wrote, put-at, front-numbers};
+use job::Header;
+use job::Verdict;
+
+// How many bytes the job took, or the refusal's number.
+pub enum Wrote {
+    Done(usize),
+    Refused(u8),
+}
+
+// 16 where a list has not as many numbers as the header calls for.
+fn lengths_verdict(header: Header, rates: &[u16], sizes: &[u16], distortions: &[u32]) -> Verdict
+    ensures { λ r. ⌜ verdict r ≡ broken (length-limits (plain header) (now (rates .entry)) (now (sizes .entry)) (now (distortions .entry))) ⌝ }
+{
+    let count = header.units as usize * (header.choices as usize);
+    if rates.len() != header.rates as usize {
+        return Verdict::Refused(refusal::LENGTHS);
+    }
+    if sizes.len() != count {
+        return Verdict::Refused(refusal::LENGTHS);
+    }
+    if distortions.len() != count {
+        return Verdict::Refused(refusal::LENGTHS);
+    }
+    Verdict::Fits
+}
+
+// 4 where a rate is over its limit or does not rise.
+fn rates_verdict(rates: &[u16]) -> Verdict
+    ensures { λ r. ⌜ verdict r ≡ broken (rate-limits 0 (now (rates .entry))) ⌝ }
+{
+    let mut low = 0;
+    for i in 0..rates.len() {
+        let rate = rates[i];
+        if !job::rate_fits(low, rate) {
+            return Verdict::Refused(job::refusal::RATES);
+        }
+        low = rate + 1;
+    }
+    Verdict::Fits
+}
+
+// 5 where a size or a distortion is over its limit.
+fn codings_verdict(sizes: &[u16], distortions: &[u32]) -> Verdict
+    requires { ⌜ length (now sizes) ≡ length (now distortions) ⌝ }
+    ensures { λ r. ⌜ verdict r ≡ broken (coding-limits (codings-from (now (sizes .entry)) (now (distortions .entry)))) ⌝ }
+{
+    for x in 0..sizes.len() {
+        if !job::coding_fits(sizes[x], distortions[x]) {
+            return Verdict::Refused(job::refusal::CODINGS);
+        }
+    }
+    Verdict::Fits
+}
+
+// All limits in document 02's order: 3, 16, 4, 5.
+fn lists_verdict(header: Header, rates: &[u16], sizes: &[u16], distortions: &[u32]) -> Verdict
+    ensures { λ r. ⌜ verdict r ≡ broken (write-limits (plain header) (now (rates .entry)) (now (sizes .entry)) (now (distortions .entry))) ⌝ }
+{
+    if let Verdict::Refused(n) = header.verdict() {
+        return Verdict::Refused(n);
+    }
+    if let Verdict::Refused(n) = lengths_verdict(header, rates, sizes, distortions) {
+        return Verdict::Refused(n);
+    }
+    if let Verdict::Refused(n) = rates_verdict(rates) {
+        return Verdict::Refused(n);
+    }
+    codings_verdict(sizes, distortions)
+}
+
+// A number as two bytes, the lower first.
+fn put16(out: &mut [u8], at: usize, value: u16)
+    requires { ⌜ at + 2 ≤ length (now out) ⌝ }
+    ensures { λ _. ⌜ now (out .exit) ≡ put-at (now (out .entry)) at (bytes 2 value) ⌝ }
+{
+    let next = at + 1;
+    out[at] = (value % 256) as u8;
+    out[next] = (value / 256) as u8;
+}
+
+// As four bytes.
+fn put32(out: &mut [u8], at: usize, value: u32)
+    requires { ⌜ at + 4 ≤ length (now out) ⌝ }
+    ensures { λ _. ⌜ now (out .exit) ≡ put-at (now (out .entry)) at (bytes 4 value) ⌝ }
+{
+    let next = at + 2;
+    put16(out, at, (value % 65536) as u16);
+    put16(out, next, (value / 65536) as u16);
+}
+
+// Numbers one after another, two bytes each.
+fn put_numbers(out: &mut [u8], at: usize, numbers: &[u16])
+    requires { ⌜ at + 2 * length (now numbers) ≤ length (now out) ⌝ }
+    ensures { λ _. ⌜ now (out .exit) ≡ put-at (now (out .entry)) at (spelled (replicate (length (now (numbers .entry))) 2) (now (numbers .entry))) ⌝ }
+{
+    let mut place = at;
+    for i in 0..numbers.len() {
+        put16(out, place, numbers[i]);
+        place += 2;
+    }
+}
+
+// A unit's codings, each a size and a distortion.
+fn put_codings(out: &mut [u8], at: usize, sizes: &[u16], distortions: &[u32])
+    requires { ⌜ (length (now sizes) ≡ length (now distortions)) × (at + 6 * length (now sizes) ≤ length (now out)) ⌝ }
+    ensures { λ _. ⌜ now (out .exit) ≡ put-at (now (out .entry)) at (spelled (entry-widths (length (now (sizes .entry)))) (unit-values (codings-from (now (sizes .entry)) (now (distortions .entry))))) ⌝ }
+{
+    let mut place = at;
+    for x in 0..sizes.len() {
+        let next = place + 2;
+        put16(out, place, sizes[x]);
+        put32(out, next, distortions[x]);
+        place += 6;
+    }
+}
+
+// A unit's record.
+fn put_unit(out: &mut [u8], at: usize, sizes: &[u16], distortions: &[u32])
+    requires { ⌜ (length (now sizes) ≡ length (now distortions)) × (length (now sizes) ≤ 1000) × (at + unit-size (length (now sizes)) ≤ length (now out)) ⌝ }
+    ensures { λ _. ⌜ now (out .exit) ≡ put-at (now (out .entry)) at (unit-bytes (length (now (sizes .entry))) (codings-from (now (sizes .entry)) (now (distortions .entry)))) ⌝ }
+{
+    let head = [2 + 6 * (sizes.len() as u16), Header::UNIT_KIND];
+    let body = at + Header::HEAD;
+    put_numbers(out, at, &head);
+    put_codings(out, body, sizes, distortions);
+}
+
+// The records of all units, so many codings each.
+fn put_units(out: &mut [u8], at: usize, header: Header, sizes: &[u16], distortions: &[u32])
+    requires { ⌜ AllKept (header-limits (plain header)) × (length (now sizes) ≡ header .units * header .choices) × (length (now distortions) ≡ header .units * header .choices) × (at + header .units * unit-size (header .choices) ≤ length (now out)) ⌝ }
+    ensures { λ _. ⌜ now (out .exit) ≡ put-at (now (out .entry)) at (all-bytes (unit-bytes (header .choices)) (parted (header .units) (header .choices) (codings-from (now (sizes .entry)) (now (distortions .entry))))) ⌝ }
+{
+    let choices = header.choices as usize;
+    let size = Header::HEAD + 6 * choices;
+    let mut from = 0;
+    let mut place = at;
+    for _ in 0..header.units {
+        let to = from + choices;
+        put_unit(out, place, &sizes[from..to], &distortions[from..to]);
+        from = to;
+        place += size;
+    }
+}
+
+// The header's record, and the head of the rates' record.
+fn put_front(out: &mut [u8], header: Header)
+    requires { ⌜ (header .rates ≤ 16) × (26 ≤ length (now out)) ⌝ }
+    ensures { λ _. ⌜ now (out .exit) ≡ put-at (now (out .entry)) 0 (spelled (replicate 13 2) (front-numbers (plain header))) ⌝ }
+{
+    let front = [
+        Header::LENGTH,
+        Header::KIND,
+        header.units,
+        header.delay,
+        header.decoder,
+        header.bucket,
+        header.drain,
+        header.level,
+        header.fill,
+        header.rates,
+        header.choices,
+        2 + 2 * header.rates,
+        Header::RATES_KIND,
+    ];
+    put_numbers(out, 0, &front);
+}
+
+// How many bytes a job with this header takes.
+pub fn job_size(header: Header) -> usize
+    ensures { λ r. ⌜ r ≡ job-size (plain header) ⌝ }
+{
+    let unit = Header::HEAD + 6 * (header.choices as usize);
+    let units = header.units as usize * unit;
+    Header::SIZE + Header::HEAD + 2 * (header.rates as usize) + units
+}
+
+// Writes the job of a header, its rates, and sizes and distortions by unit and choice, unit after unit. Bytes behind the job stay as they are.
+pub fn write_job(
+    header: Header,
+    rates: &[u16],
+    sizes: &[u16],
+    distortions: &[u32],
+    out: &mut [u8],
+) -> Wrote
+    ensures { λ r. ⌜ wrote r (now (out .exit)) ≡ write-call (plain header) (now (rates .entry)) (now (sizes .entry)) (now (distortions .entry)) (now (out .entry)) ⌝ }
+{
+    if let Verdict::Refused(n) = lists_verdict(header, rates, sizes, distortions) {
+        return Wrote::Refused(n);
+    }
+    let size = job_size(header);
+    if out.len() < size {
+        return Wrote::Refused(job::refusal::LIST);
+    }
+    let body = Header::SIZE + Header::HEAD;
+    let units = body + 2 * rates.len();
+    put_front(out, header);
+    put_numbers(out, body, rates);
+    put_units(out, units, header, sizes, distortions);
+    Wrote::Done(size)
+}
