@@ -2,11 +2,17 @@
 -- Assumes nothing.
 use Prim.Native.Nat.{ℕ, _<_, _≤_}
 use mathlib.Core.Path.{_≡_}
-use mathlib.Core.List.{List, _∷_}
+use mathlib.Core.List.{List, [], _∷_}
 use lib.ListN.{length}
-use borrow.Author.Tests.{lt-ltb, le-ltb}
+use borrow.Author.Tests.{lt-ltb, le-ltb, eq-eqb, ne-eqb}
 use Rattle.model.specs.If.{if_then_else_}
+use Rattle.format.specs.JobBytes.{header-of}
+use Rattle.job.specs.declared.Header.{Header}
 use Rattle.job.specs.Answers.{plain}
+use Rattle.writing.specs.Calls.{write-call}
+use Rattle.writer.specs.declared.Wrote.{Wrote}
+use Rattle.writer.specs.declared.Wrote.the-variants as wrotes
+use Rattle.writer.specs.Answers.{wrote-answer, wrote}
 use Rattle.pinning.specs.Calls.{open-call}
 use Rattle.pins.specs.declared.Opened.{Opened}
 use Rattle.pins.specs.declared.Opening.the-variants as opens
@@ -26,7 +32,7 @@ use Rattle.planner.specs.declared.Planned.the-variants as plans
 use Rattle.planner.specs.Answers as planner
 use Rattle.planning.specs.Sittings.{sitting-call, replay-sitting}
 use Rattle.sitting.specs.Answers.{sat-is}
-use Rattle.upload.specs.Exports.{number-of, put, opened-values, opened, open-export, totals-list, totals-values, planned, after-sitting, plan-export, violation-number, replayed-list, replayed, after-replay, replay-export, reported, report-export}
+use Rattle.upload.specs.Exports.{number-of, put, opened-values, opened, open-export, totals-list, totals-values, planned, after-sitting, plan-export, violation-number, replayed-list, replayed, after-replay, replay-export, reported, report-export, written, after-write, write-export}
 
 -- opening
 module _ (job values : List ℕ) where
@@ -86,3 +92,23 @@ module _ (job entries sums : List ℕ) (x : Reported) (new : List ℕ) (i : repl
   pub report-done : x ≡ reports.Done → reported 0 new ≡ report-export job entries sums
   unfolding report-export replay.reported report-answer number-of
   report-done q = rw (← i, q)
+
+-- writing a job
+module _ (fields rates sizes distortions job values : List ℕ) where
+  pub write-12 : length values < 1 → written 12 job values ≡ write-export fields rates sizes distortions job values
+  unfolding write-export if_then_else_
+  write-12 l = rw (lt-ltb (length values) 1 l)
+
+  module _ (room : 1 ≤ length values) where
+    pub write-3 : (length fields ≡ 9 → ⊥) → written 3 job values ≡ write-export fields rates sizes distortions job values
+    unfolding write-export if_then_else_
+    write-3 f = rw (le-ltb (length values) 1 room, ne-eqb (length fields) 9 f)
+
+    module _ (nine : length fields ≡ 9) (h : Header) (given : plain h ≡ header-of fields) (x : Wrote) (new : List ℕ) (i : wrote x new ≡ write-call (plain h) rates sizes distortions job) where
+      pub write-refused : (n : ℕ) → x ≡ wrotes.Refused n → written n new values ≡ write-export fields rates sizes distortions job values
+      unfolding write-export if_then_else_ after-write wrote wrote-answer number-of put
+      write-refused n q = rw (le-ltb (length values) 1 room, eq-eqb (length fields) 9 nine, ← given, ← i, q)
+
+      pub write-done : (n : ℕ) → x ≡ wrotes.Done n → (list : List ℕ) → list ≡ over (n ∷ []) values → written 0 new list ≡ write-export fields rates sizes distortions job values
+      unfolding write-export if_then_else_ after-write wrote wrote-answer number-of put
+      write-done n q list w = rw (le-ltb (length values) 1 room, eq-eqb (length fields) 9 nine, ← given, ← i, q, w)

@@ -2,18 +2,19 @@
 -- Assumes nothing.
 use Prim.Native.Nat.{ℕ, _+_}
 use mathlib.Core.List.{List, [], _∷_}
-use lib.Dec.{ltb}
+use lib.Dec.{ltb, eqb}
 use lib.ListN.{length}
 use Rattle.model.specs.If.{if_then_else_}
 use Rattle.model.specs.Answer.{Answer, refused, gives}
 use Rattle.model.specs.Admissible as v
 use Rattle.model.specs.Replay as model
-use Rattle.format.specs.JobBytes.{Header}
+use Rattle.format.specs.JobBytes.{Header, header-of}
 use Rattle.pinning.specs.Calls.{open-call}
 use Rattle.replay.specs.declared.Totals.{Totals}
 use Rattle.replay.specs.Answers.{totals-of}
 use Rattle.model.specs.Lent.{Ended, over}
 use Rattle.replaying.specs.Calls.{Replayed, totals-are, violated, report-call}
+use Rattle.writing.specs.Calls.{write-call}
 use Rattle.planner.specs.Answers.{table-words}
 use Rattle.planning.specs.Sittings.{Sat, sitting-call, replay-sitting}
 
@@ -105,3 +106,22 @@ reported n sums = record { number = n; sums = sums }
 
 unfoldable pub report-export : List ℕ → List ℕ → List ℕ → Reported
 report-export b entries sums = reported (number-of (report-call b entries sums .answer)) (report-call b entries sums .list)
+
+pub record Written : Type 0 where
+  pub number : ℕ
+  pub job : List ℕ
+  pub values : List ℕ
+
+abbrev pub written : ℕ → List ℕ → List ℕ → Written
+written n job values = record { number = n; job = job; values = values }
+
+-- how many bytes the job took
+unfoldable pub after-write : Ended ℕ → List ℕ → Written
+after-write r values = written (number-of (r .answer)) (r .list) (put (r .answer) (λ taken. taken ∷ []) values)
+
+-- fields that are not nine are no header
+unfoldable pub write-export : List ℕ → List ℕ → List ℕ → List ℕ → List ℕ → List ℕ → Written
+write-export fields rates sizes distortions job values =
+    if ltb (length values) 1 then written 12 job values
+    else if eqb (length fields) 9 then after-write (write-call (header-of fields) rates sizes distortions job) values
+    else written 3 job values

@@ -4,10 +4,11 @@ ghost use mathlib.Core.Path.{_≡_};
 ghost use Prim.Native.Nat.{_≤_};
 ghost use mathlib.Core.List.{_∷_};
 ghost use lib.ListN.{length};
+ghost use Rattle.format.specs.JobBytes.{header-of};
 ghost use Rattle.job.specs.Answers.{plain};
 ghost use Rattle.replay.specs.Answers.{violation};
 ghost use Rattle.model.specs.Lent.{over};
-ghost use Rattle.upload.specs.Exports.{opened-values, totals-values, violation-number, opened, open-export, planned, plan-export, replayed, replay-export, reported, report-export};
+ghost use Rattle.upload.specs.Exports.{opened-values, totals-values, violation-number, opened, open-export, planned, plan-export, replayed, replay-export, reported, report-export, written, write-export};
 use job::Header;
 use pins::Opening;
 use planner::Planned;
@@ -15,6 +16,7 @@ use replay::Replayed;
 use replay::Reported;
 use replay::Totals;
 use replay::Violation;
+use writer::Wrote;
 
 // How many values each call gives.
 const OPEN_VALUES: usize = 4;
@@ -23,11 +25,19 @@ const PLAN_VALUES: usize = 3;
 
 const REPLAY_VALUES: usize = 5;
 
+const WRITE_VALUES: usize = 1;
+
+// How many fields a header has.
+const FIELDS: usize = 9;
+
 // What is answered where a call is not refused.
 const DONE: u32 = 0;
 
 // The list to be filled is too short.
 const SHORT_LIST: u32 = job::refusal::LIST as u32;
+
+// A field of the header is out of range.
+const NO_HEADER: u32 = 3;
 
 // Of a job that opens: how many bytes it took, N, T, and how many words its table has.
 fn put_opened(values: &mut [u64], taken: usize, header: Header)
@@ -162,5 +172,50 @@ pub extern "C" fn upload_report(job: &[u8], entries: &[u8], sums: &mut [u32]) ->
     match replay::effective_buffers(job, entries, sums) {
         Reported::Refused(n) => n as u32,
         Reported::Done => DONE,
+    }
+}
+
+// The header of nine fields in their order.
+fn header_of(fields: &[u16]) -> Header
+    requires { ⌜ length (now fields) ≡ 9 ⌝ }
+    ensures { λ r. ⌜ plain r ≡ header-of (now (fields .entry)) ⌝ }
+{
+    Header {
+        units: fields[0],
+        delay: fields[1],
+        decoder: fields[2],
+        bucket: fields[3],
+        drain: fields[4],
+        level: fields[5],
+        fill: fields[6],
+        rates: fields[7],
+        choices: fields[8],
+    }
+}
+
+// Writes a job from the nine fields of its header, its rates, and sizes and distortions by unit and choice, unit after unit. Values: how many bytes the job took. Fields that are not nine are no header.
+#[no_mangle]
+pub extern "C" fn upload_write(
+    fields: &[u16],
+    rates: &[u16],
+    sizes: &[u16],
+    distortions: &[u32],
+    job: &mut [u8],
+    values: &mut [u64],
+) -> u32
+    ensures { λ r. ⌜ written r (now (job .exit)) (now (values .exit)) ≡ write-export (now (fields .entry)) (now (rates .entry)) (now (sizes .entry)) (now (distortions .entry)) (now (job .entry)) (now (values .entry)) ⌝ }
+{
+    if values.len() < WRITE_VALUES {
+        return SHORT_LIST;
+    }
+    if fields.len() != FIELDS {
+        return NO_HEADER;
+    }
+    match writer::write_job(header_of(fields), rates, sizes, distortions, job) {
+        Wrote::Refused(n) => n as u32,
+        Wrote::Done(taken) => {
+            values[0] = taken as u64;
+            DONE
+        }
     }
 }
