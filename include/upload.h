@@ -11,16 +11,17 @@
    distortion; among several the first interval at which they differ decides:
    the smaller rate index, then the smaller choice index.
 
-   Every function takes the bytes of the job and reads them again; bytes after
-   the job are not looked at. Nothing is kept between calls, and no memory is
-   taken: all that is written goes to lists that the caller lends. Calls from
-   several threads are fine as long as no list that one writes is lent to
-   another. Of the C library only memcpy and memset are used.
+   upload_write makes the bytes of a job from its header and lists. Every other
+   function takes these bytes and reads them again; bytes after the job are not
+   looked at. Nothing is kept between calls, and no memory is taken: all that is
+   written goes to lists that the caller lends. Calls from several threads are
+   fine as long as no list that one writes is lent to another. Of the C library
+   only memcpy and memset are used.
 
-   A list is a pointer and a count of its numbers. It may be longer than needed;
-   what stands past the part named as written keeps its values. A pointer is
-   never null, also where the count is 0, and is aligned for its type. A list
-   that is written overlaps no other list.
+   A list is a pointer and a count of its numbers. One that is written may be
+   longer than needed; what stands past the part named as written keeps its
+   values. A pointer is never null, also where the count is 0, and is aligned
+   for its type. A list that is written overlaps no other list.
 
    Each function answers 0, or the number of the refusal. A refusal writes
    nothing, with one exception: UPLOAD_NO_PLAN comes after the search and leaves
@@ -42,7 +43,8 @@ enum upload_refusal {
     UPLOAD_CUT = 1,             /* the bytes end within a record; or the last call is cut */
     UPLOAD_WRONG_RECORD = 2,    /* a record's kind or length is not the one due; or a call's kind
                                    is neither a pin nor a lift */
-    UPLOAD_HEADER = 3,          /* a field of the job's header is out of range */
+    UPLOAD_HEADER = 3,          /* a field of the job's header is out of range; or the fields are
+                                   not nine */
     UPLOAD_RATES = 4,           /* a rate is over 4,095, or the rates do not rise */
     UPLOAD_CHOICES = 5,         /* a choice's size or distortion is over its limit */
     UPLOAD_OTHER_JOB = 6,       /* the set of pins does not fit the job; the functions below keep
@@ -55,7 +57,8 @@ enum upload_refusal {
     UPLOAD_LIST_TOO_SHORT = 12, /* another list that is to be filled is too short */
     UPLOAD_NO_PLAN = 13,        /* no plan is admissible */
     UPLOAD_NOT_A_PLAN = 14,     /* the entries are not 2 x T bytes, or one is out of range */
-    UPLOAD_INPUT_TOO_LONG = 15  /* the program `plan` alone: more than 32,768 bytes of input */
+    UPLOAD_INPUT_TOO_LONG = 15, /* the program `plan` alone: more than 32,768 bytes of input */
+    UPLOAD_LENGTHS = 16         /* a list's length is not what the header calls for */
 };
 
 /* Calls are numbers, three a call: one of these kinds, the unit (1 to N), the
@@ -84,6 +87,10 @@ enum upload_violation {
 #define UPLOAD_OPEN_VALUES 4
 #define UPLOAD_PLAN_VALUES 3
 #define UPLOAD_REPLAY_VALUES 5
+#define UPLOAD_WRITE_VALUES 1
+
+/* How many fields a job's header has. */
+#define UPLOAD_FIELDS 9
 
 /* Opens a job: checks all of it and says what the other functions need.
 
@@ -150,6 +157,34 @@ uint32_t upload_replay(const uint8_t *job, size_t job_len,
 uint32_t upload_report(const uint8_t *job, size_t job_len,
                        const uint8_t *entries, size_t entries_len,
                        uint32_t *sums, size_t sums_len);
+
+/* Writes a job's bytes from its header and lists: the record of the header, that
+   of the rates, then one for each unit. What is written opens and holds this
+   header and these lists; a job that opens, written from its own, is the bytes
+   that it took.
+
+   fields:      exactly UPLOAD_FIELDS numbers, the header's in their order: N
+                (1 to 512), d (0 to 64), decoder size and bucket size (0 to 255
+                each), drain (0 to 4,095), the starting levels of decoder and
+                bucket (each from 0 to its size), P (1 to 16), M (1 to 31).
+   rates:       exactly P numbers, each at most 4,095, strictly rising.
+   sizes:       exactly N x M numbers by unit and choice, unit after unit: the
+                grains that the unit takes, each at most 4,095.
+   distortions: exactly N x M numbers in the order of `sizes`, each at most
+                1,000,000.
+   job:         26 + 2 x P + N x (4 + 6 x M) bytes written, never more than
+                97,338.
+   values:      1 number written: how many bytes the job took.
+
+   Refusals in order: 12 where `values` is too short; 3 where `fields` is not
+   nine numbers or one of them is out of range; 16 where `rates`, `sizes` or
+   `distortions` has another length; 4; 5; 12 where `job` is too short. */
+uint32_t upload_write(const uint16_t *fields, size_t fields_len,
+                      const uint16_t *rates, size_t rates_len,
+                      const uint16_t *sizes, size_t sizes_len,
+                      const uint32_t *distortions, size_t distortions_len,
+                      uint8_t *job, size_t job_len,
+                      uint64_t *values, size_t values_len);
 
 #ifdef __cplusplus
 }

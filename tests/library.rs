@@ -9,20 +9,23 @@
 //!     -L native=DIR -o libupload_planner.rlib bindings/rust/src/lib.rs
 //! rustc -O --edition 2021 --extern upload_planner=libupload_planner.rlib \
 //!     -o library tests/library.rs
-//! library [SEED] [--no-full] [--small]
+//! library [SEED] [--no-full] [--small] [--examples DIR]
 //! ```
 //!
 //! SEED repeats the run whose new seed was SEED; without it the clock gives
 //! one. `--no-full` leaves out the one job of the largest size, which takes most
 //! of the time. `--small` keeps to few and small jobs and lends every list as a
 //! piece of memory of its own, for runs that watch each access to memory.
+//! `--examples` adds a group: the job of each X.bin in DIR is written again, and
+//! planned with one distortion changed.
 
 use std::collections::BTreeMap;
 use std::fmt::Debug;
+use std::path::{Path, PathBuf};
 use std::process::ExitCode;
 use std::sync::atomic::{AtomicBool, Ordering};
 
-use upload_planner::{numbers, Call, Replayed, Violation};
+use upload_planner::{numbers, Call, Header, Replayed, Violation};
 
 #[allow(dead_code)]
 mod reference;
@@ -1077,7 +1080,7 @@ fn limits_group() -> Result<String, String> {
 
 /// The cases that the paper writes out, none of them worked out here.
 fn job_a_group() -> Result<String, String> {
-    use upload_planner::{best_plan, open, plan, replay, report, Refusal, Totals};
+    use upload_planner::{best_plan, open, plan, replay, report, written, Refusal, Totals};
     let job = job_a().bytes();
     let totals = |distortion, source_grains, channel_grains| Totals {
         distortion,
@@ -1124,12 +1127,31 @@ fn job_a_group() -> Result<String, String> {
     same("no bytes", Err(Refusal::Cut), open(&[]))?;
     same("drain 0", 0, opens(job_a().with(DRAIN, 0)))?;
     same("rates 2, 2", 4, opens(Draft { rates: vec![2, 2, 4], ..job_a() }))?;
-    for number in 1..=15 {
+
+    let header = Header {
+        units: 2,
+        delay: 1,
+        decoder: 4,
+        bucket: 3,
+        drain: 2,
+        level: 0,
+        fill: 0,
+        rates: 3,
+        choices: 2,
+    };
+    let (rates, sizes) = ([0, 2, 4], [4, 2, 5, 2]);
+    same("written", Ok(job), written(&header, &rates, &sizes, &[10, 30, 12, 40]))?;
+    let over = written(&header, &rates, &sizes, &[10, 30, 12, 1_000_001]);
+    same("distortion 1,000,001 written", Err(Refusal::Choices), over)?;
+    let missing = written(&header, &rates, &sizes, &[10, 30, 12]);
+    same("a distortion missing", Err(Refusal::Lengths), missing)?;
+
+    for number in 1..=16 {
         let refusal = Refusal::from_number(number).ok_or(format!("no refusal {number}"))?;
         same("a refusal's number", number, refusal.number())?;
         ensure!(!refusal.to_string().is_empty(), "refusal {number} has no words");
     }
-    same("refusals beyond", (None, None), (Refusal::from_number(0), Refusal::from_number(16)))?;
+    same("refusals beyond", (None, None), (Refusal::from_number(0), Refusal::from_number(17)))?;
     Ok("as written".to_string())
 }
 
@@ -1362,6 +1384,658 @@ fn kinds_group() -> Result<String, String> {
 }
 
 // ---------------------------------------------------------------------------
+// Writing.
+// ---------------------------------------------------------------------------
+
+/// Has a job written to lists of these lengths, and compares all that they hold
+/// afterwards with what is due. Gives the number due.
+fn check_write(
+    rng: &mut Rng,
+    lists: &Lists,
+    room: usize,
+    values: usize,
+) -> Result<Refusal, String> {
+    // A copy has no memory to spare, so that a watched run sees what is read
+    // past the end of a list.
+    let given = lists.clone();
+    let mut job = Lent::new(rng, room);
+    let mut count = Lent::new(rng, values);
+    let found = numbers::write(
+        &given.fields,
+        &given.rates,
+        &given.sizes,
+        &given.distortions,
+        job.list(),
+        count.list(),
+    );
+    let due = write_job(lists, room, values);
+    let number = due.as_ref().err().copied().unwrap_or(0);
+    same("write", number as u32, found)?;
+    match due {
+        Ok(bytes) => {
+            job.wrote("job", &bytes)?;
+            count.wrote("values of write", &[bytes.len() as u64])?;
+        }
+        Err(_) => {
+            job.kept("job")?;
+            count.kept("values of write")?;
+        }
+    }
+    Ok(number)
+}
+
+/// The header of nine fields.
+fn header_of(fields: &[u16]) -> Option<Header> {
+    let fields: [u16; 9] = fields.try_into().ok()?;
+    let [units, delay, decoder, bucket, drain, level, fill, rates, choices] = fields;
+    Some(Header { units, delay, decoder, bucket, drain, level, fill, rates, choices })
+}
+
+/// What the library itself writes.
+fn written(lists: &Lists) -> Result<Vec<u8>, String> {
+    let header = header_of(&lists.fields).ok_or("not nine fields")?;
+    let Lists { rates, sizes, distortions, .. } = lists;
+    upload_planner::written(&header, rates, sizes, distortions)
+        .map_err(|refusal| format!("refused: {refusal}"))
+}
+
+/// The typed functions give what the numbers give.
+fn check_typed_write(rng: &mut Rng, lists: &Lists, room: usize) -> Checked {
+    let Some(header) = header_of(&lists.fields) else { return Ok(()) };
+    same("a header's numbers", &lists.fields[..], &header.numbers()[..])?;
+    let Lists { rates, sizes, distortions, .. } = lists;
+    let due = write_job(lists, room, 1).map_err(u32::from);
+    let mut job = Lent::new(rng, room);
+    let found = upload_planner::write(&header, rates, sizes, distortions, job.list());
+    let count = due.as_ref().map(Vec::len).map_err(|number| *number);
+    same("typed write", count, found.map_err(|refusal| refusal.number()))?;
+    job.wrote("typed job", &due.unwrap_or_default())?;
+
+    let due = write_job(lists, usize::MAX, 1).map_err(u32::from);
+    if let Ok(bytes) = &due {
+        same("a header's bytes", bytes.len(), header.job_bytes())?;
+    }
+    let owned = upload_planner::written(&header, rates, sizes, distortions);
+    same("owned job", due, owned.map_err(|refusal| refusal.number()))
+}
+
+/// The bytes that the header calls for, up to more than any job takes.
+fn room_for(lists: &Lists) -> usize {
+    match header_of(&lists.fields) {
+        Some(header) => {
+            let [units, rates, choices] =
+                [header.units, header.rates, header.choices].map(usize::from);
+            (26 + 2 * rates + units * (4 + 6 * choices)).min(200_000)
+        }
+        None => 100,
+    }
+}
+
+// ---------------------------------------------------------------------------
+// Writing the examples again.
+// ---------------------------------------------------------------------------
+
+/// Each example's job is written as it stands in the file; with a distortion
+/// changed it opens and plans as the changed job is to.
+fn examples_group(directory: &Path) -> Result<String, String> {
+    let named = |path: &Path| format!("{}: cannot be read", path.display());
+    let listed = std::fs::read_dir(directory).map_err(|_| named(directory))?;
+    let mut paths: Vec<PathBuf> = listed.filter_map(|entry| Some(entry.ok()?.path())).collect();
+    paths.retain(|path| path.extension().is_some_and(|end| end == "bin"));
+    paths.sort();
+    let mut rng = Rng(1);
+    let (mut changes, mut plans, mut others) = (0, 0, 0);
+    for path in &paths {
+        let input = std::fs::read(path).map_err(|_| named(path))?;
+        let counts = check_example(&mut rng, &input)
+            .map_err(|trouble| format!("{}: {trouble}", path.display()))?;
+        changes += counts[0];
+        plans += counts[1];
+        others += counts[2];
+    }
+    let counts = format!(
+        "{} examples, {changes} changes, {plans} with a plan, {others} with another plan",
+        paths.len()
+    );
+    // An emptied directory would pass otherwise.
+    ensure!(others > 0, "too little in it: {counts}");
+    Ok(counts)
+}
+
+/// Gives the number of changes, of those with a plan, and of those with another
+/// plan than the example's.
+fn check_example(rng: &mut Rng, input: &[u8]) -> Result<[usize; 3], String> {
+    let mut reader = Reader { rest: input };
+    let job = read_job(&mut reader).map_err(|number| format!("no job: {number}"))?;
+    let taken = &input[..input.len() - reader.rest.len()];
+    let book = read_commands(&mut reader, &job).map_err(|number| format!("commands: {number}"))?;
+    let lists = Lists::of_job(&job);
+    for room in [taken.len(), taken.len() + 9] {
+        same("write", 0, check_write(rng, &lists, room, 1)?)?;
+    }
+    check_typed_write(rng, &lists, taken.len())?;
+    same("the example written again", taken, &written(&lists)?)?;
+
+    let held = book.iter().enumerate();
+    let pins: Vec<Command> =
+        held.filter_map(|(i, line)| Some(Pin(i as u16 + 1, (*line)? as u16))).collect();
+    let mut counts = [0; 3];
+    for commands in if pins.is_empty() { vec![vec![]] } else { vec![pins, vec![]] } {
+        let draft = lists.draft().commanded(&commands);
+        let before = check_changed(rng, &draft)?;
+        let codings = job.units.len() * job.choices();
+        for at in (0..codings).step_by(if small() { codings.div_ceil(3) } else { 1 }) {
+            let (unit, choice) = (at / job.choices(), at % job.choices());
+            for distortion in [0, rng.from(0, 300) as u32, rng.from(65_536, 1_000_000) as u32] {
+                let mut changed = draft.clone();
+                changed.units[unit][choice].1 = distortion;
+                let plan = check_changed(rng, &changed).map_err(|trouble| {
+                    format!("unit {} choice {choice}: {distortion}: {trouble}", unit + 1)
+                })?;
+                counts[0] += 1;
+                counts[1] += plan.is_some() as usize;
+                counts[2] += (plan != before) as usize;
+            }
+        }
+    }
+    Ok(counts)
+}
+
+/// Has the draft's job written, opened and planned. Gives the best plan.
+fn check_changed(rng: &mut Rng, draft: &Draft) -> Result<Option<Plan>, String> {
+    let lists = Lists::of_draft(draft);
+    same("write", 0, check_write(rng, &lists, room_for(&lists), 1)?)?;
+    let asked = Asked { bytes: written(&lists)?, ..Asked::new(rng, draft) };
+    let table = fast_table(&asked.job, &asked.book);
+    let plan = read_off(&asked.job, &asked.book, &table);
+    if asked.job.plans().is_some_and(|plans| plans <= ENUMERATION_LIMIT) {
+        same("plan read off", &enumerate(&asked.job, &asked.book).best, &plan)?;
+    }
+    check_open(rng, &asked)?;
+    check_plan(rng, &asked, &table, &plan)?;
+    check_typed(&asked, &table, &plan)?;
+    check_replayed(rng, &asked, &plan)?;
+    Ok(plan)
+}
+
+// ---------------------------------------------------------------------------
+// Limits of writing.
+// ---------------------------------------------------------------------------
+
+/// Every field, number and length at its limits and past them, each alone.
+fn write_limits_group() -> Result<String, String> {
+    let mut rng = Rng(1);
+    let parts = [field_cases(), rate_cases(), coding_cases(), length_cases(), room_cases()];
+    let cases = parts.into_iter().flatten();
+    let mut count = 0;
+    for LimitCase { lists, room, values, due, what } in cases {
+        count += 1;
+        let mut check = || -> Checked {
+            same("number", due, check_write(&mut rng, &lists, room, values)?)?;
+            check_typed_write(&mut rng, &lists, room)
+        };
+        check().map_err(|trouble| format!("{what}: {trouble}\n  {}", lists.show()))?;
+    }
+    Ok(format!("{count} cases"))
+}
+
+struct LimitCase {
+    lists: Lists,
+    /// The length of the list for the job.
+    room: usize,
+    /// The length of the list for its bytes' count.
+    values: usize,
+    due: Refusal,
+    what: String,
+}
+
+/// A case in which the lists that are filled are long enough.
+fn limit_case(lists: Lists, due: Refusal, what: String) -> LimitCase {
+    LimitCase { room: room_for(&lists) + 3, lists, values: 1, due, what }
+}
+
+/// Each field of the header.
+fn field_cases() -> Vec<LimitCase> {
+    let mut cases = Vec::new();
+    for (field, low, high) in LIMITS {
+        for value in [low, low + 1, high - 1, high] {
+            let lists = Lists::of_draft(&sized_draft(field, value));
+            cases.push(limit_case(lists, 0, format!("field {field} is {value}")));
+        }
+        for value in [low.wrapping_sub(1), high + 1, high + 256, 0x8000, 0xffff] {
+            if value < low || value > high {
+                let draft = sized_draft(field, value.min(600)).with(field, value);
+                let lists = Lists::of_draft(&draft);
+                cases.push(limit_case(lists, 3, format!("field {field} is {value}")));
+            }
+        }
+    }
+    for (size, level) in [(DECODER, START_DECODER), (BUCKET, START_BUCKET)] {
+        for (most, start, due) in
+            [(0, 0, 0), (0, 1, 3), (7, 7, 0), (7, 8, 3), (255, 255, 0), (255, 256, 3)]
+        {
+            let draft = job_a().with(size, most).with(level, start);
+            let what = format!("size {most}, starting level {start}");
+            cases.push(limit_case(Lists::of_draft(&draft), due, what));
+        }
+    }
+    cases
+}
+
+/// Rates over their limit or not rising.
+fn rate_cases() -> Vec<LimitCase> {
+    let mut cases = Vec::new();
+    let rates: [(&[u16], Refusal); 20] = [
+        (&[0], 0),
+        (&[4095], 0),
+        (&[4096], 4),
+        (&[0xffff], 4),
+        (&[0, 1], 0),
+        (&[0, 0], 4),
+        (&[1, 0], 4),
+        (&[4094, 4095], 0),
+        (&[4095, 4095], 4),
+        (&[4095, 4096], 4),
+        (&[255, 256], 0),
+        (&[256, 255], 4),
+        (&[0, 2, 4095], 0),
+        (&[0, 2, 4096], 4),
+        (&[0, 4095, 4096], 4),
+        (&[0, 2, 2], 4),
+        (&[2, 2, 4], 4),
+        (&[0, 4, 2], 4),
+        (&[4, 2, 0], 4),
+        (&[4096, 4097, 4098], 4),
+    ];
+    for (rates, due) in rates {
+        let mut lists = Lists::of_draft(&job_a().with(RATES, rates.len() as u16));
+        lists.rates = rates.to_vec();
+        cases.push(limit_case(lists, due, format!("rates {rates:?}")));
+    }
+    for place in 0..16 {
+        // As many rates as a job may have, and one of them equal to the one
+        // before it, below it, or over the limit.
+        let mut lists = Lists::of_draft(&sized_draft(RATES, 16));
+        lists.rates = (0..16).map(|rate| 4095 - 3 * (15 - rate)).collect();
+        let before = place > 0;
+        for (rate, wrong) in [
+            (lists.rates[place], false),
+            (lists.rates[place].wrapping_sub(3), before),
+            (lists.rates[place].wrapping_sub(4), before),
+            (4096 + place as u16, true),
+        ] {
+            let mut lists = lists.clone();
+            lists.rates[place] = rate;
+            let due = if wrong { 4 } else { 0 };
+            cases.push(limit_case(lists, due, format!("rate {place} is {rate}")));
+        }
+    }
+    cases
+}
+
+/// Grains and distortions, in every place.
+fn coding_cases() -> Vec<LimitCase> {
+    let mut cases = Vec::new();
+    let wide = Lists::of_draft(&Draft::new([0; 6], &[0], &vec![vec![(1, 2); 31]; 3]));
+    for lists in [Lists::of_draft(&job_a()), wide] {
+        for at in 0..lists.sizes.len() {
+            for (size, due) in [(0, 0), (255, 0), (256, 0), (4095, 0), (4096, 5), (0xffff, 5)] {
+                let mut lists = lists.clone();
+                lists.sizes[at] = size;
+                cases.push(limit_case(lists, due, format!("size {at} is {size}")));
+            }
+            for (distortion, due) in [
+                (0, 0),
+                (255, 0),
+                (256, 0),
+                (65_535, 0),
+                (65_536, 0),
+                (0x000a_0b0c, 0),
+                (1_000_000, 0),
+                (1_000_001, 5),
+                (0x0100_0000, 5),
+                (0x8000_0000, 5),
+                (u32::MAX, 5),
+            ] {
+                let mut lists = lists.clone();
+                lists.distortions[at] = distortion;
+                cases.push(limit_case(lists, due, format!("distortion {at} is {distortion}")));
+            }
+        }
+    }
+    cases
+}
+
+/// Lists that are read, of all lengths.
+fn length_cases() -> Vec<LimitCase> {
+    let mut cases = Vec::new();
+    let good = Lists::of_draft(&job_a());
+    // Some wrong lengths are the right one in eight or sixteen bits.
+    let lengths = |due: usize| [0, 1, due - 1, due, due + 1, 2 * due, due + 256, due + 65_536];
+    for length in lengths(9) {
+        let mut lists = good.clone();
+        lists.fields.resize(length, 1);
+        let due = if length == 9 { 0 } else { 3 };
+        cases.push(limit_case(lists, due, format!("{length} fields")));
+    }
+    for which in 1..8 {
+        // One list of another length, or several.
+        let has = |bit: usize| which >> bit & 1 == 1;
+        let right = if has(0) { 3 } else { 4 };
+        for length in lengths(right) {
+            let mut lists = good.clone();
+            if has(0) {
+                let rate = |at: usize| good.rates.get(at).map_or(at as u16 + 9, |&rate| rate);
+                lists.rates = (0..length).map(rate).collect();
+            }
+            if has(1) {
+                lists.sizes.resize(length, 3);
+            }
+            if has(2) {
+                lists.distortions.resize(length, 3);
+            }
+            let fit = [lists.rates.len(), lists.sizes.len(), lists.distortions.len()] == [3, 4, 4];
+            let due = if fit { 0 } else { 16 };
+            cases.push(limit_case(lists, due, format!("length {length} of lists {which:03b}")));
+        }
+    }
+    // One list longer by what the other is shorter.
+    for (sizes, distortions) in [(3, 5), (5, 3), (0, 8), (8, 0)] {
+        let mut lists = good.clone();
+        lists.sizes.resize(sizes, 3);
+        lists.distortions.resize(distortions, 3);
+        cases.push(limit_case(lists, 16, format!("{sizes} sizes, {distortions} distortions")));
+    }
+    // The header calls for more or fewer than there are.
+    for (field, value) in
+        [(RATES, 2), (RATES, 4), (UNITS, 1), (UNITS, 3), (CHOICES, 1), (CHOICES, 3)]
+    {
+        let lists = Lists::of_draft(&job_a().with(field, value));
+        cases.push(limit_case(lists, 16, format!("field {field} is {value}, the lists as before")));
+    }
+    // Two units of two choices, one of four, or four of one.
+    for (units, choices) in [(2, 2), (1, 4), (4, 1)] {
+        let lists = Lists::of_draft(&job_a().with(UNITS, units).with(CHOICES, choices));
+        cases.push(limit_case(lists, 0, format!("{units} units of {choices} choices")));
+    }
+    cases
+}
+
+/// Lists that are filled, of all lengths.
+fn room_cases() -> Vec<LimitCase> {
+    let mut cases = Vec::new();
+    let good = Lists::of_draft(&job_a());
+    for room in 0..=67 {
+        let due = if room < 64 { 12 } else { 0 };
+        let lists = good.clone();
+        cases.push(LimitCase { lists, room, values: 1, due, what: format!("{room} bytes") });
+    }
+    for values in [0, 1, 2, 9] {
+        let due = if values < 1 { 12 } else { 0 };
+        let lists = good.clone();
+        cases.push(LimitCase { lists, room: 64, values, due, what: format!("{values} values") });
+    }
+    // The smallest job and the largest, whose numbers are as large as they may
+    // be, in lists that are just enough and one byte short.
+    let smallest = Draft::new([0; 6], &[0], &[vec![(0, 0)]]);
+    let rates: Vec<u16> = (4080..=4095).collect();
+    let units = vec![vec![(4095, 1_000_000); 31]; 512];
+    let largest = Draft::new([64, 255, 255, 4095, 255, 255], &rates, &units);
+    for (draft, taken) in [(smallest, 38), (largest, 97_338)] {
+        for (room, due) in [(taken - 1, 12), (taken, 0), (taken + 1, 0)] {
+            let lists = Lists::of_draft(&draft);
+            let what = format!("{room} bytes for {taken}");
+            cases.push(LimitCase { lists, room, values: 1, due, what });
+        }
+    }
+    cases
+}
+
+// ---------------------------------------------------------------------------
+// Refusals of writing in their order.
+// ---------------------------------------------------------------------------
+
+/// In how many ways `check_write_order` has a wrong header, lengths, rates and
+/// codings, and a list too short for the job.
+const WRITE_DEFECTS: [usize; 5] = [6, 10, 4, 4, 3];
+
+/// Every set of defects at once, each in each of its ways.
+fn write_order_group() -> Result<String, String> {
+    let mut rng = Rng(1);
+    let ways: usize = WRITE_DEFECTS.iter().product();
+    let mut sets = 0;
+    for bits in 0..1 << 6 {
+        for number in (0..ways).step_by(if small() { 97 } else { 1 }) {
+            let mut rest = number;
+            let way = WRITE_DEFECTS.map(|count| {
+                let way = rest % count;
+                rest /= count;
+                way
+            });
+            let has = |bit: usize| bits >> bit & 1 == 1;
+            check_write_order(&mut rng, has, way)
+                .map_err(|trouble| format!("defects {bits:06b} in ways {way:?}: {trouble}"))?;
+            sets += 1;
+        }
+    }
+    Ok(format!("{sets} sets of defects"))
+}
+
+fn check_write_order(rng: &mut Rng, has: impl Fn(usize) -> bool, way: [usize; 5]) -> Checked {
+    let [values, header, lengths, rates, codings, short] = std::array::from_fn(has);
+    let mut lists = Lists::of_draft(&job_a());
+    // The wrong number first, then the wrong length: a length may take the last
+    // number off a list, and no other.
+    if codings {
+        match way[3] {
+            0 => lists.sizes[0] = 4096,
+            1 => lists.sizes[3] = 0xffff,
+            2 => lists.distortions[0] = 1_000_001,
+            _ => lists.distortions[3] = u32::MAX,
+        }
+    }
+    if rates {
+        match way[2] {
+            0 => lists.rates[0] = 4096,
+            1 => lists.rates[1] = 0,
+            2 => lists.rates.swap(0, 1),
+            _ => lists.rates[2] = 4096,
+        }
+    }
+    if lengths {
+        match way[1] {
+            0 => drop(lists.rates.pop()),
+            1 => lists.rates.push(4094),
+            2 => drop(lists.sizes.pop()),
+            3 => lists.sizes.push(1),
+            4 => drop(lists.distortions.pop()),
+            5 => lists.distortions.push(1),
+            6 => {
+                lists.sizes.pop();
+                lists.distortions.pop();
+            }
+            7 => lists.fields[RATES] = 2,
+            8 => lists.fields[UNITS] = 3,
+            _ => lists.fields[CHOICES] = 1,
+        }
+    }
+    if header {
+        match way[0] {
+            0 => lists.fields[DELAY] = 65,
+            1 => lists.fields[UNITS] = 0,
+            2 => lists.fields[CHOICES] = 32,
+            3 => lists.fields[START_BUCKET] = 4,
+            4 => drop(lists.fields.pop()),
+            _ => lists.fields.push(1),
+        }
+    }
+    let room = if short { [63, 22, 0][way[4]] } else { 64 };
+    let due = first_of(&[
+        (values, 12),
+        (header, 3),
+        (lengths, 16),
+        (rates, 4),
+        (codings, 5),
+        (short, 12),
+    ]);
+    let found = check_write(rng, &lists, room, !values as usize)?;
+    same("number", due, found as u32)
+}
+
+// ---------------------------------------------------------------------------
+// Jobs written.
+// ---------------------------------------------------------------------------
+
+/// Jobs of all sizes: their bytes, which open, and which are written again from
+/// what a reader finds in them.
+fn written_group(seed: u64, asks: bool) -> Result<String, String> {
+    let mut rng = Rng(seed);
+    let (mut bytes, mut long, mut wide) = (0, 0, 0);
+    let jobs = scaled(4000);
+    for index in 1..=jobs {
+        let mut draft = match index % 10 {
+            0 => random_long_job(&mut rng),
+            1 | 2 => random_job(&mut rng, &WIDE),
+            3 | 4 => random_job(&mut rng, &SITTING),
+            5 => random_job(&mut rng, &MEDIUM),
+            _ => random_job(&mut rng, &TINY),
+        };
+        draft.commands.clear();
+        let taken = check_written(&mut rng, &draft).map_err(|trouble| {
+            format!("seed {seed}, job {index}: {trouble}\n  {}", Lists::of_draft(&draft).show())
+        })?;
+        bytes += taken;
+        long += (taken > 4096) as usize;
+        wide += draft.units.iter().flatten().any(|coding| coding.1 > 65_535) as usize;
+    }
+    let counts = format!(
+        "{jobs} jobs, {bytes} bytes, {long} jobs over 4,096, {wide} with a distortion over 65,535"
+    );
+    ensure!((long * 20 > jobs && wide * 4 > jobs) || !asks, "too little in it: {counts}");
+    Ok(counts)
+}
+
+/// Gives the number of bytes that the job took.
+fn check_written(rng: &mut Rng, draft: &Draft) -> Result<usize, String> {
+    let lists = Lists::of_draft(draft);
+    let due = draft.bytes();
+    let slack = if rng.one_in(3) { 0 } else { rng.from(1, 90) };
+    let values = rng.from(1, 3);
+    same("write", 0, check_write(rng, &lists, due.len() + slack, values)?)?;
+    same("one byte short", 12, check_write(rng, &lists, due.len() - 1, values)?)?;
+    check_typed_write(rng, &lists, due.len() + slack)?;
+
+    let bytes = written(&lists)?;
+    same("written", &due, &bytes)?;
+    let asked = Asked { bytes: bytes.clone(), ..Asked::new(rng, draft) };
+    check_open(rng, &asked)?;
+    let read =
+        read_job(&mut Reader { rest: &bytes }).map_err(|number| format!("read: {number}"))?;
+    let again = Lists::of_job(&read);
+    same("what a reader finds", &lists, &again)?;
+    same("written again", bytes, written(&again)?)?;
+    Ok(due.len())
+}
+
+// ---------------------------------------------------------------------------
+// Harmed lists.
+// ---------------------------------------------------------------------------
+
+fn harmed_lists_group(seed: u64, asks: bool) -> Result<String, String> {
+    let mut rng = Rng(seed);
+    let mut tally: BTreeMap<Refusal, usize> = BTreeMap::new();
+    let inputs = scaled(40_000);
+    for index in 1..=inputs {
+        let draft = random_job(&mut rng, if index % 5 == 0 { &WIDE } else { &TINY });
+        let mut lists = Lists::of_draft(&draft);
+        for _ in 0..rng.pick(&[0, 1, 1, 1, 1, 2, 3]) {
+            harm_lists(&mut rng, &mut lists);
+        }
+        let need = room_for(&lists);
+        let room = match rng.from(0, 9) {
+            0 => need.saturating_sub(1),
+            1 => rng.from(0, need),
+            2..=5 => need,
+            _ => need + rng.from(1, 99),
+        };
+        let values = if rng.one_in(30) { 0 } else { rng.from(1, 3) };
+        let mut check = || -> Result<Refusal, String> {
+            let due = check_write(&mut rng, &lists, room, values)?;
+            check_typed_write(&mut rng, &lists, room)?;
+            Ok(due)
+        };
+        let due = check().map_err(|trouble| {
+            format!(
+                "seed {seed}, input {index}: {trouble}\n  {}\n  room {room}, values {values}",
+                lists.show()
+            )
+        })?;
+        *tally.entry(due).or_default() += 1;
+    }
+    let each: Vec<String> =
+        tally.iter().map(|(number, count)| format!("{count} {number}")).collect();
+    let counts = format!("{inputs} inputs by number ({})", each.join(", "));
+    let numbers = [0, 3, 4, 5, 12, 16];
+    let worthwhile =
+        numbers.iter().all(|number| tally.get(number).is_some_and(|c| c * 50 > inputs));
+    ensure!(worthwhile || !asks, "too little in it: {counts}");
+    Ok(counts)
+}
+
+/// Changes one number or one length, mostly near a limit.
+fn harm_lists(rng: &mut Rng, lists: &mut Lists) {
+    let limits: [u16; 16] =
+        [0, 1, 2, 16, 17, 31, 32, 64, 65, 255, 256, 512, 513, 4095, 4096, 0xffff];
+    match rng.from(0, 9) {
+        0 => change_one(rng, &mut lists.fields, |rng, _| rng.pick(&limits)),
+        1 => change_one(rng, &mut lists.fields, near),
+        2 => change_length(rng, &mut lists.fields),
+        3 if lists.fields.len() > CHOICES => {
+            // Other units and choices may have the same product.
+            lists.fields.swap(UNITS, CHOICES);
+        }
+        3 | 4 => change_one(rng, &mut lists.rates, |rng, rate| match rng.from(0, 2) {
+            0 => near(rng, rate),
+            _ => rng.pick(&limits),
+        }),
+        5 => change_length(rng, &mut lists.rates),
+        6 => change_one(rng, &mut lists.sizes, |rng, _| rng.pick(&[0, 255, 4095, 4096, 0xffff])),
+        7 => change_one(rng, &mut lists.distortions, |rng, _| {
+            rng.pick(&[0, 999_999, 1_000_000, 1_000_001, 1_000_000 << 8, 0x8000_0000])
+        }),
+        8 => change_length(rng, &mut lists.sizes),
+        _ => change_length(rng, &mut lists.distortions),
+    }
+}
+
+fn near(rng: &mut Rng, value: u16) -> u16 {
+    if rng.one_in(2) {
+        value.wrapping_add(1)
+    } else {
+        value.wrapping_sub(1)
+    }
+}
+
+fn change_one<T: Copy>(rng: &mut Rng, list: &mut [T], change: impl Fn(&mut Rng, T) -> T) {
+    if !list.is_empty() {
+        let at = rng.from(0, list.len() - 1);
+        list[at] = change(rng, list[at]);
+    }
+}
+
+/// A number more or fewer somewhere, or none left.
+fn change_length<T: Copy>(rng: &mut Rng, list: &mut Vec<T>) {
+    if !list.is_empty() {
+        let at = rng.from(0, list.len() - 1);
+        match rng.from(0, 8) {
+            0 => list.clear(),
+            1..=4 => drop(list.remove(at)),
+            _ => list.insert(at, list[at]),
+        }
+    }
+}
+
+// ---------------------------------------------------------------------------
 // Large jobs.
 // ---------------------------------------------------------------------------
 
@@ -1443,7 +2117,7 @@ fn print_group(name: &str, result: Result<String, String>) -> bool {
     result.is_ok()
 }
 
-fn run_all(new_seed: u64, with_full: bool) -> bool {
+fn run_all(new_seed: u64, with_full: bool, examples: Option<&Path>) -> bool {
     println!("new seed {new_seed}");
     let mut results = vec![
         print_group("Job A as written", job_a_group()),
@@ -1452,7 +2126,12 @@ fn run_all(new_seed: u64, with_full: bool) -> bool {
         print_group("kinds of calls", kinds_group()),
         print_group("limits", limits_group()),
         print_group("cuts at every byte", cuts_group()),
+        print_group("limits of writing", write_limits_group()),
+        print_group("refusals of writing in their order", write_order_group()),
     ];
+    if let Some(directory) = examples {
+        results.push(print_group("examples written again", examples_group(directory)));
+    }
     // How much a new seed or a small run brings is chance, so nothing is asked.
     let mut seeded = |name: &str, seeds: &[u64], group: fn(u64, bool) -> Result<String, String>| {
         for seed in seeds {
@@ -1461,6 +2140,8 @@ fn run_all(new_seed: u64, with_full: bool) -> bool {
         }
         results.push(print_group(&format!("{name}, new seed"), group(new_seed, false)));
     };
+    seeded("jobs written", &[1, 2], written_group);
+    seeded("harmed lists", &[1], harmed_lists_group);
     seeded("harmed bytes", &[1], harmed_group);
     seeded("replay and report", &[1, 2], replay_group);
     seeded("tiny jobs", &[1, 2, 3], tiny_group);
@@ -1478,20 +2159,33 @@ fn run_all(new_seed: u64, with_full: bool) -> bool {
 }
 
 fn main() -> ExitCode {
-    let (mut seed, mut with_full) = (None, true);
-    for argument in std::env::args().skip(1) {
-        if argument == "--small" {
-            SMALL.store(true, Ordering::Relaxed);
-        } else if argument == "--no-full" {
-            with_full = false;
-        } else if let Ok(number) = argument.parse() {
-            seed = Some(number);
-        } else {
-            println!("usage: library [SEED] [--no-full] [--small]");
+    let (mut seed, mut with_full, mut examples) = (None, true, None);
+    let mut arguments = std::env::args().skip(1);
+    while let Some(argument) = arguments.next() {
+        let known = match argument.as_str() {
+            "--small" => {
+                SMALL.store(true, Ordering::Relaxed);
+                true
+            }
+            "--no-full" => {
+                with_full = false;
+                true
+            }
+            "--examples" => {
+                examples = arguments.next().map(PathBuf::from);
+                examples.is_some()
+            }
+            number => {
+                seed = number.parse().ok();
+                seed.is_some()
+            }
+        };
+        if !known {
+            println!("usage: library [SEED] [--no-full] [--small] [--examples DIR]");
             return ExitCode::from(2);
         }
     }
-    if run_all(seed.unwrap_or_else(clock_seed), with_full) {
+    if run_all(seed.unwrap_or_else(clock_seed), with_full, examples.as_deref()) {
         ExitCode::SUCCESS
     } else {
         ExitCode::from(1)

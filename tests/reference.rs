@@ -1,10 +1,11 @@
 //! What the test programs share: answers worked out straight from the product's
 //! paper, and the jobs they are asked of.
 //!
-//! The answers have three parts: a reader that gives the first refusal due, an
-//! enumeration of every plan (small jobs), and a dynamic program that carries
-//! whole paths forward (the jobs too large to enumerate). Each program uses a
-//! part of what stands here.
+//! The answers have four parts: a reader that gives the first refusal due, an
+//! enumeration of every plan (small jobs), a dynamic program that carries whole
+//! paths forward (the jobs too large to enumerate), and a writer that gives a
+//! job's bytes or the first refusal due. Each program uses a part of what stands
+//! here.
 
 use std::collections::BTreeMap;
 use std::time::{SystemTime, UNIX_EPOCH};
@@ -515,6 +516,99 @@ pub fn then(mut input: Vec<u8>, tail: &[u8]) -> Vec<u8> {
     input
 }
 
+/// What a job is written from. As in a draft, anything may be wrong.
+#[derive(Clone, Debug, PartialEq)]
+pub struct Lists {
+    pub fields: Vec<u16>,
+    pub rates: Vec<u16>,
+    /// Grains by unit and choice, unit after unit.
+    pub sizes: Vec<u16>,
+    /// Distortions in the same order.
+    pub distortions: Vec<u32>,
+}
+
+impl Lists {
+    pub fn of_draft(draft: &Draft) -> Lists {
+        let codings = || draft.units.iter().flatten();
+        Lists {
+            fields: draft.header.to_vec(),
+            rates: draft.rates.clone(),
+            sizes: codings().map(|coding| coding.0).collect(),
+            distortions: codings().map(|coding| coding.1).collect(),
+        }
+    }
+
+    /// What the reader found in a job.
+    pub fn of_job(job: &Job) -> Lists {
+        let fields = [
+            job.units.len() as i64,
+            job.delay as i64,
+            job.decoder_size,
+            job.bucket_size,
+            job.drain,
+            job.start_decoder,
+            job.start_bucket,
+            job.rates.len() as i64,
+            job.choices() as i64,
+        ];
+        let codings = || job.units.iter().flatten();
+        Lists {
+            fields: fields.map(|field| field as u16).to_vec(),
+            rates: job.rates.iter().map(|&rate| rate as u16).collect(),
+            sizes: codings().map(|choice| choice.grains as u16).collect(),
+            distortions: codings().map(|choice| choice.distortion as u32).collect(),
+        }
+    }
+
+    /// The draft of a job, for nine fields of which the last is not 0.
+    pub fn draft(&self) -> Draft {
+        let codings: Vec<(u16, u32)> =
+            self.sizes.iter().copied().zip(self.distortions.iter().copied()).collect();
+        let mut header = [0; 9];
+        header.copy_from_slice(&self.fields);
+        Draft {
+            header,
+            rates: self.rates.clone(),
+            units: codings.chunks(header[CHOICES] as usize).map(<[_]>::to_vec).collect(),
+            commands: Vec::new(),
+        }
+    }
+
+    /// What to type again to see a failure.
+    pub fn show(&self) -> String {
+        format!("{self:?}").chars().take(40_000).collect()
+    }
+}
+
+/// The bytes of the job that the lists make, or the first refusal due. `room` is
+/// the length of the list for the bytes, `values` that of the list for their
+/// count.
+pub fn write_job(lists: &Lists, room: usize, values: usize) -> Result<Vec<u8>, Refusal> {
+    if values < 1 {
+        return Err(12);
+    }
+    if lists.fields.len() != 9 {
+        return Err(3);
+    }
+    let f = read_header(&words(&lists.fields))?;
+    let codings = (f[UNITS] * f[CHOICES]) as usize;
+    let lengths = [lists.rates.len(), lists.sizes.len(), lists.distortions.len()];
+    if lengths != [f[RATES] as usize, codings, codings] {
+        return Err(16);
+    }
+    // The limits of rates and codings are those that the reader holds them to.
+    let draft = lists.draft();
+    read_rates(&words(&draft.rates))?;
+    for unit in &draft.units {
+        read_unit(&unit_body(unit))?;
+    }
+    let bytes = draft.bytes();
+    if room < bytes.len() {
+        return Err(12);
+    }
+    Ok(bytes)
+}
+
 /// The paper's Job A.
 pub fn job_a() -> Draft {
     let units = [vec![(4, 10), (2, 30)], vec![(5, 12), (2, 40)]];
@@ -527,21 +621,25 @@ pub fn even_job(units: usize, levels: [u16; 6]) -> Draft {
 }
 
 /// Job A or an easy job, with one field set and the records to go with it.
-pub fn sized(field: usize, value: u16) -> Vec<u8> {
+pub fn sized_draft(field: usize, value: u16) -> Draft {
     let count = value as usize;
     let unit = |choices: usize| (0..choices).map(|c| (c as u16 % 4, 1 + c as u32)).collect();
     match field {
-        UNITS => even_job(count.max(1), [0, 2, 2, 1, 0, 0]).bytes(),
-        DELAY => Draft::new([value, 4, 3, 1, 0, 0], &[0, 1, 2], &[unit(2), unit(2)]).bytes(),
-        DECODER => Draft::new([1, value, 3, 1, 0, 0], &[0, 1], &[unit(2), unit(2)]).bytes(),
-        BUCKET => Draft::new([1, 3, value, 1, 0, 0], &[0, 1], &[unit(2), unit(2)]).bytes(),
+        UNITS => even_job(count.max(1), [0, 2, 2, 1, 0, 0]),
+        DELAY => Draft::new([value, 4, 3, 1, 0, 0], &[0, 1, 2], &[unit(2), unit(2)]),
+        DECODER => Draft::new([1, value, 3, 1, 0, 0], &[0, 1], &[unit(2), unit(2)]),
+        BUCKET => Draft::new([1, 3, value, 1, 0, 0], &[0, 1], &[unit(2), unit(2)]),
         RATES => {
             let rates: Vec<u16> = (0..value).collect();
-            Draft::new([1, 4, 3, 2, 0, 0], &rates, &[unit(2), unit(2)]).bytes()
+            Draft::new([1, 4, 3, 2, 0, 0], &rates, &[unit(2), unit(2)])
         }
-        CHOICES => Draft::new([1, 4, 3, 2, 0, 0], &[0, 2], &[unit(count), unit(count)]).bytes(),
-        _ => job_a().with(field, value).bytes(),
+        CHOICES => Draft::new([1, 4, 3, 2, 0, 0], &[0, 2], &[unit(count), unit(count)]),
+        _ => job_a().with(field, value),
     }
+}
+
+pub fn sized(field: usize, value: u16) -> Vec<u8> {
+    sized_draft(field, value).bytes()
 }
 
 pub fn patched(input: &[u8], at: usize, value: &[u8]) -> Vec<u8> {

@@ -9,11 +9,12 @@
 //! t > d, interval t decodes unit t − d. Sizes, rates and levels are counted in
 //! grains. Units and intervals are counted from 1, rates and choices from 0.
 //!
-//! [`open`], [`plan`], [`replay`] and [`report`] fill lists that the caller
-//! lends; [`best_plan`] makes the lists itself. All of them take the bytes of
-//! the job and read them again, and keep nothing between calls. Lists may be
-//! longer than needed: what stands past the part named as written keeps its
-//! values. A refusal writes nothing, except that [`Refusal::NoPlan`] comes
+//! [`write()`] makes the bytes of a job from its header and lists; [`open`],
+//! [`plan`], [`replay`] and [`report`] take these bytes and read them again.
+//! They fill lists that the caller lends; [`written`] and [`best_plan`] make
+//! the lists themselves. Nothing is kept between calls. A list that is filled
+//! may be longer than needed: what stands past the part named as written keeps
+//! its values. A refusal writes nothing, except that [`Refusal::NoPlan`] comes
 //! after the search and leaves `answers` and `table` written.
 //!
 //! The work is done by the library `libupload.a`, whose code is proved to meet
@@ -100,10 +101,12 @@ pub enum Refusal {
     /// 15: the input is longer than 32,768 bytes. The program `plan` gives
     /// this; the functions here never do.
     InputTooLong,
+    /// 16: a list's length is not what the header calls for.
+    Lengths,
 }
 
 impl Refusal {
-    const ALL: [Refusal; 15] = [
+    const ALL: [Refusal; 16] = [
         Refusal::Cut,
         Refusal::WrongRecord,
         Refusal::Header,
@@ -119,6 +122,7 @@ impl Refusal {
         Refusal::NoPlan,
         Refusal::NotAPlan,
         Refusal::InputTooLong,
+        Refusal::Lengths,
     ];
 
     /// The refusal's number, from 1.
@@ -150,6 +154,7 @@ impl fmt::Display for Refusal {
             Refusal::NoPlan => "no plan is admissible",
             Refusal::NotAPlan => "the entries are not a plan of this job",
             Refusal::InputTooLong => "the input is longer than 32,768 bytes",
+            Refusal::Lengths => "a list's length is not what the header calls for",
         })
     }
 }
@@ -187,6 +192,55 @@ impl Call {
 fn numbers_of(calls: &[Call]) -> Vec<u16> {
     calls.iter().flat_map(|call| call.numbers()).collect()
 }
+
+/// The header of a job, from which [`write()`] and [`written`] make its bytes.
+#[derive(Clone, Copy, Debug, PartialEq, Eq, Hash)]
+pub struct Header {
+    /// N, from 1 to 512.
+    pub units: u16,
+    /// d, at most 64.
+    pub delay: u16,
+    /// The decoder's size, at most 255.
+    pub decoder: u16,
+    /// The bucket's size, at most 255.
+    pub bucket: u16,
+    /// What leaves the bucket in an interval, at most 4,095.
+    pub drain: u16,
+    /// The decoder's starting level, at most its size.
+    pub level: u16,
+    /// The bucket's starting level, at most its size.
+    pub fill: u16,
+    /// P, how many rates there are, from 1 to 16.
+    pub rates: u16,
+    /// M, how many choices each unit has, from 1 to 31.
+    pub choices: u16,
+}
+
+impl Header {
+    /// The header as the nine numbers that the library takes.
+    pub fn numbers(self) -> [u16; numbers::FIELDS] {
+        [
+            self.units,
+            self.delay,
+            self.decoder,
+            self.bucket,
+            self.drain,
+            self.level,
+            self.fill,
+            self.rates,
+            self.choices,
+        ]
+    }
+
+    /// How many bytes a job of this header takes: 26 + 2 × P + N × (4 + 6 × M).
+    pub fn job_bytes(self) -> usize {
+        let [units, rates, choices] = [self.units, self.rates, self.choices].map(usize::from);
+        26 + 2 * rates + units * (4 + 6 * choices)
+    }
+}
+
+/// The bytes of the largest job.
+const LARGEST_JOB: usize = 97_338;
 
 /// What a job takes.
 #[derive(Clone, Copy, Debug, PartialEq, Eq, Hash)]
@@ -376,4 +430,91 @@ pub fn best_plan(job: &[u8], calls: &[Call]) -> Result<BestPlan, Refusal> {
     let totals = plan(job, calls, &mut answers, &mut table, &mut entries)?;
     let answers = answers.into_iter().map(|answer| checked(answer.into())).collect();
     Ok(BestPlan { totals, entries, answers, table })
+}
+
+/// Writes a job's bytes from its header and lists, and says how many they are:
+/// [`Header::job_bytes`].
+///
+/// - `rates`: P numbers, each at most 4,095, strictly rising.
+/// - `sizes`: N × M numbers by unit and choice, unit after unit: the grains that
+///   the unit takes, each at most 4,095.
+/// - `distortions`: N × M numbers in the order of `sizes`, each at most
+///   1,000,000.
+/// - `job`: the records of the header, of the rates and of each unit are
+///   written.
+///
+/// What is written opens and holds this header and these lists. A job that
+/// opens, written from its own, is the bytes that it took.
+///
+/// # Errors
+///
+/// In this order: 3 for the header; 16 where `rates`, `sizes` or `distortions`
+/// has another length; 4; 5; 12 where `job` is too short.
+pub fn write(
+    header: &Header,
+    rates: &[u16],
+    sizes: &[u16],
+    distortions: &[u32],
+    job: &mut [u8],
+) -> Result<usize, Refusal> {
+    let mut values = [0; numbers::WRITE_VALUES];
+    let fields = header.numbers();
+    checked(numbers::write(&fields, rates, sizes, distortions, job, &mut values))?;
+    Ok(values[0] as usize)
+}
+
+/// [`write()`] with a list of its own, as long as the job needs.
+///
+/// # Errors
+///
+/// In this order: 3 for the header; 16 where `rates`, `sizes` or `distortions`
+/// has another length; 4; 5.
+///
+/// # Examples
+///
+/// A distortion is corrected, and the plan follows.
+///
+/// ```
+/// use upload_planner::{best_plan, written, Header, Refusal};
+///
+/// let header = Header {
+///     units: 2,
+///     delay: 1,
+///     decoder: 4,
+///     bucket: 3,
+///     drain: 2,
+///     level: 0,
+///     fill: 0,
+///     rates: 3,
+///     choices: 2,
+/// };
+/// let rates = [0, 2, 4];
+/// let sizes = [4, 2, 5, 2];
+/// let mut distortions = [10, 30, 12, 40];
+///
+/// let job = written(&header, &rates, &sizes, &distortions)?;
+/// assert_eq!(best_plan(&job, &[])?.totals.distortion, 42);
+///
+/// // Unit 2 at its second choice is better than was thought.
+/// distortions[3] = 20;
+/// let job = written(&header, &rates, &sizes, &distortions)?;
+/// let best = best_plan(&job, &[])?;
+/// assert_eq!(best.totals.distortion, 30);
+/// assert_eq!(best.entries, [0, 255, 2, 0, 1, 1]);
+///
+/// // A distortion is missing.
+/// assert_eq!(written(&header, &rates, &sizes, &distortions[..3]), Err(Refusal::Lengths));
+/// # Ok::<(), Refusal>(())
+/// ```
+pub fn written(
+    header: &Header,
+    rates: &[u16],
+    sizes: &[u16],
+    distortions: &[u32],
+) -> Result<Vec<u8>, Refusal> {
+    // A header out of range may call for far more than any job takes; it is
+    // refused, however long the list.
+    let mut job = vec![0; header.job_bytes().min(LARGEST_JOB)];
+    write(header, rates, sizes, distortions, &mut job)?;
+    Ok(job)
 }

@@ -21,6 +21,13 @@ pub const PLAN_VALUES: usize = 3;
 /// interval or 0; then distortion, source grains and channel grains, each 0
 /// where there is a violation.
 pub const REPLAY_VALUES: usize = 5;
+/// How many values [`write()`] writes: the bytes that the job took.
+pub const WRITE_VALUES: usize = 1;
+
+/// How many fields [`write()`] takes: N, d, the sizes of decoder and bucket, the
+/// drain, the starting levels of decoder and bucket, P, M. Another count is
+/// refused with 3, as a field out of range is.
+pub const FIELDS: usize = 9;
 
 #[link(name = "upload", kind = "static")]
 extern "C" {
@@ -62,9 +69,24 @@ extern "C" {
         sums: *mut u32,
         sums_len: usize,
     ) -> u32;
+
+    fn upload_write(
+        fields: *const u16,
+        fields_len: usize,
+        rates: *const u16,
+        rates_len: usize,
+        sizes: *const u16,
+        sizes_len: usize,
+        distortions: *const u32,
+        distortions_len: usize,
+        job: *mut u8,
+        job_len: usize,
+        values: *mut u64,
+        values_len: usize,
+    ) -> u32;
 }
 
-// In all four: a slice's pointer is aligned, never null, and good for the
+// In all five: a slice's pointer is aligned, never null, and good for the
 // slice's length; slices that are written overlap no other. That is all the
 // library asks, and it reads and writes nothing else.
 
@@ -134,6 +156,33 @@ pub fn report(job: &[u8], entries: &[u8], sums: &mut [u32]) -> u32 {
             entries.len(),
             sums.as_mut_ptr(),
             sums.len(),
+        )
+    }
+}
+
+/// Writes a job's bytes from its header and lists.
+pub fn write(
+    fields: &[u16],
+    rates: &[u16],
+    sizes: &[u16],
+    distortions: &[u32],
+    job: &mut [u8],
+    values: &mut [u64],
+) -> u32 {
+    unsafe {
+        upload_write(
+            fields.as_ptr(),
+            fields.len(),
+            rates.as_ptr(),
+            rates.len(),
+            sizes.as_ptr(),
+            sizes.len(),
+            distortions.as_ptr(),
+            distortions.len(),
+            job.as_mut_ptr(),
+            job.len(),
+            values.as_mut_ptr(),
+            values.len(),
         )
     }
 }
