@@ -14,7 +14,7 @@ use upload_planner::{numbers, Call};
 #[allow(dead_code)]
 #[path = "../tests/reference.rs"]
 mod reference;
-use reference::{u16_at, u32_at, Draft, Rng, Size, FULL};
+use reference::{u16_at, u32_at, Draft, Lists, Rng, Size, FULL};
 
 const NEVER: u32 = u32::MAX;
 
@@ -34,14 +34,10 @@ struct Read<'a> {
 fn plain_open(job: &[u8]) -> Option<Read<'_>> {
     let body = plain_record(job, 0, 1, 20)?;
     let header: [usize; 9] = std::array::from_fn(|i| u16_at(body, 2 * i) as usize);
-    let limits = [512, 64, 255, 255, 4095, header[2], header[3], 16, 31];
-    if header.iter().zip(limits).any(|(field, high)| *field > high) {
+    if !plain_header(&header) {
         return None;
     }
     let [units, .., rates, choices] = header;
-    if units == 0 || rates == 0 || choices == 0 {
-        return None;
-    }
     let listed = plain_record(job, 22, 2, 2 + 2 * rates)?;
     let rising = listed.chunks_exact(2).map(|two| u16_at(two, 0) as i32);
     if !rising.clone().zip(rising.skip(1)).all(|(one, two)| one < two) {
@@ -61,6 +57,16 @@ fn plain_open(job: &[u8]) -> Option<Read<'_>> {
     }
     let taken = first + units * size;
     Some(Read { header, rates: listed, units: &job[first..taken], taken })
+}
+
+/// Whether all fields are in range.
+fn plain_header(header: &[usize; 9]) -> bool {
+    let limits = [512, 64, 255, 255, 4095, header[2], header[3], 16, 31];
+    let [units, .., rates, choices] = *header;
+    header.iter().zip(limits).all(|(field, high)| *field <= high)
+        && units > 0
+        && rates > 0
+        && choices > 0
 }
 
 fn plain_record(job: &[u8], at: usize, kind: u16, length: usize) -> Option<&[u8]> {
@@ -264,6 +270,45 @@ fn plain_report(job: &[u8], entries: &[u8], sums: &mut [u32]) -> Option<()> {
     Some(())
 }
 
+/// Checks all that is given, then writes the job; how many bytes it took.
+fn plain_write(lists: &Lists, job: &mut [u8]) -> Option<usize> {
+    let Lists { fields, rates, sizes, distortions } = lists;
+    let header: [u16; 9] = fields.as_slice().try_into().ok()?;
+    if !plain_header(&header.map(usize::from)) {
+        return None;
+    }
+    let choices = header[8] as usize;
+    let codings = header[0] as usize * choices;
+    if rates.len() != header[7] as usize || sizes.len() != codings || distortions.len() != codings {
+        return None;
+    }
+    if !rates.windows(2).all(|two| two[0] < two[1]) || rates[rates.len() - 1] > 4095 {
+        return None;
+    }
+    if sizes.iter().any(|size| *size > 4095) || distortions.iter().any(|more| *more > 1_000_000) {
+        return None;
+    }
+    let taken = 26 + 2 * rates.len() + header[0] as usize * (4 + 6 * choices);
+    let mut rest = job.get_mut(..taken)?;
+    let mut put = |bytes: &[u8]| {
+        let (front, back) = std::mem::take(&mut rest).split_at_mut(bytes.len());
+        front.copy_from_slice(bytes);
+        rest = back;
+    };
+    let heads = [[20, 1], [2 + 2 * rates.len() as u16, 2], [2 + 6 * choices as u16, 3]];
+    for number in heads[0].iter().chain(&header).chain(&heads[1]).chain(rates) {
+        put(&number.to_le_bytes());
+    }
+    for (sizes, distortions) in sizes.chunks_exact(choices).zip(distortions.chunks_exact(choices)) {
+        heads[2].iter().for_each(|number| put(&number.to_le_bytes()));
+        for (size, distortion) in sizes.iter().zip(distortions) {
+            put(&size.to_le_bytes());
+            put(&distortion.to_le_bytes());
+        }
+    }
+    Some(taken)
+}
+
 // ---------------------------------------------------------------------------
 // Jobs.
 // ---------------------------------------------------------------------------
@@ -285,8 +330,12 @@ impl Size {
     }
 }
 
-/// Units of fine and coarse codings around what the line carries.
 fn job_of(size: &Size) -> Vec<u8> {
+    draft_of(size).bytes()
+}
+
+/// Units of fine and coarse codings around what the line carries.
+fn draft_of(size: &Size) -> Draft {
     let mut rng = Rng(1);
     let rates: Vec<u16> = (0..size.rates).map(|i| (i * 40 / size.rates) as u16).collect();
     let mut unit = |_| {
@@ -300,7 +349,7 @@ fn job_of(size: &Size) -> Vec<u8> {
     };
     let units: Vec<_> = (0..size.units).map(&mut unit).collect();
     let levels = [size.delay, size.decoder, size.bucket, 20, size.decoder / 3, size.bucket / 2];
-    Draft::new(levels.map(|level| level as u16), &rates, &units).bytes()
+    Draft::new(levels.map(|level| level as u16), &rates, &units)
 }
 
 // ---------------------------------------------------------------------------
@@ -518,6 +567,28 @@ fn even_job(size: &Size) -> (Vec<u8>, Vec<u8>) {
 }
 
 fn other_tables() {
+    let mut table = Table::new("writing", "byte");
+    for part in [64, 8, 1] {
+        let size = FULL.part(part);
+        let draft = draft_of(&size);
+        let lists = Lists::of_draft(&draft);
+        let due = draft.bytes();
+        let mut jobs = [vec![0; due.len()], vec![0; due.len()]];
+        let [ours, plain] = &mut jobs;
+        let mut values = [0];
+        let times = short_in_turn(
+            || {
+                let Lists { fields, rates, sizes, distortions } = black_box(&lists);
+                black_box(numbers::write(fields, rates, sizes, distortions, ours, &mut values));
+            },
+            || {
+                black_box(plain_write(black_box(&lists), plain));
+            },
+        );
+        assert!(jobs[0] == due && jobs[1] == due, "the bytes differ");
+        table.add(line(format!("{} units", size.units), due.len() as f64, times));
+    }
+
     let mut table = Table::new("opening", "byte");
     for part in [64, 8, 1] {
         let size = FULL.part(part);

@@ -3,3 +3,4 @@ pub mod Lists
 pub mod Order
 pub mod Writes
 pub mod Refusals
+pub mod Examples
