@@ -740,16 +740,10 @@ fn write_examples(directory: &Path) -> std::io::Result<()> {
 /// Every X.bin of the directory with its X.txt. The examples written here must
 /// be among them, or an emptied directory would pass.
 fn examples_group(directory: &Path) -> Result<Group, String> {
-    let named = |path: &Path| format!("{}: cannot be read", path.display());
-    let listed = std::fs::read_dir(directory).map_err(|_| named(directory))?;
-    let mut inputs: Vec<_> = listed.filter_map(|entry| Some(entry.ok()?.path())).collect();
-    inputs.retain(|path| path.extension().is_some_and(|end| end == "bin"));
-    inputs.sort();
     let mut cases = Vec::new();
-    for path in &inputs {
+    for (path, input) in example_inputs(directory)? {
         let text_path = path.with_extension("txt");
-        let input = std::fs::read(path).map_err(|_| named(path))?;
-        let text = std::fs::read_to_string(&text_path).map_err(|_| named(&text_path))?;
+        let text = std::fs::read_to_string(&text_path).map_err(|_| cannot_read(&text_path))?;
         cases.push(case(path.display().to_string(), input, Filed(text)));
     }
     for (name, input) in examples() {

@@ -1478,16 +1478,11 @@ fn room_for(lists: &Lists) -> usize {
 /// Each example's job is written as it stands in the file; with a distortion
 /// changed it opens and plans as the changed job is to.
 fn examples_group(directory: &Path) -> Result<String, String> {
-    let named = |path: &Path| format!("{}: cannot be read", path.display());
-    let listed = std::fs::read_dir(directory).map_err(|_| named(directory))?;
-    let mut paths: Vec<PathBuf> = listed.filter_map(|entry| Some(entry.ok()?.path())).collect();
-    paths.retain(|path| path.extension().is_some_and(|end| end == "bin"));
-    paths.sort();
+    let inputs = example_inputs(directory)?;
     let mut rng = Rng(1);
     let (mut changes, mut plans, mut others) = (0, 0, 0);
-    for path in &paths {
-        let input = std::fs::read(path).map_err(|_| named(path))?;
-        let counts = check_example(&mut rng, &input)
+    for (path, input) in &inputs {
+        let counts = check_example(&mut rng, input)
             .map_err(|trouble| format!("{}: {trouble}", path.display()))?;
         changes += counts[0];
         plans += counts[1];
@@ -1495,7 +1490,7 @@ fn examples_group(directory: &Path) -> Result<String, String> {
     }
     let counts = format!(
         "{} examples, {changes} changes, {plans} with a plan, {others} with another plan",
-        paths.len()
+        inputs.len()
     );
     // An emptied directory would pass otherwise.
     ensure!(others > 0, "too little in it: {counts}");

@@ -8,6 +8,7 @@
 //! here.
 
 use std::collections::BTreeMap;
+use std::path::{Path, PathBuf};
 use std::time::{SystemTime, UNIX_EPOCH};
 
 pub const INPUT_LIMIT: usize = 32_768;
@@ -900,6 +901,23 @@ pub fn hex(bytes: &[u8]) -> String {
         text += " and more";
     }
     text
+}
+
+/// Every X.bin of the directory, by name.
+pub fn example_inputs(directory: &Path) -> Result<Vec<(PathBuf, Vec<u8>)>, String> {
+    let listed = std::fs::read_dir(directory).map_err(|_| cannot_read(directory))?;
+    let mut paths: Vec<PathBuf> = listed.filter_map(|entry| Some(entry.ok()?.path())).collect();
+    paths.retain(|path| path.extension().is_some_and(|end| end == "bin"));
+    paths.sort();
+    let read = |path: PathBuf| match std::fs::read(&path) {
+        Ok(input) => Ok((path, input)),
+        Err(_) => Err(cannot_read(&path)),
+    };
+    paths.into_iter().map(read).collect()
+}
+
+pub fn cannot_read(path: &Path) -> String {
+    format!("{}: cannot be read", path.display())
 }
 
 pub fn clock_seed() -> u64 {

@@ -2,12 +2,13 @@
 -- Assumes nothing.
 use Prim.Native.Nat.{ℕ, _+_, _<_, _≤_}
 use mathlib.Core.Path.{_≡_, refl, ap, _∙_}
+use mathlib.Core.Option.{Option, none, some}
 use mathlib.Core.List.{List, _++_}
 use native.Mathlib.Omega.{arith}
 use lib.ListN.{length, getD, drop, length-append, length-drop, List·getD-append}
 use lib.Seq.{drop-at, sets, sets-eq}
 use Rattle.model.specs.Answer.{gives}
-use Rattle.model.specs.Lent.{over, refuse, Keeping}
+use Rattle.model.specs.Lent.{Ended, over, refuse, unless, Keeping}
 use Rattle.model.proofs.Answers.{not-refused}
 
 module _ (new old : List ℕ) (fits : length new ≤ length old) where
@@ -37,3 +38,8 @@ module _ {A : Type 0} (list : List ℕ) where
 
   pub gives-keeps : (a : A) (l : List ℕ) → Keeping list (record { answer = gives a; list = l })
   gives-keeps a l n e = absurd (not-refused e)
+
+  pub unless-keeps : (o : Option ℕ) (r : Ended A) → Keeping list r → Keeping list (unless o list r)
+  unfolding unless
+  unless-keeps (some n) r h = refuse-keeps n
+  unless-keeps none r h = h

@@ -2,6 +2,7 @@
 -- Assumes nothing.
 use Prim.Native.Nat.{ℕ}
 use mathlib.Core.Path.{_≡_}
+use mathlib.Core.Option.{Option, none, some}
 use mathlib.Core.List.{List, _++_}
 use lib.ListN.{length, drop}
 use Rattle.model.specs.Answer.{Answer, refused}
@@ -17,6 +18,11 @@ over new old = new ++ drop (length new) old
 -- a refusal writes nothing
 unfoldable pub refuse : {A : Type 0} → ℕ → List ℕ → Ended A
 refuse n list = record { answer = refused n; list = list }
+
+-- a refusal that comes first, if there is one
+unfoldable pub unless : {A : Type 0} → Option ℕ → List ℕ → Ended A → Ended A
+unless (some n) list r = refuse n list
+unless none list r = r
 
 -- a refusal, if there is one, leaves the list as it came
 abbrev pub Keeping : {A : Type 0} → List ℕ → Ended A → Type 0

@@ -28,7 +28,7 @@ use Rattle.replaying.proofs.DemandTwo.{replay-calls}
 use Rattle.replaying.proofs.Reports as reports
 use Rattle.planning.specs.Calls.{Planned}
 use Rattle.planning.specs.Commands.{calls-of, calls-refusal}
-use Rattle.planning.specs.Sittings.{answer-number, refuse, sat, sit-in, on-job, sitting-call, set-after, replay-after, replay-sitting}
+use Rattle.planning.specs.Sittings.{answer-number, refuse, sat, sit-in, on-job, sitting-call, set-after, replay-sitting}
 use Rattle.planning.specs.Claims.{PlanClaim, SittingKeeping, Sittings, SittingRefusals, ReplaySittings, ReplaySittingRefusals}
 use Rattle.planning.proofs.DemandThree.{demand-three}
 use Rattle.planning.proofs.Refusals.{refusals, refuse-keeps}
@@ -99,17 +99,12 @@ module _ (b calls entries levels : List ℕ) where
   set-matches j k e = passes-matches b j k e _ (history b j k e (calls-of calls) .passes)
 
 pub replay-sittings : ReplaySittings
-unfolding replay-sitting replaying.on-job replay-after set-after
+unfolding replay-sitting replaying.on-job lent.unless set-after
 replay-sittings b j n calls entries levels parsed good fit room =
     rw (parsed, good, ← history b j n parsed (calls-of calls) .pins) (replay-calls b j n (set-after b calls) entries levels parsed (set-matches b calls entries levels j n parsed) fit room)
 
-after-keeps : (b : List ℕ) (o : Option ℕ) (calls entries levels : List ℕ) → lent.Keeping levels (replay-after b o calls entries levels)
-unfolding replay-after
-after-keeps b (some n) calls entries levels = lent-laws.refuse-keeps levels n
-after-keeps b none calls entries levels = reports.refusals b (set-after b calls) entries levels .2
-
 pub replay-sitting-refusals : ReplaySittingRefusals
-unfolding replay-sitting replaying.on-job replay-after
+unfolding replay-sitting replaying.on-job lent.unless
 replay-sitting-refusals b calls entries levels =
     let order = reports.refusals b (set-after b calls) entries levels .0 in (
       record {
@@ -118,5 +113,5 @@ replay-sitting-refusals b calls entries levels =
         then-plan = λ j k e q f. rw (e, q) (order .then-plan j k e (set-matches b calls entries levels j k e) f);
         then-list = λ j k e q f l. rw (e, q) (order .then-list j k e (set-matches b calls entries levels j k e) f l);
       },
-      reports.on-job-keeps levels _ (parse b) (λ j. after-keeps b (calls-refusal calls) calls entries levels),
+      reports.on-job-keeps levels _ (parse b) (λ j. lent-laws.unless-keeps levels (calls-refusal calls) _ (reports.refusals b (set-after b calls) entries levels .2)),
     )

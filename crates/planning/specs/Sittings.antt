@@ -64,12 +64,8 @@ sitting-call b calls answers table entries = on-job b (parse b) calls answers ta
 unfoldable pub set-after : List ℕ → List ℕ → State
 set-after b calls = run b (open-call b .state) (calls-of calls) .state
 
-unfoldable pub replay-after : List ℕ → Option ℕ → List ℕ → List ℕ → List ℕ → Ended Replayed
-replay-after b (some n) calls entries levels = lent.refuse n levels
-replay-after b none calls entries levels = replay-call b (set-after b calls) entries levels
-
 unfoldable pub replay-sitting : List ℕ → List ℕ → List ℕ → List ℕ → Ended Replayed
-replay-sitting b calls entries levels = replaying.on-job (parse b) levels (λ j. replay-after b (calls-refusal calls) calls entries levels)
+replay-sitting b calls entries levels = replaying.on-job (parse b) levels (λ j. lent.unless (calls-refusal calls) levels (replay-call b (set-after b calls) entries levels))
 
 -- how many bytes the program takes
 abbrev pub input-size : ℕ

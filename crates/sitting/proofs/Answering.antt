@@ -27,7 +27,7 @@ use Rattle.planner.proofs.Answering.{words-are}
 use Rattle.planning.specs.Calls.{Planned, plan-call}
 use Rattle.planning.specs.Calls as plan
 use Rattle.planning.specs.Commands.{calls-refusal}
-use Rattle.planning.specs.Sittings.{Sat, refuse, sat, sit-in, on-job, sitting-call, set-after, replay-after, replay-sitting}
+use Rattle.planning.specs.Sittings.{Sat, refuse, sat, sit-in, on-job, sitting-call, set-after, replay-sitting}
 use Rattle.sitting.specs.Answers.{Made}
 
 module _ (b calls answers table entries : List ℕ) where
@@ -83,9 +83,9 @@ module _ (b calls entries levels : List ℕ) where
 
   module _ (j : Job) (k : ℕ) (e : parse b ≡ P.took j k) where
     pub replay-calls : (n : ℕ) → some n ≡ calls-refusal calls → record { answer = refused n; list = levels } ≡ replay-sitting b calls entries levels
-    unfolding replay-sitting replaying.on-job replay-after lent.refuse
+    unfolding replay-sitting replaying.on-job lent.unless lent.refuse
     replay-calls n f = rw (e, ← f)
 
     pub replay-made : none ≡ calls-refusal calls → (s : State) → s ≡ set-after b calls → (r : Ended Replayed) → r ≡ replay-call b s entries levels → r ≡ replay-sitting b calls entries levels
-    unfolding replay-sitting replaying.on-job replay-after
+    unfolding replay-sitting replaying.on-job lent.unless
     replay-made f s q r i = rw (e, ← f, ← q) i

@@ -37,7 +37,7 @@ const DONE: u32 = 0;
 const SHORT_LIST: u32 = job::refusal::LIST as u32;
 
 // A field of the header is out of range.
-const NO_HEADER: u32 = 3;
+const NO_HEADER: u32 = job::refusal::HEADER as u32;
 
 // Of a job that opens: how many bytes it took, N, T, and how many words its table has.
 fn put_opened(values: &mut [u64], taken: usize, header: Header)

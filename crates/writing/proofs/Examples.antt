@@ -5,11 +5,11 @@ use mathlib.Core.Path.{_≡_, refl}
 use mathlib.Core.List.{List, [], _∷_, _++_, map, zipWith}
 use lib.ListN.{replicate}
 use Rattle.model.specs.Answer.{Answer, refused, gives}
-use Rattle.model.specs.Lent.{over, refuse}
+use Rattle.model.specs.Lent.{over, refuse, unless}
 use Rattle.format.specs.JobBytes.{Header, computes}
 use Rattle.format.specs.JobA.{header-a, bytes-a}
 use Rattle.writing.specs.Lists.{parted, codings-from, job-from}
-use Rattle.writing.specs.Calls.{write-limits, write-in, unless, write-call}
+use Rattle.writing.specs.Calls.{write-limits, write-in, write-call}
 
 -- its 64 bytes, in a list of 66
 writes-a : write-call header-a (0 ∷ 2 ∷ 4 ∷ []) (4 ∷ 2 ∷ 5 ∷ 2 ∷ []) (10 ∷ 30 ∷ 12 ∷ 40 ∷ []) (replicate 66 7) ≡ record { answer = gives 64; list = bytes-a ++ (7 ∷ 7 ∷ []) }

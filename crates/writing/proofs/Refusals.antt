@@ -2,7 +2,7 @@
 -- Assumes nothing.
 use Prim.Native.Nat.{ℕ, _<_, _≤_}
 use mathlib.Core.Path.{_≡_, refl, ap, _∙_}
-use mathlib.Core.Option.{Option, none, some}
+use mathlib.Core.Option.{some}
 use mathlib.Core.List.{List, [], _∷_}
 use borrow.Author.Tests.{lt-ltb, le-ltb}
 use lib.Dec.{ltb}
@@ -10,17 +10,17 @@ use lib.ListN.{length}
 use native.Mathlib.Omega.{arith}
 use Rattle.model.specs.If.{if_then_else_}
 use Rattle.model.specs.Answer.{gives}
-use Rattle.model.specs.Lent.{Ended, refuse, Keeping}
+use Rattle.model.specs.Lent.{Ended, refuse, Keeping, unless}
 use Rattle.model.specs.Job.{Coding}
 use Rattle.model.proofs.Tests.{branch}
-use Rattle.model.proofs.Lent.{refuse-keeps, gives-keeps}
+use Rattle.model.proofs.Lent.{refuse-keeps, gives-keeps, unless-keeps}
 use Rattle.format.specs.Limits.{broken, AllKept}
 use Rattle.format.specs.JobBytes.{Header, header-limits, rate-limits, coding-limits, encode}
 use Rattle.format.specs.Places.{job-size}
 use Rattle.format.proofs.Limits.{AllOf, broken-one}
 use Rattle.format.proofs.RoundTrip.{sized}
 use Rattle.writing.specs.Lists.{codings-from, job-from}
-use Rattle.writing.specs.Calls.{length-limits, write-limits, write-in, unless, write-call}
+use Rattle.writing.specs.Calls.{length-limits, write-limits, write-in, write-call}
 use Rattle.writing.specs.Claims.{Refusals}
 use Rattle.writing.proofs.Order.{accepted, at-header, at-lengths, at-rates, at-codings}
 use Rattle.writing.proofs.Writes.{header-given, well-given, taken}
@@ -56,10 +56,9 @@ module _ (h : Header) (rates sizes distortions out : List ℕ) where
   unfolding write-in if_then_else_
   enough l = rw (le-ltb (length out) _ l)
 
-  call-keeps : (o : Option ℕ) → Keeping out (unless o out (write-in (job-from h rates sizes distortions) out))
-  unfolding unless write-in
-  call-keeps none = branch (Keeping out) (ltb (length out) (length (encode (job-from h rates sizes distortions)))) (λ e. refuse-keeps out 12) (λ e. gives-keeps out _ _)
-  call-keeps (some n) = refuse-keeps out n
+  in-keeps : Keeping out (write-in (job-from h rates sizes distortions) out)
+  unfolding write-in
+  in-keeps = branch (Keeping out) (ltb (length out) (length (encode (job-from h rates sizes distortions)))) (λ e. refuse-keeps out 12) (λ e. gives-keeps out _ _)
 
 pub refusals : Refusals
 refusals h rates sizes distortions out = (
@@ -71,5 +70,5 @@ refusals h rates sizes distortions out = (
     then-list = λ k l. taken h rates sizes distortions out k ∙ short h rates sizes distortions out (omega (arith, size-given h rates sizes distortions out k));
     else-taken = λ k l. ap (λ (r : Ended ℕ). r .answer) (taken h rates sizes distortions out k) ∙ enough h rates sizes distortions out (omega (arith, size-given h rates sizes distortions out k)) ∙ ap gives (size-given h rates sizes distortions out k);
   },
-  unfold write-call in (call-keeps h rates sizes distortions out (broken (write-limits h rates sizes distortions))),
+  unfold write-call in (unless-keeps out (broken (write-limits h rates sizes distortions)) _ (in-keeps h rates sizes distortions out)),
 )

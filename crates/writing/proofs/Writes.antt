@@ -11,7 +11,7 @@ use lib.ListN.{length, take, drop, length-map}
 use lib.Seq.{length-take-le}
 use Rattle.model.specs.If.{if_then_else_}
 use Rattle.model.specs.Answer.{gives}
-use Rattle.model.specs.Lent.{Ended, over, refuse}
+use Rattle.model.specs.Lent.{Ended, over, refuse, unless}
 use Rattle.model.specs.Job.{Coding, Job}
 use Rattle.model.proofs.Tests.{branch}
 use Rattle.model.proofs.Answers.{not-refused, gives-same}
@@ -23,7 +23,7 @@ use Rattle.format.proofs.Limits.{all-kept, none-broken}
 use Rattle.format.proofs.Header.{header-back}
 use Rattle.format.proofs.RoundTrip.{job-back, parse-encode, encode-parse}
 use Rattle.writing.specs.Lists.{joined, parted, sizes-in, distortions-in, codings-from, job-from}
-use Rattle.writing.specs.Calls.{write-limits, write-in, unless, write-call}
+use Rattle.writing.specs.Calls.{write-limits, write-in, write-call}
 use Rattle.writing.specs.Claims.{Written, Writes, Rewrites}
 use Rattle.writing.proofs.Order.{Accepted, accepted, accepts}
 use Rattle.writing.proofs.Lists.{joined-parted, parted-length, parted-joined, joined-length, sizes-back, distortions-back, codings-count, codings-back, joined-kept, parted-kept}

@@ -1,13 +1,12 @@
 -- What writing a job answers, and what it leaves in the list of bytes that was lent (document 02, E1).
 -- Assumes nothing.
 use Prim.Native.Nat.{ℕ, _*_}
-use mathlib.Core.Option.{Option, none, some}
 use mathlib.Core.List.{List, [], _∷_, _++_}
 use lib.Dec.{ltb}
 use lib.ListN.{length}
 use Rattle.model.specs.If.{if_then_else_}
 use Rattle.model.specs.Answer.{gives}
-use Rattle.model.specs.Lent.{Ended, over, refuse}
+use Rattle.model.specs.Lent.{Ended, over, refuse, unless}
 use Rattle.model.specs.Job.{Job}
 use Rattle.format.specs.Limits.{Limit, limit, broken}
 use Rattle.format.specs.JobBytes.{Header, header-limits, rate-limits, coding-limits, encode}
@@ -31,10 +30,6 @@ unfoldable pub write-in : Job → List ℕ → Ended ℕ
 write-in j out =
     if ltb (length out) (length (encode j)) then refuse 12 out
     else record { answer = gives (length (encode j)); list = over (encode j) out }
-
-unfoldable pub unless : Option ℕ → List ℕ → Ended ℕ → Ended ℕ
-unless (some n) out r = refuse n out
-unless none out r = r
 
 -- the first limit that is not kept refuses, and 12 comes last; else the answer is how many bytes the job took
 unfoldable pub write-call : Header → List ℕ → List ℕ → List ℕ → List ℕ → Ended ℕ
