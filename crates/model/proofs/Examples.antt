@@ -8,7 +8,8 @@ use lib.IntN.{pos, negsuc}
 use Rattle.model.specs.Job.{Coding, Levels, Job, Entry}
 use Rattle.model.specs.Levels.{effectiveBuffers}
 use Rattle.model.specs.Pins.{PinMap, no-pins, Call, pin, lift, pins-after, answers, pin-totals}
-use Rattle.model.specs.Admissible.{decoder-underflow, decoder-overflow, Ending, ending}
+use Rattle.model.specs.Admissible.{decoder-overflow, decoder-underflow, breaks, holds, Ending, ending}
+use Rattle.model.specs.Step.{decoder-step}
 use Rattle.model.specs.Replay.{totals, clean, stopped, Replay, replay}
 use Rattle.model.specs.Best.{late, least-total, best-plan}
 use Rattle.model.specs.Table.{words}
@@ -45,23 +46,32 @@ pins calls = pins-after 2 (no-pins 2) calls
 abbrev best : PinMap → List Entry
 best m = best-plan job-a m 0 (job-a .start) late
 
--- the plan that document 01 prints
-printed-best : best (no-pins 2) ≡ plan 1 1 1 2 0
+-- the plan that is printed since document 02, E2. A decoder of 4 cannot hold the 5 of unit 2 at choice 0, so unit 2 has 40; unit 1 at choice 0 takes 4, all that there is room for
+printed-best : best (no-pins 2) ≡ plan 0 2 0 1 1
 unfolding evaluate
 printed-best = refl
 
-printed-replayed : replayed (plan 1 1 1 2 0) ≡ record { levels = filled 2 0 ∷ filled 2 0 ∷ filled 1 2 ∷ []; result = clean }
+printed-replayed : replayed (plan 0 2 0 1 1) ≡ record { levels = filled 0 0 ∷ filled 0 2 ∷ filled 0 2 ∷ []; result = clean }
 unfolding evaluate
 printed-replayed = refl
 
-printed-totals : totals job-a 0 (plan 1 1 1 2 0) ≡ record { distortion = 42; source = 7; channel = 8 }
+printed-totals : totals job-a 0 (plan 0 2 0 1 1) ≡ record { distortion = 50; source = 6; channel = 6 }
 unfolding evaluate
 printed-totals = refl
 
--- (6): what one interval sends, since the delay is 1
-printed-buffers : effectiveBuffers job-a (plan 1 1 1 2 0) ≡ 2 ∷ 2 ∷ 4 ∷ []
+-- the plan of 42 that was the best before: interval 3 peaks at 2 + 4, though only 1 is left when the unit has gone
+former-replayed : replayed (plan 1 1 1 2 0) ≡ record { levels = filled 2 0 ∷ filled 2 0 ∷ []; result = stopped 3 decoder-overflow }
 unfolding evaluate
-printed-buffers = refl
+former-replayed = refl
+
+former-levels : ends-with (plan 1 1 1 2 0) 3 ≡ record { peak = pos 6; decoder = pos 1; buckets = 2 ∷ []; pinned = none; choice = some 0 }
+unfolding evaluate
+former-levels = refl
+
+-- (6) of it: what one interval sends, since the delay is 1. The report asks for no admissible plan
+former-buffers : effectiveBuffers job-a (plan 1 1 1 2 0) ≡ 2 ∷ 2 ∷ 4 ∷ []
+unfolding evaluate
+former-buffers = refl
 
 printed-words : words job-a ≡ 80
 unfolding evaluate
@@ -72,11 +82,7 @@ pinned-best : best (pins (pin 1 0 ∷ [])) ≡ plan 0 2 0 1 1
 unfolding evaluate
 pinned-best = refl
 
-pinned-totals : totals job-a 0 (plan 0 2 0 1 1) ≡ record { distortion = 50; source = 6; channel = 6 }
-unfolding evaluate
-pinned-totals = refl
-
-lifted-best : best (pins (pin 1 0 ∷ lift 1 ∷ [])) ≡ plan 1 1 1 2 0
+lifted-best : best (pins (pin 1 0 ∷ lift 1 ∷ [])) ≡ plan 0 2 0 1 1
 unfolding evaluate
 lifted-best = refl
 
@@ -97,12 +103,12 @@ refusals : answers 2 (no-pins 2) (lift 1 ∷ pin 0 0 ∷ pin 3 0 ∷ pin 3 2 ∷
 unfolding evaluate
 refusals = refl
 
--- interval 2: decoder over (6), though the bucket is over too (4)
+-- interval 2: decoder over, at its peak (8) and after the unit (6), though the bucket is over too (4)
 over-replayed : replayed (plan 2 2 1 0 0) ≡ record { levels = filled 4 2 ∷ []; result = stopped 2 decoder-overflow }
 unfolding evaluate
 over-replayed = refl
 
-over-levels : ends-with (plan 2 2 1 0 0) 2 ≡ record { decoder = pos 6; buckets = 4 ∷ []; pinned = none; choice = some 1 }
+over-levels : ends-with (plan 2 2 1 0 0) 2 ≡ record { peak = pos 8; decoder = pos 6; buckets = 4 ∷ []; pinned = none; choice = some 1 }
 unfolding evaluate
 over-levels = refl
 
@@ -111,6 +117,16 @@ short-replayed : replayed (plan 0 0 1 0 1) ≡ record { levels = filled 0 0 ∷ 
 unfolding evaluate
 short-replayed = refl
 
-short-levels : ends-with (plan 0 0 1 0 1) 2 ≡ record { decoder = negsuc 1; buckets = 0 ∷ []; pinned = none; choice = some 1 }
+short-levels : ends-with (plan 0 0 1 0 1) 2 ≡ record { peak = pos 0; decoder = negsuc 1; buckets = 0 ∷ []; pinned = none; choice = some 1 }
 unfolding evaluate
 short-levels = refl
+
+-- over is named before short: a peak of 8 in a decoder of 4, and a unit of 9
+both-replayed : decoder-step 4 4 4 9 ≡ breaks decoder-overflow
+unfolding evaluate
+both-replayed = refl
+
+-- a peak of 4 is within it, and all of it may leave
+full-held : decoder-step 4 0 4 4 ≡ holds 0
+unfolding evaluate
+full-held = refl

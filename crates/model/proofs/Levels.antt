@@ -8,7 +8,7 @@ use native.Mathlib.Omega.{arith}
 use lib.IntN.{pos}
 use Rattle.model.specs.Job.{Bucket, Levels, Job, Entry, sends, takes}
 use Rattle.model.specs.Pins.{PinMap, pinAt}
-use Rattle.model.specs.Levels.{entryOf, sent, taken, decoderLevel, bucketLevel, bucketLevels}
+use Rattle.model.specs.Levels.{entryOf, sent, taken, decoderLevel, decoderPeak, bucketLevel, bucketLevels}
 use Rattle.model.specs.Admissible.{Shows, ending}
 use Rattle.model.specs.Step.{bucket-step, poured, outcome}
 use Rattle.model.proofs.Outcome.{Judged, outcome-judged}
@@ -36,13 +36,13 @@ module _ (j : Job) (s : ℕ) (e : Entry) (p : List Entry) where
 
   -- the first entry leads to the levels l
   pub ending-rest : (m : PinMap) (start l : Levels) (n : ℕ) → Shows (ending j m s start (e ∷ p) 1) l → ending j m s start (e ∷ p) (suc (suc n)) ≡ ending j m (suc s) l p (suc n)
-  unfolding ending entryOf sent bucketLevel bucketLevels poured bucket-step
+  unfolding ending entryOf sent decoderPeak bucketLevel bucketLevels poured bucket-step
   ending-rest m start l n h =
       let q : s + suc (suc n) ≡ suc s + suc n = omega arith in
       let b : l .buckets ≡ poured (sends j e) (j .line .buckets) (start .buckets) = h .buckets in
-      rw (decoder-rest (start .decoder) (l .decoder) (suc n) (h .decoder), buckets-rest (j .line .buckets) (start .buckets) (suc n), q, b)
+      rw (decoder-rest (start .decoder) (l .decoder) n (h .decoder), decoder-rest (start .decoder) (l .decoder) (suc n) (h .decoder), buckets-rest (j .line .buckets) (start .buckets) (suc n), q, b)
 
 -- the outcome of a plan's first entry
 pub first-judged : (j : Job) (m : PinMap) (s : ℕ) (start : Levels) (e : Entry) (p : List Entry) → Judged (j .line) (ending j m s start (e ∷ p) 1) (outcome j m (suc s) start e)
-unfolding ending outcome decoderLevel bucketLevels bucketLevel sent taken entryOf poured bucket-step
+unfolding ending outcome decoderLevel decoderPeak bucketLevels bucketLevel sent taken entryOf poured bucket-step
 first-judged j m s start e p = rw add-one (outcome-judged (j .line) (pinAt j m (suc s)) (e .choice) (start .decoder) (start .buckets) (sends j e) (takes j (suc s) e))

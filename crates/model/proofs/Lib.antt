@@ -4,6 +4,7 @@ pub mod All
 pub mod Builds
 pub mod Answers
 pub mod Lent
+pub mod Decoder
 pub mod Violations
 pub mod Outcome
 pub mod Levels

@@ -6,22 +6,31 @@ use mathlib.Core.Option.{Option, some}
 use mathlib.Core.List.{List, [], _∷_, zipWith}
 use native.Mathlib.Omega.{arith}
 use lib.ListN.{length}
-use lib.IntN.{ℤ, pos}
+use lib.IntN.{ℤ, pos, _+ℤ_, _-ℤ_}
 use Rattle.trellis.specs.Table.{Closed}
 use Rattle.model.specs.Job.{Bucket, Line, Levels, Job, sends, takes, intervals}
 use Rattle.model.specs.Pins.{PinMap, pinAt}
-use Rattle.model.specs.Admissible.{InRange, in-range, Ending, Sound, Shows}
-use Rattle.model.specs.Step.{reaches, poured, outcome-of, outcome}
+use Rattle.model.specs.Admissible.{holds, verify, Ending, Sound, Shows}
+use Rattle.model.specs.Step.{decoder-step, reaches, poured, outcome-of, outcome}
 use Rattle.model.specs.Best.{Order, reached, trellis-of}
 use Rattle.model.specs.Table.{InLayer}
+use Rattle.model.proofs.Decoder.{verified-level, decoder-steps}
 use Rattle.model.proofs.Outcome.{Judged, good, outcome-judged}
 use Rattle.model.proofs.Walks.{reached-some}
 
 judged-good : {line : Line} {x : Ending} {u : Levels} → Judged line x (reaches u) → Sound line x × Shows x u
 judged-good (good s h) = (s, h)
 
-shown-within : {top b : ℕ} {z : ℤ} → InRange top z → pos b ≡ z → b ≤ top
-shown-within {top} {b} (in-range {b = a} h) e = let q : b ≡ a = cc in omega arith
+shown-one : {a b : ℕ} {z : ℤ} → pos a ≡ z → pos b ≡ z → a ≡ b
+shown-one p q = cc
+
+-- the level after a step is at most the decoder's size, since the peak before it is
+held-within : (size b c r u : ℕ) → ((d : ℕ) × (verify size (pos b +ℤ pos c) ((pos b +ℤ pos c) -ℤ pos r) ≡ holds d)) → pos u ≡ (pos b +ℤ pos c) -ℤ pos r → u ≤ size
+unfolding decoder-step
+held-within size b c r u (d, e) shown =
+    let h = decoder-steps size b c r .holds-iff d .0 e in
+    let q = shown-one shown (verified-level size (pos b +ℤ pos c) ((pos b +ℤ pos c) -ℤ pos r) d e) in
+    omega (arith, h, q)
 
 poured-count : (c : ℕ) (ks : List Bucket) (ls : List ℕ) → length ls ≡ length ks → length (poured c ks ls) ≡ length ks
 unfolding poured zipWith
@@ -36,7 +45,7 @@ module _ (line : Line) (pinned choice : Option ℕ) (c r : ℕ) (s u : Levels) w
       let f = outcome-judged line pinned choice (s .decoder) (s .buckets) c r in
       let g = judged-good (rw e at f) in
       record {
-        decoder = shown-within (g .0 .decoder) (g .1 .decoder);
+        decoder = held-within (line .decoder) (s .decoder) c r (u .decoder) (g .0 .decoder) (g .1 .decoder);
         count = rw (g .1 .buckets) (poured-count c (line .buckets) (s .buckets) n);
         buckets = rw (g .1 .buckets) (g .0 .buckets);
       }

@@ -5,23 +5,16 @@ use mathlib.Core.Path.{_≡_, refl, sym, _∙_, ap}
 use mathlib.Core.List.{List}
 use native.Mathlib.Omega.{arith}
 use native.Mathlib.Decide.{decLt}
-use lib.IntN.{ℤ, pos, negsuc, pos-ne-negsuc}
 use Rattle.model.specs.Job.{Line, Levels, Job, Entry}
 use Rattle.model.specs.Pins.{PinMap}
-use Rattle.model.specs.Admissible.{Violation, bucket-overflow, InRange, in-range, Within, Ending, Sound, Violates, short, over, bucket, unpinned, ending, FirstViolation}
+use Rattle.model.specs.Admissible.{Violation, bucket-overflow, Decoded, breaks, holds, Within, Ending, Sound, Violates, unverified, bucket, unpinned, ending, FirstViolation}
+use Rattle.model.proofs.Decoder.{breaks-or-holds, one-violation}
 
-not-short : {top b : ℕ} {z : ℤ} → InRange top z → z ≡ negsuc b → ⊥
-not-short {b = b} (in-range {b = a} h) e = pos-ne-negsuc a b e
-
-not-over : {top b : ℕ} {z : ℤ} → InRange top z → z ≡ pos b → top < b → ⊥
-not-over {b = b} (in-range {b = a} h) e g = let q : a ≡ b = cc in omega arith
-
-not-both : {a b : ℕ} {z : ℤ} → z ≡ pos a → z ≡ negsuc b → ⊥
-not-both {a} {b} e f = pos-ne-negsuc a b (sym e ∙ f)
+kept-or-broken : {d : Decoded} {b : ℕ} {v : Violation} → d ≡ holds b → d ≡ breaks v → ⊥
+kept-or-broken h e = breaks-or-holds (sym e ∙ h)
 
 pub sound-clean : {line : Line} {x : Ending} {v : Violation} → Sound line x → Violates line x v → ⊥
-sound-clean s (short e) = not-short (s .decoder) e
-sound-clean s (over e h) = not-over (s .decoder) e h
+sound-clean s (unverified e) = kept-or-broken (s .decoder .1) e
 sound-clean s (bucket {i} r b f g) = g (s .buckets i b)
 sound-clean s (unpinned r f g) = g (s .pin)
 
@@ -35,21 +28,14 @@ first-one P i k f g f′ g′ = go (decLt i k) (decLt k i)
     go (no h) (no h′) = omega arith
 
 pub violates-one : {line : Line} {x : Ending} {v w : Violation} → Violates line x v → Violates line x w → v ≡ w
-violates-one (short e) (short e′) = refl
-violates-one (short e) (over e′ h′) = absurd (not-both e′ e)
-violates-one (short e) (bucket r b f g) = absurd (not-short r e)
-violates-one (short e) (unpinned r f g) = absurd (not-short r e)
-violates-one (over e h) (short e′) = absurd (not-both e e′)
-violates-one (over e h) (over e′ h′) = refl
-violates-one (over e h) (bucket r b f g) = absurd (not-over r e h)
-violates-one (over e h) (unpinned r f g) = absurd (not-over r e h)
-violates-one (bucket r b f g) (short e) = absurd (not-short r e)
-violates-one (bucket r b f g) (over e h) = absurd (not-over r e h)
+violates-one (unverified e) (unverified e′) = one-violation (sym e ∙ e′)
+violates-one (unverified e) (bucket r b f g) = absurd (kept-or-broken (r .1) e)
+violates-one (unverified e) (unpinned r f g) = absurd (kept-or-broken (r .1) e)
+violates-one (bucket r b f g) (unverified e) = absurd (kept-or-broken (r .1) e)
 violates-one {line} {x} (bucket {i} r b f g) (bucket {i = k} r′ b′ f′ g′) =
     ap bucket-overflow (first-one (Within (line .buckets) (x .buckets)) i k f g f′ g′)
 violates-one (bucket {i} r b f g) (unpinned r′ f′ g′) = absurd (g (f′ i b))
-violates-one (unpinned r f g) (short e) = absurd (not-short r e)
-violates-one (unpinned r f g) (over e h) = absurd (not-over r e h)
+violates-one (unpinned r f g) (unverified e) = absurd (kept-or-broken (r .1) e)
 violates-one (unpinned r f g) (bucket {i} r′ b′ f′ g′) = absurd (g′ (f i b′))
 violates-one (unpinned r f g) (unpinned r′ f′ g′) = refl
 

@@ -8,13 +8,14 @@ use mathlib.Core.Option.{none, some}
 use mathlib.Core.List.{List, [], _∷_}
 use lib.ListN.{length, getD}
 use lib.IntN.{pos, _+ℤ_}
+use lib.Signed.{_≤ℤ_}
 use Rattle.trellis.specs.Table.{first-at, marked-offer}
 use Rattle.trellis.specs.Trellis.{NoLater}
 use Rattle.model.specs.Job.{Bucket, Levels, Job, Entry, distorts, intervals, PlanFits}
-use Rattle.model.specs.Levels.{decoderLevel, sentAfter, effectiveBuffer, unitsTaken}
+use Rattle.model.specs.Levels.{sent, decoderLevel, sentAfter, effectiveBuffer, unitsTaken}
 use Rattle.model.specs.Pins.{PinMap}
-use Rattle.model.specs.Admissible.{Violation, SoundFor, Admissible, FirstViolation, LevelsOf}
-use Rattle.model.specs.Step.{reaches, outcome}
+use Rattle.model.specs.Admissible.{Violation, decoder-overflow, decoder-underflow, breaks, holds, Verified, ending, SoundFor, Admissible, FirstViolation, LevelsOf}
+use Rattle.model.specs.Step.{decoder-step, reaches, outcome}
 use Rattle.model.specs.Replay.{Replay, clean, stopped, replay, totals}
 use Rattle.model.specs.Best.{Order, Before, entries, trellis-of, least-total, best-plan}
 use Rattle.model.specs.Table.{mark, bound, InLayer, words, wordAt, IsTable, FollowsRule, Bounded}
@@ -24,6 +25,12 @@ pub record BestOf (j : Job) (s : ℕ) (o : Order) (Among : List Entry → Type 0
   pub among : Among p
   pub least-of-all : (q : List Entry) → Among q → totals j s p .distortion ≤ totals j s q .distortion
   pub first-of-these : (q : List Entry) → Among q → totals j s q .distortion ≡ totals j s p .distortion → NoLater (Before o) p q
+
+-- the decoder's step in natural numbers, from the level b where c is sent and r decoded: over before short, and else what is left after the unit
+pub record DecoderClaim (size b c r : ℕ) : Type 0 where
+  pub over-iff : (decoder-step size b c r ≡ breaks decoder-overflow) ↔ (size < b + c)
+  pub short-iff : (decoder-step size b c r ≡ breaks decoder-underflow) ↔ ((b + c ≤ size) × (b + c < r))
+  pub holds-iff : (d : ℕ) → (decoder-step size b c r ≡ holds d) ↔ ((b + c ≤ size) × (d + r ≡ b + c))
 
 module _ (j : Job) (m : PinMap) (s : ℕ) (start : Levels) where
   -- r is the replay of p: the levels that it writes are those of (16) and (17)
@@ -63,6 +70,14 @@ pub record OneBucket (j : Job) (k : Bucket) : Type 0 where
 -- demand 2
 abbrev pub DemandTwo : Type 0
 DemandTwo = (j : Job) (m : PinMap) (s : ℕ) (start : Levels) (p : List Entry) → ReplayClaim j m s start p (replay j m s start p)
+
+-- E2, of a plan: in an interval the decoder keeps its limits exactly where B(n) + C(n + 1) is at most D and B(n + 1) at least 0
+abbrev pub DecoderRange : Type 0
+DecoderRange = (j : Job) (m : PinMap) (s : ℕ) (start : Levels) (p : List Entry) (n : ℕ) → Verified (j .line) (ending j m s start p (suc n)) ↔ (((decoderLevel j s p (start .decoder) n +ℤ pos (sent j p (suc n))) ≤ℤ pos (j .line .decoder)) × (pos 0 ≤ℤ decoderLevel j s p (start .decoder) (suc n)))
+
+-- E2, of a step
+abbrev pub DecoderSteps : Type 0
+DecoderSteps = (size b c r : ℕ) → DecoderClaim size b c r
 
 -- (5): B(i + d) is the effective buffer size less what the encoder holds, which by (3) is what the first i units take less what the first i intervals send.
 -- Written as sums, from a starting level b: B(i + d) + R(1) + ... + R(i) = b + C(1) + ... + C(i) + the effective buffer size

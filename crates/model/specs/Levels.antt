@@ -30,6 +30,11 @@ module _ (j : Job) (s : ℕ) (p : List Entry) where
   decoderLevel b zero = pos b
   decoderLevel b (suc n) = (decoderLevel b n +ℤ pos (sent j p (suc n))) -ℤ pos (taken (suc n))
 
+  -- its peak, which stands just before the unit leaves: B(n - 1) + C(n). It is the fullness before a picture is removed of the verifier in source document 002, section 3.3
+  unfoldable pub decoderPeak : ℕ → ℕ → ℤ
+  decoderPeak b zero = pos b
+  decoderPeak b (suc n) = decoderLevel b n +ℤ pos (sent j p (suc n))
+
   -- (17) as Example 1 has it, of a bucket k from the level l: L(n) is the larger of L(n - 1) + C(n) - drain and 0, which subtraction of natural numbers is
   unfoldable pub bucketLevel : Bucket → ℕ → ℕ → ℕ
   bucketLevel k l zero = l

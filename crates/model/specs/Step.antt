@@ -1,29 +1,23 @@
--- What an interval does to the levels: the levels at its end, or the first limit that it violates, tested in document 01's order ("Levels, interval by interval").
+-- What an interval does to the levels: the levels at its end, or the first limit that it violates, tested in order (document 01, "Levels, interval by interval"; document 02, E2).
 -- Assumes nothing.
 use Prim.Native.Nat.{ℕ, suc, _+_, _-_}
 use mathlib.Core.Bool.{Bool, true, false}
 use mathlib.Core.Option.{Option, none, some, Option·map}
 use mathlib.Core.List.{List, [], _∷_, zipWith}
 use lib.Dec.{ltb, eqb}
+use lib.IntN.{pos, _+ℤ_, _-ℤ_}
 use Rattle.model.specs.If.{if_then_else_}
 use Rattle.model.specs.Job.{Bucket, Line, Levels, Job, Entry, sends, takes}
 use Rattle.model.specs.Pins.{PinMap, pinAt}
-use Rattle.model.specs.Admissible.{Violation, decoder-underflow, decoder-overflow, bucket-overflow, pin-not-held}
+use Rattle.model.specs.Admissible.{Violation, bucket-overflow, pin-not-held, Decoded, breaks, holds, verify}
 
 pub data Outcome : Type 0 where
   violates : Violation → Outcome
   reaches : Levels → Outcome
 
--- the decoder's part: its level at the end, from the level b where c is sent and r decoded, or the limit that it violates, short before over
-pub data Decoded : Type 0 where
-  breaks : Violation → Decoded
-  holds : ℕ → Decoded
-
+-- the decoder's part, from the level b where c is sent and r decoded: (16), and its limits
 unfoldable pub decoder-step : ℕ → ℕ → ℕ → ℕ → Decoded
-decoder-step size b c r =
-    if ltb (b + c) r then breaks decoder-underflow
-    else if ltb size ((b + c) - r) then breaks decoder-overflow
-    else holds ((b + c) - r)
+decoder-step size b c r = verify size (pos b +ℤ pos c) ((pos b +ℤ pos c) -ℤ pos r)
 
 -- a bucket's part: its level at the end, from the level l where c is sent
 unfoldable pub bucket-step : Bucket → ℕ → ℕ → ℕ

@@ -13,8 +13,8 @@ use Rattle.trellis.proofs.Congruence.{lowest-cong, lowest-map, first-at-cong, f
 use Rattle.model.specs.If.{if_then_else_}
 use Rattle.model.specs.Job.{Line, Coding, Levels, Job, coding, sends, takes, distorts}
 use Rattle.model.specs.Pins.{PinMap, pinAt}
-use Rattle.model.specs.Step.{Decoded, breaks, holds, decoder-step, poured, overfull, pin-held, or-overflow, after-decoder, outcome-of, outcome, reaches, violates}
-use Rattle.model.specs.Admissible.{pin-not-held}
+use Rattle.model.specs.Step.{decoder-step, poured, overfull, pin-held, or-overflow, after-decoder, outcome-of, outcome, reaches, violates}
+use Rattle.model.specs.Admissible.{pin-not-held, Decoded, breaks, holds}
 use Rattle.model.specs.Best.{Order, late, pairs, entry, width, entries, reached, trellis-of}
 use Rattle.model.specs.Table.{mark, bound, InLayer, layerWords, stateAt, wordIn}
 use Rattle.model.proofs.Entries.{pairs-member}

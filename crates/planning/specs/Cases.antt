@@ -1,4 +1,4 @@
--- Document 01's cases of Job A that are marked (m), those of planning, and cases of commands worked out by hand: what is asked, and what the document says.
+-- Document 01's cases of Job A that are marked (m), those of planning, and cases of commands worked out by hand: what is asked, and what document 01 says, or by the decoder's limits of document 02, E2, would.
 -- Assumes nothing.
 use Prim.Native.Nat.{ℕ}
 use mathlib.Core.Path.{_≡_}
@@ -40,6 +40,9 @@ questions =
     -- unit 1 pinned at 0, and lifted
     ∷ asks (pin 1 0 ∷ []) 80 6
     ∷ asks (pin 1 0 ∷ lift 1 ∷ []) 80 6
+    -- unit 1 pinned at 1, which is worse, and lifted
+    ∷ asks (pin 1 1 ∷ []) 80 6
+    ∷ asks (pin 1 1 ∷ lift 1 ∷ []) 80 6
     -- both units pinned at 0
     ∷ asks (pin 1 0 ∷ pin 2 0 ∷ []) 80 6
     -- 79 words; 80 with five bytes; both too few
@@ -60,15 +63,17 @@ refuses n es = record { answer = refused n; entries = es }
 
 unfoldable pub replies : List Reply
 replies =
-    says 42 7 8 (1 ∷ 255 ∷ 1 ∷ 1 ∷ 2 ∷ 0 ∷ [])
+    says 50 6 6 (0 ∷ 255 ∷ 2 ∷ 0 ∷ 1 ∷ 1 ∷ [])
     ∷ says 50 6 6 (0 ∷ 255 ∷ 2 ∷ 0 ∷ 1 ∷ 1 ∷ [])
-    ∷ says 42 7 8 (1 ∷ 255 ∷ 1 ∷ 1 ∷ 2 ∷ 0 ∷ [])
+    ∷ says 50 6 6 (0 ∷ 255 ∷ 2 ∷ 0 ∷ 1 ∷ 1 ∷ [])
+    ∷ says 70 4 4 (0 ∷ 255 ∷ 1 ∷ 1 ∷ 1 ∷ 1 ∷ [])
+    ∷ says 50 6 6 (0 ∷ 255 ∷ 2 ∷ 0 ∷ 1 ∷ 1 ∷ [])
     ∷ refuses 13 (replicate 6 7)
     ∷ refuses 11 (replicate 6 7)
     ∷ refuses 12 (replicate 5 7)
     ∷ refuses 11 (replicate 5 7)
     ∷ refuses 12 (replicate 5 7)
-    ∷ says 42 7 8 (1 ∷ 255 ∷ 1 ∷ 1 ∷ 2 ∷ 0 ∷ 7 ∷ 7 ∷ [])
+    ∷ says 50 6 6 (0 ∷ 255 ∷ 2 ∷ 0 ∷ 1 ∷ 1 ∷ 7 ∷ 7 ∷ [])
     ∷ []
 
 -- command records: what stands at the front of the bytes
@@ -120,6 +125,8 @@ inputs =
     []
     ∷ pin-record 1 0
     ∷ (pin-record 1 0 ++ lift-record 1)
+    ∷ pin-record 1 1
+    ∷ (pin-record 1 1 ++ lift-record 1)
     ∷ (pin-record 1 0 ++ pin-record 2 0)
     -- the first refusal ends it: 9 before the record that is cut, 10, 7, and a byte too many
     ∷ (pin-record 1 0 ++ (pin-record 1 1 ++ (6 ∷ [])))
@@ -130,9 +137,11 @@ inputs =
 
 unfoldable pub input-replies : List Reply
 input-replies =
-    says 42 7 8 (1 ∷ 255 ∷ 1 ∷ 1 ∷ 2 ∷ 0 ∷ [])
+    says 50 6 6 (0 ∷ 255 ∷ 2 ∷ 0 ∷ 1 ∷ 1 ∷ [])
     ∷ says 50 6 6 (0 ∷ 255 ∷ 2 ∷ 0 ∷ 1 ∷ 1 ∷ [])
-    ∷ says 42 7 8 (1 ∷ 255 ∷ 1 ∷ 1 ∷ 2 ∷ 0 ∷ [])
+    ∷ says 50 6 6 (0 ∷ 255 ∷ 2 ∷ 0 ∷ 1 ∷ 1 ∷ [])
+    ∷ says 70 4 4 (0 ∷ 255 ∷ 1 ∷ 1 ∷ 1 ∷ 1 ∷ [])
+    ∷ says 50 6 6 (0 ∷ 255 ∷ 2 ∷ 0 ∷ 1 ∷ 1 ∷ [])
     ∷ refuses 13 (replicate 6 7)
     ∷ refuses 9 (replicate 6 7)
     ∷ refuses 10 (replicate 6 7)
@@ -155,8 +164,8 @@ unfoldable pub sittings : List (List ℕ)
 sittings =
     -- a lift of a unit that is not pinned, a pin, the same unit again, a choice that there is not
     (7 ∷ 1 ∷ 0 ∷ 6 ∷ 1 ∷ 0 ∷ 6 ∷ 1 ∷ 1 ∷ 6 ∷ 2 ∷ 2 ∷ [])
-    -- a pin and its lift, which does not look at the third number
-    ∷ (6 ∷ 1 ∷ 0 ∷ 7 ∷ 1 ∷ 9 ∷ [])
+    -- a pin that is worse and its lift, which does not look at the third number
+    ∷ (6 ∷ 1 ∷ 1 ∷ 7 ∷ 1 ∷ 9 ∷ [])
     -- another kind before a call that is cut, a call that is cut, one call more than there is room for
     ∷ (6 ∷ 1 ∷ 0 ∷ 5 ∷ 1 ∷ 0 ∷ 7 ∷ [])
     ∷ (6 ∷ 1 ∷ 0 ∷ 5 ∷ 1 ∷ [])
@@ -166,7 +175,7 @@ sittings =
 unfoldable pub sitting-replies : List Answers
 sitting-replies =
     record { numbers = 10 ∷ 0 ∷ 9 ∷ 8 ∷ []; answer = gives (record { distortion = 50; source = 6; channel = 6 }) }
-    ∷ record { numbers = 0 ∷ 0 ∷ 5 ∷ 5 ∷ []; answer = gives (record { distortion = 42; source = 7; channel = 8 }) }
+    ∷ record { numbers = 0 ∷ 0 ∷ 5 ∷ 5 ∷ []; answer = gives (record { distortion = 50; source = 6; channel = 6 }) }
     ∷ record { numbers = replicate 4 5; answer = refused 2 }
     ∷ record { numbers = replicate 4 5; answer = refused 1 }
     ∷ record { numbers = replicate 4 5; answer = refused 12 }

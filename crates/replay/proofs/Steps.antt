@@ -9,25 +9,12 @@ use native.Mathlib.Omega.{arith}
 use lib.Dec.{eqb}
 use borrow.Author.Tests.{lt-ltb, le-ltb, eqb-true, eq-eqb, ne-eqb}
 use Rattle.model.specs.If.{if_then_else_}
-use Rattle.model.specs.Admissible.{Violation, decoder-underflow, decoder-overflow, bucket-overflow, pin-not-held}
-use Rattle.model.specs.Step.{breaks, holds, decoder-step, bucket-step, violates, reaches, poured, overfull, same-choice, pin-held, or-overflow, after-decoder, outcome-of}
+use Rattle.model.specs.Admissible.{Violation, bucket-overflow, pin-not-held, breaks, holds}
+use Rattle.model.specs.Step.{decoder-step, bucket-step, violates, reaches, poured, overfull, same-choice, pin-held, or-overflow, after-decoder, outcome-of}
 use Rattle.format.specs.Choices.{no-choice, choice-of}
 use Rattle.format.specs.JobBytes.{Header}
 use Rattle.format.proofs.Choices.{of-mark, of-choice}
 use Rattle.replay.specs.Answers.{line-of}
-
-module _ (size b c r : ℕ) where
-  pub decoder-short : b + c < r → breaks decoder-underflow ≡ decoder-step size b c r
-  unfolding decoder-step if_then_else_
-  decoder-short h = rw (lt-ltb (b + c) r h)
-
-  pub decoder-over : r ≤ b + c → size < (b + c) - r → breaks decoder-overflow ≡ decoder-step size b c r
-  unfolding decoder-step if_then_else_
-  decoder-over h k = rw (le-ltb (b + c) r h, lt-ltb size ((b + c) - r) k)
-
-  pub decoder-within : r ≤ b + c → (b + c) - r ≤ size → holds ((b + c) - r) ≡ decoder-step size b c r
-  unfolding decoder-step if_then_else_
-  decoder-within h k = rw (le-ltb (b + c) r h, le-ltb size ((b + c) - r) k)
 
 pub no-pin-holds : (pin : ℕ) (o : Option ℕ) → pin ≡ no-choice → true ≡ pin-held (choice-of pin) o
 unfolding pin-held

@@ -36,14 +36,14 @@ use Rattle.replay.specs.declared.Interval.{Interval}
 
 -- document 01's words for the violations
 unfoldable pub violation : Violation → model-violation.Violation
-violation v.DecoderUnderflow = model-violation.decoder-underflow
 violation v.DecoderOverflow = model-violation.decoder-overflow
+violation v.DecoderUnderflow = model-violation.decoder-underflow
 violation v.BucketOverflow = model-violation.bucket-overflow 0
 violation v.PinNotHeld = model-violation.pin-not-held
 
-unfoldable pub decoded : Decoded → model-step.Decoded
-decoded (d.Level n) = model-step.holds n
-decoded (d.Violated x) = model-step.breaks (violation x)
+unfoldable pub decoded : Decoded → model-violation.Decoded
+decoded (d.Level n) = model-violation.holds n
+decoded (d.Violated x) = model-violation.breaks (violation x)
 
 unfoldable pub levels-of : Levels → model.Levels
 levels-of l = record { decoder = l .decoder; buckets = l .bucket ∷ [] }

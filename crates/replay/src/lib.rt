@@ -31,8 +31,8 @@ pub struct Totals {
 
 // Document 01's breaches, in the order in which they are tested.
 pub enum Violation {
-    DecoderUnderflow,
     DecoderOverflow,
+    DecoderUnderflow,
     BucketOverflow,
     PinNotHeld,
 }
@@ -85,19 +85,18 @@ pub const NO_UNIT: u8 = 255;
 // How many levels an interval has: the decoder's and the bucket's.
 pub const LEVELS_EACH: usize = 2;
 
-// (16), and its limits: short before over, tested after the unit has left.
+// (16), and its limits: over by the peak, which stands before the unit leaves; then short.
 pub fn decoder_step(size: u16, level: u16, sent: u16, taken: u16) -> Decoded
     ensures { λ r. ⌜ decoded r ≡ decoder-step size level sent taken ⌝ }
 {
-    let full = level as u32 + sent as u32;
-    if full < taken as u32 {
-        return Decoded::Violated(Violation::DecoderUnderflow);
-    }
-    let left = full - taken as u32;
-    if (size as u32) < left {
+    let peak = level as u32 + sent as u32;
+    if (size as u32) < peak {
         return Decoded::Violated(Violation::DecoderOverflow);
     }
-    Decoded::Level(left as u16)
+    if peak < taken as u32 {
+        return Decoded::Violated(Violation::DecoderUnderflow);
+    }
+    Decoded::Level((peak - taken as u32) as u16)
 }
 
 // Example 1: the larger of level + sent - drain and 0.
@@ -121,7 +120,7 @@ pub fn pin_holds(pin: u8, choice: u8) -> bool
     choice == pin
 }
 
-// One interval from the levels before it: the decoder, the bucket, the pin, in document 01's order.
+// One interval from the levels before it: the decoder, the bucket, the pin, in this order.
 pub fn step(header: Header, before: Levels, x: Interval) -> Outcome
     ensures { λ r. ⌜ outcome-is r ≡ outcome-of (line-of (plain header)) (choice-of (x .pin)) (choice-of (x .choice)) (before .decoder) (before .bucket ∷ []) (x .sent) (x .size) ⌝ }
 {

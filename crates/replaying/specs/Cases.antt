@@ -1,4 +1,4 @@
--- Document 01's cases of Job A that are marked (m), those of pins, replay and report: what is asked, and what the document says.
+-- Document 01's cases of Job A that are marked (m), those of pins, replay and report: what is asked, and what document 01 says, or by the decoder's limits of document 02, E2, would.
 -- Assumes nothing.
 use Prim.Native.Nat.{ℕ}
 use mathlib.Core.Path.{_≡_}
@@ -6,7 +6,7 @@ use mathlib.Core.Option.{Option, none, some}
 use mathlib.Core.List.{List, [], _∷_, map}
 use lib.ListN.{replicate}
 use Rattle.model.specs.Answer.{gives}
-use Rattle.model.specs.Admissible.{decoder-underflow, decoder-overflow}
+use Rattle.model.specs.Admissible.{decoder-overflow, decoder-underflow}
 use Rattle.model.specs.Pins.{Call, pin, lift, PinTotals}
 use Rattle.format.specs.JobA.{bytes-a}
 use Rattle.pinning.specs.State.{State}
@@ -40,7 +40,8 @@ questions =
     -- unit 1 pinned at 0, and lifted
     ∷ calls (pin 1 0 ∷ [])
     ∷ calls (pin 1 0 ∷ lift 1 ∷ [])
-    -- the plan that is printed
+    -- the plan that is printed since document 02, E2, and the one of 42 before it
+    ∷ replays [] (0 ∷ 255 ∷ 2 ∷ 0 ∷ 1 ∷ 1 ∷ [])
     ∷ replays [] (1 ∷ 255 ∷ 1 ∷ 1 ∷ 2 ∷ 0 ∷ [])
     -- the plan with unit 1 pinned at 0
     ∷ replays (pin 1 0 ∷ []) (0 ∷ 255 ∷ 2 ∷ 0 ∷ 1 ∷ 1 ∷ [])
@@ -56,7 +57,8 @@ replies =
     answered (some 10 ∷ []) (record { count = 0; size = 0; distortion = 0 })
     ∷ answered (none ∷ []) (record { count = 1; size = 4; distortion = 10 })
     ∷ answered (none ∷ none ∷ []) (record { count = 0; size = 0; distortion = 0 })
-    ∷ replayed (record { answer = gives (totals-are (record { distortion = 42; source = 7; channel = 8 })); list = 2 ∷ 0 ∷ 2 ∷ 0 ∷ 1 ∷ 2 ∷ 7 ∷ [] })
+    ∷ replayed (record { answer = gives (totals-are (record { distortion = 50; source = 6; channel = 6 })); list = 0 ∷ 0 ∷ 0 ∷ 2 ∷ 0 ∷ 2 ∷ 7 ∷ [] })
+    ∷ replayed (record { answer = gives (violated 3 decoder-overflow); list = 2 ∷ 0 ∷ 2 ∷ 0 ∷ 7 ∷ 7 ∷ 7 ∷ [] })
     ∷ replayed (record { answer = gives (totals-are (record { distortion = 50; source = 6; channel = 6 })); list = 0 ∷ 0 ∷ 0 ∷ 2 ∷ 0 ∷ 2 ∷ 7 ∷ [] })
     ∷ replayed (record { answer = gives (violated 2 decoder-overflow); list = 4 ∷ 2 ∷ 7 ∷ 7 ∷ 7 ∷ 7 ∷ 7 ∷ [] })
     ∷ replayed (record { answer = gives (violated 2 decoder-underflow); list = 0 ∷ 0 ∷ 7 ∷ 7 ∷ 7 ∷ 7 ∷ 7 ∷ [] })

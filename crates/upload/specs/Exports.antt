@@ -69,7 +69,7 @@ plan-export b calls answers table entries values =
     if ltb (length values) 3 then planned 12 answers table entries values
     else after-sitting (sitting-call b calls answers table entries) values
 
--- document 01's breaches, counted from 1 in the order in which they are tested; there is one bucket
+-- document 01's breaches, counted from 1 in the order in which it names them; there is one bucket
 unfoldable pub violation-number : v.Violation → ℕ
 violation-number v.decoder-underflow = 1
 violation-number v.decoder-overflow = 2

@@ -105,7 +105,7 @@ pub extern "C" fn upload_plan(
     }
 }
 
-// Document 01's breaches, counted from 1 in the order in which they are tested.
+// The numbers are names that callers have stored. They are in document 01's order of tests, and stayed when document 02, E2, changed that order.
 fn violation_number(x: Violation) -> u64
     ensures { λ r. ⌜ r ≡ violation-number (violation x) ⌝ }
 {
