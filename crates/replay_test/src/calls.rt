@@ -1,5 +1,5 @@
 // Both calls on small jobs, with lists longer than needed: every number of a list is printed, written or not.
-ghost use Prim.Native.Nat.{_≤_};
+ghost use Prim.Native.Nat.{_<_, _≤_};
 use crate::job_a;
 use crate::print;
 use pins::PinSet;
@@ -69,4 +69,12 @@ pub fn both(name: &[u8], job: &[u8], entries: &[u8]) {
 pub fn on_job_a(entries: &[u8]) {
     let job = job_a::JOB_A;
     both(b"job A", &job, entries);
+}
+
+// Both on Job A with one byte changed.
+pub fn one(name: &[u8], at: usize, value: u8, entries: &[u8])
+    requires { ⌜ at < 64 ⌝ }
+{
+    let job = job_a::with(job_a::JOB_A, at, value);
+    both(name, &job, entries);
 }

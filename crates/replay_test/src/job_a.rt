@@ -86,8 +86,10 @@ pub const BUCKET_LEVEL: usize = 16;
 
 pub const LAST_RATE: usize = 30;
 
-// The upper byte of the grains of unit 2 at choice 1.
-pub const LAST_GRAINS_HIGH: usize = 59;
+// The grains of unit 1 and of unit 2 at choice 1.
+pub const FIRST_GRAINS: usize = 42;
+
+pub const LAST_GRAINS: usize = 58;
 
 // One byte changed. Job A's fields are all below 256, so the first byte of a field is its value.
 pub fn with(mut job: [u8; 64], at: usize, value: u8) -> [u8; 64]
@@ -95,4 +97,12 @@ pub fn with(mut job: [u8; 64], at: usize, value: u8) -> [u8; 64]
 {
     job[at] = value;
     job
+}
+
+// A field that is 4,095, the most that a rate, the drain or a unit may be.
+pub fn with_most(job: [u8; 64], at: usize) -> [u8; 64]
+    requires { ⌜ at < 63 ⌝ }
+{
+    let low = with(job, at, 255);
+    with(low, at + 1, 15)
 }

@@ -1,42 +1,33 @@
 // Job A with other fields: no delay, a longer one, sizes of 0, drain 0, levels that reach their limits, starting levels.
-ghost use Prim.Native.Nat.{_<_};
 use crate::calls;
 use crate::job_a;
 
-// One field changed.
-fn one(name: &[u8], at: usize, value: u8, entries: &[u8])
-    requires { ⌜ at < 64 ⌝ }
-{
-    let job = job_a::with(job_a::JOB_A, at, value);
-    calls::both(name, &job, entries);
-}
-
 // Unit t - d is decoded in interval t.
 fn delays() {
-    one(b"d 0", job_a::DELAY, 0, &[2, 0, 1, 1]);
-    one(b"d 0", job_a::DELAY, 0, &[1, 0, 1, 1]);
-    one(b"d 0", job_a::DELAY, 0, &[1, 255, 1, 1]);
-    one(b"d 0", job_a::DELAY, 0, &[1, 255, 1, 1, 2, 0]);
-    one(b"d 2", job_a::DELAY, 2, &[0, 255, 2, 255, 1, 0, 1, 1]);
-    one(b"d 2", job_a::DELAY, 2, &[0, 255, 2, 255, 0, 1, 0, 0]);
+    calls::one(b"d 0", job_a::DELAY, 0, &[2, 0, 1, 1]);
+    calls::one(b"d 0", job_a::DELAY, 0, &[1, 0, 1, 1]);
+    calls::one(b"d 0", job_a::DELAY, 0, &[1, 255, 1, 1]);
+    calls::one(b"d 0", job_a::DELAY, 0, &[1, 255, 1, 1, 2, 0]);
+    calls::one(b"d 2", job_a::DELAY, 2, &[0, 255, 2, 255, 0, 0, 1, 1]);
+    calls::one(b"d 2", job_a::DELAY, 2, &[0, 255, 2, 255, 0, 1, 0, 0]);
 }
 
-// Of size 0, the decoder takes what it is sent at once, and the bucket no more than the drain. Levels may reach their limits.
+// Of size 0, the decoder may be sent nothing, even if it leaves at once, and the bucket no more than the drain. Levels may reach their limits.
 fn sizes() {
-    one(b"D 0", job_a::D, 0, &[0, 255, 2, 0, 1, 1]);
-    one(b"D 0", job_a::D, 0, &[1, 255, 2, 0, 1, 1]);
-    one(b"D 0", job_a::D, 0, &[0, 255, 1, 1, 2, 1]);
-    one(b"K 0", job_a::K, 0, &[1, 255, 1, 1, 1, 1]);
-    one(b"K 0", job_a::K, 0, &[2, 255, 1, 1, 1, 1]);
-    one(b"drain 0", job_a::DRAIN, 0, &[1, 255, 0, 1, 1, 1]);
-    one(b"drain 1", job_a::DRAIN, 1, &[2, 255, 0, 0, 1, 1]);
-    one(
+    calls::one(b"D 0", job_a::D, 0, &[1, 255, 2, 0, 1, 1]);
+    calls::one(b"D 0", job_a::D, 0, &[0, 255, 2, 0, 1, 1]);
+    calls::one(b"D 0", job_a::D, 0, &[0, 255, 0, 1, 0, 1]);
+    calls::one(b"K 0", job_a::K, 0, &[1, 255, 1, 1, 1, 1]);
+    calls::one(b"K 0", job_a::K, 0, &[2, 255, 1, 1, 1, 1]);
+    calls::one(b"drain 0", job_a::DRAIN, 0, &[1, 255, 0, 1, 1, 1]);
+    calls::one(b"drain 1", job_a::DRAIN, 1, &[2, 255, 0, 0, 1, 1]);
+    calls::one(
         b"bucket level 3",
         job_a::BUCKET_LEVEL,
         3,
         &[2, 255, 1, 1, 1, 1],
     );
-    one(
+    calls::one(
         b"bucket level 3",
         job_a::BUCKET_LEVEL,
         3,
@@ -44,7 +35,7 @@ fn sizes() {
     );
 }
 
-// At last two fields changed. Without a drain the bucket keeps all that is sent. Short comes before over, of the bucket too.
+// At last two fields changed. Without a drain the bucket keeps all that is sent. Short comes before the bucket's over.
 pub fn run() {
     delays();
     sizes();

@@ -3,6 +3,7 @@ mod calls;
 mod job_a;
 mod limits;
 mod long_job;
+mod peaks;
 mod print;
 mod refusals;
 mod violations;
@@ -12,8 +13,9 @@ use libc::STDIN_FILENO;
 fn main() {
     violations::run();
     limits::run();
+    peaks::run();
     refusals::run();
-    let mut input = [0u8; 6304];
+    let mut input = [0u8; 7458];
     let n = io::read_full(STDIN_FILENO, &mut input);
     long_job::run(input, n);
 }

@@ -38,8 +38,8 @@ pub fn plan(entries: &[u8]) {
 // Document 01's name of a breach.
 fn breach(violation: Violation) {
     match violation {
-        Violation::DecoderUnderflow => text(b" decoder short"),
         Violation::DecoderOverflow => text(b" decoder over"),
+        Violation::DecoderUnderflow => text(b" decoder short"),
         Violation::BucketOverflow => text(b" bucket over"),
         Violation::PinNotHeld => text(b" pin not held"),
     }

@@ -12,18 +12,18 @@ fn other() -> PinSet {
 
 // "bytes not 2 × T, or an entry out of range": a byte too few, too many, an entry too many, none; a rate that is not there; a choice in the delay; none after it, or one that is not there.
 fn shapes() {
-    calls::on_job_a(&[1, 255, 1, 1, 2]);
-    calls::on_job_a(&[1, 255, 1, 1, 2, 0, 0]);
-    calls::on_job_a(&[1, 255, 1, 1, 2, 0, 0, 0]);
+    calls::on_job_a(&[0, 255, 2, 0, 1]);
+    calls::on_job_a(&[0, 255, 2, 0, 1, 1, 0]);
+    calls::on_job_a(&[0, 255, 2, 0, 1, 1, 0, 0]);
     calls::on_job_a(&[]);
-    calls::on_job_a(&[3, 255, 1, 1, 2, 0]);
-    calls::on_job_a(&[1, 255, 1, 1, 3, 0]);
-    calls::on_job_a(&[1, 0, 1, 1, 2, 0]);
-    calls::on_job_a(&[1, 254, 1, 1, 2, 0]);
-    calls::on_job_a(&[1, 255, 1, 255, 2, 0]);
-    calls::on_job_a(&[1, 255, 1, 1, 2, 255]);
-    calls::on_job_a(&[1, 255, 1, 2, 2, 0]);
-    calls::on_job_a(&[1, 255, 1, 1, 2, 2]);
+    calls::on_job_a(&[3, 255, 2, 0, 1, 1]);
+    calls::on_job_a(&[0, 255, 2, 0, 3, 1]);
+    calls::on_job_a(&[0, 0, 2, 0, 1, 1]);
+    calls::on_job_a(&[0, 254, 2, 0, 1, 1]);
+    calls::on_job_a(&[0, 255, 2, 255, 1, 1]);
+    calls::on_job_a(&[0, 255, 2, 0, 1, 255]);
+    calls::on_job_a(&[0, 255, 2, 2, 1, 1]);
+    calls::on_job_a(&[0, 255, 2, 0, 1, 2]);
     calls::on_job_a(&[2, 255, 2, 1, 3, 0]);
 }
 
@@ -41,15 +41,15 @@ fn lists() {
     let job = job_a::JOB_A;
     let own = pins::open(&job).set;
     let other = other();
-    rooms(b"job A", own, [1, 255, 1, 1, 2, 0], 6, 3);
-    rooms(b"job A", own, [1, 255, 1, 1, 2, 0], 5, 2);
+    rooms(b"job A", own, [0, 255, 2, 0, 1, 1], 6, 3);
+    rooms(b"job A", own, [0, 255, 2, 0, 1, 1], 5, 2);
     rooms(b"job A", own, [2, 255, 2, 1, 0, 0], 5, 2);
-    rooms(b"job A", own, [1, 255, 1, 1, 2, 0], 0, 0);
-    rooms(b"job A", own, [1, 255, 1, 2, 2, 0], 5, 2);
+    rooms(b"job A", own, [0, 255, 2, 0, 1, 1], 0, 0);
+    rooms(b"job A", own, [0, 255, 2, 2, 1, 1], 5, 2);
     rooms(b"job A", own, [3, 0, 3, 2, 3, 2], 0, 0);
-    rooms(b"another set", other, [1, 255, 1, 1, 2, 0], 6, 3);
-    rooms(b"another set", other, [1, 255, 1, 1, 2, 0], 5, 2);
-    rooms(b"another set", other, [1, 255, 1, 2, 2, 0], 6, 3);
+    rooms(b"another set", other, [0, 255, 2, 0, 1, 1], 6, 3);
+    rooms(b"another set", other, [0, 255, 2, 0, 1, 1], 5, 2);
+    rooms(b"another set", other, [0, 255, 2, 2, 1, 1], 6, 3);
     rooms(b"another set", other, [3, 0, 3, 2, 3, 2], 0, 0);
 }
 
@@ -74,7 +74,7 @@ pub fn run() {
     broken(b"last rate 2, another set", job_a::LAST_RATE, 2, 64);
     broken(
         b"unit 2 choice 1 grains 4098, another set",
-        job_a::LAST_GRAINS_HIGH,
+        job_a::LAST_GRAINS + 1,
         16,
         64,
     );
