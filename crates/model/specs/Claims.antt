@@ -36,7 +36,7 @@ module _ (j : Job) (m : PinMap) (s : ℕ) (start : Levels) where
   -- r is the replay of p: the levels that it writes are those of (16) and (17)
   pub record ReplayClaim (p : List Entry) (r : Replay) : Type 0 where
     pub levels : LevelsOf j m s start p (r .levels)
-    -- it is clean exactly where every level is in range and every pin held, and then it has written every interval's levels
+    -- it is clean exactly where every limit is kept and every pin held, and then it has written every interval's levels
     pub clean-iff : (r .result ≡ clean) ↔ SoundFor j m s start p (length p)
     pub clean-whole : r .result ≡ clean → length (r .levels) ≡ length p
     -- of the plans in shape, it is clean exactly for the admissible ones
