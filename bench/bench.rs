@@ -110,6 +110,15 @@ impl Read<'_> {
     }
 }
 
+/// The decoder's level after an interval, if its peak fits and the unit is there.
+fn plain_level(before: usize, sent: usize, taken: usize, size: usize) -> Option<usize> {
+    let peak = before + sent;
+    if peak > size {
+        return None;
+    }
+    peak.checked_sub(taken)
+}
+
 /// The book of pins.
 fn plain_calls(read: &Read, calls: &[u16], answers: &mut [u8]) -> Vec<Option<usize>> {
     let mut pins = vec![None; read.header[0]];
@@ -164,8 +173,7 @@ fn plain_plan(
                         continue;
                     }
                     for &(_, grains, distortion) in &options {
-                        let level = (b + sent).wrapping_sub(grains);
-                        if level <= decoder {
+                        if let Some(level) = plain_level(b, sent, grains, decoder) {
                             let rest = next[level * width + filled];
                             if rest != NEVER && rest + distortion < best {
                                 best = rest + distortion;
@@ -205,11 +213,11 @@ fn plain_entry(
     due: u32,
     next: &[u32],
 ) -> Option<(u8, u8, usize, usize, u32)> {
-    for (rate, sent) in rates.iter().enumerate() {
+    for (rate, &sent) in rates.iter().enumerate() {
         let filled = (l + sent).saturating_sub(drain);
         for &(choice, grains, distortion) in options {
-            let level = (b + sent).wrapping_sub(grains);
-            if filled <= bucket && level <= decoder {
+            let Some(level) = plain_level(b, sent, grains, decoder) else { continue };
+            if filled <= bucket {
                 let rest = next[level * (bucket + 1) + filled];
                 if rest != NEVER && rest + distortion == due {
                     return Some((rate as u8, choice, level, filled, distortion));
@@ -248,9 +256,9 @@ fn plain_replay(job: &[u8], calls: &[u16], entries: &[u8], levels: &mut [u16]) -
                 return None;
             }
         }
-        b = (b + sent).wrapping_sub(taken);
+        b = plain_level(b, sent, taken, decoder)?;
         l = (l + sent).saturating_sub(drain);
-        if b > decoder || l > bucket {
+        if l > bucket {
             return None;
         }
         levels[2 * t..2 * t + 2].copy_from_slice(&[b as u16, l as u16]);

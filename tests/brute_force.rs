@@ -18,8 +18,9 @@
 //! a reader that gives the first refusal due, an enumeration of every plan
 //! (small jobs), and a dynamic program that carries whole paths forward (the
 //! jobs too large to enumerate). The two searches check each other. Cases
-//! written by hand also carry the number the paper names, so that a slip in the
-//! reader here is seen too.
+//! written by hand also carry the number or the text that the paper calls for, so
+//! that a slip in the reader here, or in the decoder's limits that both searches
+//! share, is seen too.
 
 use std::collections::BTreeMap;
 use std::io::{Read, Write};
@@ -122,10 +123,13 @@ struct Group {
     /// At least one case in this many must have a plan, so that a random group
     /// cannot pass by asking for refusals alone; 0 where nothing is asked.
     plan_in: usize,
+    /// At least one case in this many must have another answer under each of the
+    /// mistaken rules; 0 where they are only counted, `None` where not even that.
+    told_in: Option<usize>,
 }
 
 fn group(name: impl Into<String>, cases: Vec<Case>) -> Group {
-    Group { name: name.into(), cases, plan_in: 0 }
+    Group { name: name.into(), cases, plan_in: 0, told_in: None }
 }
 
 #[derive(Clone, Copy)]
@@ -156,10 +160,17 @@ fn random_group(
         (1..=count).map(|i| case(format!("job {i}, seed {number}"), make(&mut rng), Nothing));
     let cases = cases.collect();
     match seed {
-        Fixed(_) => Group { name: format!("{kind}, seed {number}"), cases, plan_in },
+        Fixed(_) => Group { plan_in, ..group(format!("{kind}, seed {number}"), cases) },
         // How many plans a new seed brings is chance, so nothing is asked.
         New(_) => group(format!("{kind}, new seed"), cases),
     }
+}
+
+/// Jobs that tell the decoder's rule from the mistaken ones.
+fn tight_group(kind: &str, seed: Seed, count: usize, plan_in: usize, shape: &Shape) -> Group {
+    let make = |rng: &mut Rng| random_tight_job(rng, shape).bytes();
+    let asked = if matches!(seed, Fixed(_)) { 5 } else { 0 };
+    Group { told_in: Some(asked), ..random_group(kind, seed, count, plan_in, make) }
 }
 
 fn random_groups(new_seed: u64) -> Vec<Group> {
@@ -175,22 +186,32 @@ fn random_groups(new_seed: u64) -> Vec<Group> {
         groups.push(random_group("long jobs", seed, 40, 4, make));
         groups.push(random_group("scrambled bytes", seed, 1000, 40, scrambled));
     }
+    for seed in [Fixed(5), New(new_seed)] {
+        groups.push(tight_group("tight jobs", seed, 1000, 2, &TIGHT[0]));
+        groups.push(tight_group("tight medium jobs", seed, 250, 2, &TIGHT[1]));
+        groups.push(tight_group("tight long jobs", seed, 40, 3, &TIGHT[2]));
+    }
     groups
 }
 
-/// The cases the paper writes out for Job A.
+/// The cases the paper writes out for Job A. Its decoder of 4 never holds the 5
+/// grains of unit 2's choice 0, so unit 2 has choice 1; the best plan has unit 1
+/// at 0 anyway, and only a pin at 1 changes it.
 fn job_a_group() -> Group {
-    let plain = "plan 2 3 80\n1 2 - 2 0\n2 2 1 2 0\n3 4 0 1 2\ntotal 42 7 8\n";
-    let pinned = "plan 2 3 80\n1 0 - 0 0\n2 4 0 0 2\n3 2 1 0 2\ntotal 50 6 6\n";
+    let best = "plan 2 3 80\n1 0 - 0 0\n2 4 0 0 2\n3 2 1 0 2\ntotal 50 6 6\n";
+    let coarse = "plan 2 3 80\n1 0 - 0 0\n2 2 1 0 0\n3 2 1 0 0\ntotal 70 4 4\n";
     let a = job_a();
     let of = |commands: &[Command]| a.commanded(commands).bytes();
     group(
         "Job A as written",
         vec![
-            case("no commands", of(&[]), Text(plain)),
-            case("unit 1 pinned at 0", of(&[Pin(1, 0)]), Text(pinned)),
-            case("and lifted", of(&[Pin(1, 0), Lift(1)]), Text(plain)),
+            case("no commands", of(&[]), Text(best)),
+            case("unit 1 pinned at 0", of(&[Pin(1, 0)]), Text(best)),
+            case("and lifted", of(&[Pin(1, 0), Lift(1)]), Text(best)),
+            case("unit 1 pinned at 1", of(&[Pin(1, 1)]), Text(coarse)),
+            case("unit 1 pinned at 1 and lifted", of(&[Pin(1, 1), Lift(1)]), Text(best)),
             case("both pinned at 0", of(&[Pin(1, 0), Pin(2, 0)]), Refused(13)),
+            case("unit 2 pinned at 0", of(&[Pin(2, 0)]), Refused(13)),
             case("lift on a fresh desk", of(&[Lift(1)]), Refused(10)),
             case("empty input", Vec::new(), Refused(1)),
             case("drain 0", a.with(DRAIN, 0).bytes(), Nothing),
@@ -255,8 +276,16 @@ fn rates_group() -> Group {
         draft.rates = rates.to_vec();
         cases.push(case(format!("rates {rates:?}"), draft.bytes(), by_hand));
     }
-    for (rate, by_hand) in [(0, Nothing), (4095, APlan), (4096, Refused(4)), (0xffff, Refused(4))] {
-        let draft = Draft::new([0, 0, 0, 4095, 0, 0], &[rate], &[vec![(4095, 1), (0, 2)]]);
+    // A decoder of 255 takes no more at once, though a rate may be larger.
+    for (rate, by_hand) in [
+        (0, APlan),
+        (255, APlan),
+        (256, Refused(13)),
+        (4095, Refused(13)),
+        (4096, Refused(4)),
+        (0xffff, Refused(4)),
+    ] {
+        let draft = Draft::new([0, 255, 0, 4095, 0, 0], &[rate], &[vec![(4095, 1), (0, 2)]]);
         cases.push(case(format!("only rate {rate}"), draft.bytes(), by_hand));
     }
     group("rates", cases)
@@ -305,7 +334,7 @@ fn distortion_case(unit: usize, choice: usize, distortion: u32, by_hand: ByHand)
 
 /// Job A with every kind of command, for the groups that harm its records.
 fn commanded_a() -> Draft {
-    job_a().commanded(&[Pin(2, 1), Pin(1, 0), Lift(2), Lift(1), Pin(2, 0)])
+    job_a().commanded(&[Pin(2, 1), Pin(1, 0), Lift(2), Lift(1), Pin(1, 1)])
 }
 
 /// The input cut at every byte: a plan only where a command would begin.
@@ -411,7 +440,7 @@ fn command_order_group() -> Group {
         case("no plan, then a cut record", then(no_plan.bytes(), &[6]), Refused(1)),
         case("no plan, then a wrong kind", then(no_plan.bytes(), &wrong), Refused(2)),
         case("no plan, then a pin 9", no_plan.commanded(&[Pin(1, 1)]).bytes(), Refused(9)),
-        case("no plan, then lifted", no_plan.commanded(&[Lift(1)]).bytes(), APlan),
+        case("no plan, then lifted", no_plan.commanded(&[Lift(2)]).bytes(), APlan),
         case("too many words, then a cut record", then(large.bytes(), &[6]), Refused(1)),
         case("too many words, then a wrong kind", then(large.bytes(), &wrong), Refused(2)),
         case("too many words, then a lift 10", large.commanded(&[Lift(1)]).bytes(), Refused(10)),
@@ -587,10 +616,11 @@ fn workspace_group() -> Group {
     ];
     let mut cases = Vec::new();
     for (units, [delay, decoder, bucket], by_hand) in jobs {
-        // A rate of 0 next to that of 1 lets the decoder wait out the delay.
-        let mut draft = even_job(units, [delay, decoder, bucket, 1, 0, 0]);
-        draft.rates = vec![0, 1];
-        draft.header[RATES] = 2;
+        // A rate of 0 next to that of 1 lets the decoder wait out the delay. A
+        // decoder of no size takes units of nothing.
+        let unit = vec![(decoder.min(1), 1)];
+        let levels = [delay, decoder, bucket, 1, 0, 0];
+        let draft = Draft::new(levels, &[0, 1], &vec![unit; units]);
         let label = format!("N {units} d {delay} D {decoder} K {bucket}");
         if matches!(by_hand, Refused(11)) {
             // 11 comes before 13.
@@ -644,34 +674,89 @@ fn all_pinned(units: u16, choice: u16) -> Vec<Command> {
     (1..=units).map(|unit| Pin(unit, choice)).collect()
 }
 
-/// Totals far above sixteen bits, and levels at the ends of their ranges.
+/// Totals as large as the workspace lets them be, and levels at the ends of their
+/// ranges. What is sent and taken in an interval is at most the decoder's size.
 fn large_numbers_group() -> Group {
-    let most =
-        |units: usize, levels| Draft::new(levels, &[4095], &vec![vec![(4095, 1_000_000)]; units]);
-    let full = Draft::new([0, 255, 31, 4095, 255, 31], &[4095], &[vec![(4095, 0)]]);
-    let wide: Vec<u16> = (0..16).map(|i| i * 273).collect();
-    let unit: Vec<(u16, u32)> = (0..31).map(|i| (i * 132, 1_000_000 - 33_333 * i as u32)).collect();
+    let most = |units: usize, grains: u16, levels| {
+        Draft::new(levels, &[grains], &vec![vec![(grains, 1_000_000)]; units])
+    };
+    let full = Draft::new([0, 255, 31, 4095, 255, 31], &[0], &[vec![(255, 0)]]);
+    let mut wide: Vec<u16> = (0..16).map(|i| i * 17).collect();
+    wide[15] = 4095;
+    let unit: Vec<(u16, u32)> = (0..31).map(|i| (i * 10, 1_000_000 - 33_333 * i as u32)).collect();
     let widest = Draft::new([1, 255, 9, 4095, 100, 7], &wide, &vec![unit; 4]);
-    group(
-        "large numbers",
-        vec![
-            case(
-                "512 units of the largest numbers",
-                most(512, [0, 0, 0, 4095, 0, 0]).bytes(),
-                APlan,
-            ),
-            case("17 units of the largest numbers", most(17, [0, 0, 0, 4095, 0, 0]).bytes(), APlan),
-            case("a bucket one grain short", most(17, [0, 0, 15, 4094, 0, 0]).bytes(), Refused(13)),
-            case("a bucket that just holds", most(17, [0, 0, 17, 4094, 0, 0]).bytes(), APlan),
-            case(
-                "a delay the decoder cannot hold",
-                most(1, [1, 255, 0, 4095, 0, 0]).bytes(),
-                Refused(13),
-            ),
-            case("both levels start at the top", full.bytes(), APlan),
-            case("16 rates and 31 choices", widest.bytes(), APlan),
-        ],
-    )
+    let rows: [(&str, Draft, ByHand); 9] = [
+        ("512 units of the largest distortion", most(512, 0, [0, 0, 0, 4095, 0, 0]), APlan),
+        ("511 units of 31 grains", most(511, 31, [0, 31, 0, 4095, 0, 0]), APlan),
+        ("63 units of 255 grains", most(63, 255, [0, 255, 0, 4095, 0, 0]), APlan),
+        ("63 units of 4,095 grains", most(63, 4095, [0, 255, 0, 4095, 0, 0]), Refused(13)),
+        ("a bucket one grain short", most(17, 31, [0, 31, 16, 30, 0, 0]), Refused(13)),
+        ("a bucket that just holds", most(17, 31, [0, 31, 17, 30, 0, 0]), APlan),
+        ("a delay the decoder cannot hold", most(1, 255, [1, 255, 0, 4095, 0, 0]), Refused(13)),
+        ("both levels start at the top", full, APlan),
+        ("16 rates and 31 choices", widest, APlan),
+    ];
+    let mut cases = Vec::new();
+    for (label, draft, by_hand) in rows {
+        cases.push(case(label, draft.bytes(), by_hand));
+    }
+    group("large numbers", cases)
+}
+
+/// What the decoder may hold just before a unit leaves: up to its size, with one
+/// more refused even where the unit takes that away. Each line: d, D, the
+/// starting level, the rates, one unit's sizes (choice c has distortion 7 + c),
+/// and what is due by hand; the bucket drains all.
+fn peaks_group() -> Group {
+    let rows: [([u16; 3], &[u16], &[u16], ByHand); 26] = [
+        // The peak is the size, and something or nothing is left.
+        ([0, 4, 1], &[3], &[3], Text("plan 1 1 10\n1 3 0 1 0\ntotal 7 3 3\n")),
+        ([0, 4, 1], &[3], &[4], Text("plan 1 1 10\n1 3 0 0 0\ntotal 7 4 3\n")),
+        ([0, 4, 1], &[3], &[0], Text("plan 1 1 10\n1 3 0 4 0\ntotal 7 0 3\n")),
+        ([0, 4, 0], &[4], &[4], Text("plan 1 1 10\n1 4 0 0 0\ntotal 7 4 4\n")),
+        ([0, 4, 4], &[0], &[4], Text("plan 1 1 10\n1 0 0 0 0\ntotal 7 4 0\n")),
+        // The peak is one more, and the unit would take it down to 4 or less.
+        ([0, 4, 2], &[3], &[1], Refused(13)),
+        ([0, 4, 2], &[3], &[3], Refused(13)),
+        ([0, 4, 2], &[3], &[5], Refused(13)),
+        ([0, 4, 4], &[1], &[4], Refused(13)),
+        ([0, 4, 0], &[5], &[5], Refused(13)),
+        // Cut down to 4 it would still have what the unit takes.
+        ([0, 4, 2], &[9], &[4], Refused(13)),
+        // One short of what the unit takes, and over besides.
+        ([0, 4, 1], &[2], &[4], Refused(13)),
+        ([0, 4, 1], &[4], &[6], Refused(13)),
+        // A unit larger than the decoder, whatever is sent.
+        ([0, 4, 4], &[0, 1, 2, 3, 4, 5], &[5], Refused(13)),
+        ([1, 4, 0], &[0, 1, 2, 3, 4, 5], &[5], Refused(13)),
+        // The first choice needs 5 there; the second just fits.
+        ([0, 4, 3], &[0, 1, 2], &[5, 4, 3], Text("plan 1 1 10\n1 1 1 0 0\ntotal 8 4 1\n")),
+        // No unit leaves during the delay, and the level is the peak.
+        ([1, 4, 1], &[3], &[3], Refused(13)),
+        ([1, 4, 0], &[4, 5], &[4], Refused(13)),
+        ([1, 4, 0], &[0, 4], &[4], Text("plan 1 2 15\n1 0 - 0 0\n2 4 0 0 0\ntotal 7 4 4\n")),
+        ([1, 4, 4], &[0, 1], &[4], Text("plan 1 2 15\n1 0 - 4 0\n2 0 0 0 0\ntotal 7 4 0\n")),
+        (
+            [2, 6, 0],
+            &[2],
+            &[3],
+            Text("plan 1 3 28\n1 2 - 2 0\n2 2 - 4 0\n3 2 0 3 0\ntotal 7 3 6\n"),
+        ),
+        ([2, 5, 0], &[2], &[3], Refused(13)),
+        // The ends of the decoder's range.
+        ([0, 0, 0], &[0], &[0], Text("plan 1 1 2\n1 0 0 0 0\ntotal 7 0 0\n")),
+        ([0, 0, 0], &[1], &[1], Refused(13)),
+        ([0, 255, 55], &[200], &[1], Text("plan 1 1 512\n1 200 0 254 0\ntotal 7 1 200\n")),
+        ([0, 255, 55], &[201], &[1], Refused(13)),
+    ];
+    let mut cases = Vec::new();
+    for ([delay, size, start], rates, sizes, by_hand) in rows {
+        let unit: Vec<(u16, u32)> = sizes.iter().copied().zip(7..).collect();
+        let draft = Draft::new([delay, size, 0, 4095, start, 0], rates, &[unit]);
+        let label = format!("d {delay}, D {size} at {start}, rates {rates:?}, unit {sizes:?}");
+        cases.push(case(label, draft.bytes(), by_hand));
+    }
+    group("decoder peaks", cases)
 }
 
 /// Standard input may come in parts; the program must read to the end.
@@ -919,18 +1004,45 @@ fn report_group(group: &Group, failures: Vec<Failure>, tally: BTreeMap<String, u
         println!("FAILED {}: too few plans among {jobs} jobs: {}", group.name, parts.join(", "));
         return false;
     }
-    println!("ok {}: {jobs} jobs ok ({})", group.name, parts.join(", "));
+    let told = if group.told_in.is_some() { told_apart(&group.cases) } else { Vec::new() };
+    let counts: String =
+        told.iter().map(|(count, rule)| format!("; {count} tell it from {rule}")).collect();
+    let asked = group.told_in.unwrap_or(0);
+    if asked > 0 && told.iter().any(|(count, _)| count * asked < jobs) {
+        println!("FAILED {}: too little in {jobs} jobs{counts}", group.name);
+        return false;
+    }
+    println!("ok {}: {jobs} jobs ok ({}){counts}", group.name, parts.join(", "));
     true
 }
 
-/// The dynamic program against the enumeration, on tiny jobs. It also asks
-/// that the jobs be worth something: plans, jobs without one, and many ties.
+/// How many cases have another plan, or one where there is none, under each of
+/// the mistaken rules.
+fn told_apart(cases: &[Case]) -> Vec<(usize, &'static str)> {
+    let mut told = MISTAKEN.map(|(name, _)| (0, name));
+    for case in cases {
+        let Ok((job, book)) = read_input(&case.input) else { continue };
+        let plan = dynamic(&job, &book);
+        for ((count, _), (_, rule)) in told.iter_mut().zip(MISTAKEN) {
+            *count += (dynamic_by(rule, &job, &book) != plan) as usize;
+        }
+    }
+    told.to_vec()
+}
+
+/// The dynamic program against the enumeration, on tiny jobs and tight ones. It
+/// also asks that the jobs be worth something: plans, jobs without one, and many
+/// ties.
 fn searches_agree(new_seed: u64) -> bool {
     let (mut jobs, mut plans, mut ties) = (0, 0, 0);
     for seed in [1, 2, 3, new_seed] {
         let mut rng = Rng(seed);
-        for index in 1..=1500 {
-            let input = random_job(&mut rng, &TINY).bytes();
+        for index in 1..=2000 {
+            let draft = match index {
+                1..=1500 => random_job(&mut rng, &TINY),
+                _ => random_tight_job(&mut rng, &TIGHT[0]),
+            };
+            let input = draft.bytes();
             let Ok((job, book)) = read_input(&input) else {
                 continue;
             };
@@ -974,6 +1086,7 @@ fn run_all(path: String, new_seed: u64, example_directory: Option<&Path>) -> boo
         workspace_group(),
         unit_counts_group(),
         large_numbers_group(),
+        peaks_group(),
         parts_group(),
         command_lists_group(),
     ];

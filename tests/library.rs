@@ -233,8 +233,8 @@ fn least(job: &Job, options: &Options, t: usize, decoder: i64, bucket: i64) -> O
     for sent in &job.rates {
         let filled = (bucket + sent - job.drain).max(0);
         for (_, grains, distortion) in &options[t] {
-            let level = decoder + sent - grains;
-            if level < 0 || level > job.decoder_size || filled > job.bucket_size {
+            let Some(level) = by_peak(job, decoder, *sent, *grains) else { continue };
+            if filled > job.bucket_size {
                 continue;
             }
             if let Some(rest) = least(job, options, t + 1, level, filled) {
@@ -264,15 +264,17 @@ fn brute_table(job: &Job, book: &Book) -> Vec<u32> {
 const FAR: u32 = 1 << 30;
 
 /// The same table, layer by layer from the last, with the work of an interval
-/// split in two: first the least over choices for each level that the decoder
-/// may have between sending and decoding, then the least over rates.
+/// split in two: first the least over choices for each peak, which is what the
+/// decoder has between sending and decoding, then the least over rates. Both
+/// limits of the decoder lie in the rows: no peak past its size has one, and a
+/// unit is taken from no row below its own size.
 fn fast_table(job: &Job, book: &Book) -> Vec<u32> {
     let (rows, width) = (job.decoder_size as usize + 1, job.bucket_size as usize + 1);
     let layer = rows * width;
     let mut table = vec![0; (job.intervals() + 1) * layer];
     let mut next = vec![0; layer];
     for t in (1..=job.intervals()).rev() {
-        let decoded = decode_layer(job, &options(job, book, t), &next, rows, width);
+        let decoded = decode_layer(&options(job, book, t), &next, width);
         next = send_layer(job, &decoded, rows, width);
         let words = next.iter().map(|&value| if value >= FAR { NEVER } else { value });
         let place = &mut table[(t - 1) * layer..t * layer];
@@ -281,28 +283,15 @@ fn fast_table(job: &Job, book: &Book) -> Vec<u32> {
     table
 }
 
-/// Row r: the decoder has level r before the unit leaves.
-fn decode_layer(
-    job: &Job,
-    options: &[(usize, i64, i64)],
-    next: &[u32],
-    rows: usize,
-    width: usize,
-) -> Vec<u32> {
-    let most = options.iter().map(|option| option.1 as usize).max().unwrap_or(0);
-    let fullest = *job.rates.last().expect("a rate") as usize;
-    let count = rows + most.min(fullest);
-    let mut decoded = vec![FAR; count * width];
-    for (row, best) in decoded.chunks_mut(width).enumerate() {
-        let met =
-            job.rates.iter().any(|&sent| sent as usize <= row && row - (sent as usize) < rows);
+/// Row r: the decoder's peak is r, and a unit leaves it for a row of `next`.
+fn decode_layer(options: &[(usize, i64, i64)], next: &[u32], width: usize) -> Vec<u32> {
+    let mut decoded = vec![FAR; next.len()];
+    for (peak, best) in decoded.chunks_mut(width).enumerate() {
         for &(_, grains, distortion) in options {
-            let Some(left) = row.checked_sub(grains as usize) else { continue };
-            if met && left < rows {
-                let from = &next[left * width..(left + 1) * width];
-                for (held, value) in best.iter_mut().zip(from) {
-                    *held = (*held).min(value + distortion as u32);
-                }
+            let Some(left) = peak.checked_sub(grains as usize) else { continue };
+            let from = &next[left * width..(left + 1) * width];
+            for (held, value) in best.iter_mut().zip(from) {
+                *held = (*held).min(value + distortion as u32);
             }
         }
     }
@@ -353,9 +342,9 @@ fn read_off(job: &Job, book: &Book, table: &[u32]) -> Option<Plan> {
         let mut taken = None;
         for (rate, &sent) in job.rates.iter().enumerate() {
             for (choice, grains, distortion) in options(job, book, t) {
-                let (level, filled) = (decoder + sent - grains, (bucket + sent - job.drain).max(0));
-                let held = (0..=job.decoder_size).contains(&level) && filled <= job.bucket_size;
-                if taken.is_none() && held {
+                let Some(level) = by_peak(job, decoder, sent, grains) else { continue };
+                let filled = (bucket + sent - job.drain).max(0);
+                if taken.is_none() && filled <= job.bucket_size {
                     let rest = word(t, level, filled);
                     if rest != NEVER && distortion as u32 + rest == due {
                         taken = Some(((rate, choice), level, filled));
@@ -555,45 +544,61 @@ fn larger_group(seed: u64, asks: bool) -> Result<String, String> {
 struct Followed {
     levels: Vec<u16>,
     values: [u64; 5],
+    /// What the decoder holds just before and just after the unit leaves, up to
+    /// the first breach and in its interval too.
+    decoder: Vec<(i64, i64)>,
 }
 
+/// The numbers of violations. They are names, and the order of testing is
+/// another.
+const SHORT: u64 = 1;
+const OVER: u64 = 2;
+const BUCKET_OVER: u64 = 3;
+const NOT_HELD: u64 = 4;
+
 /// The levels of each interval from sums over all intervals up to it. The
-/// decoder has its start and all that was sent, less all that was taken. The
-/// bucket's level, cut at 0 after each interval, is the larger of its start and
-/// all rises, and all rises since some interval.
+/// decoder has its start and all that was sent, less all that was taken, where
+/// the interval's own unit is still there at the peak. The bucket's level, cut at
+/// 0 after each interval, is the larger of its start and all rises, and all rises
+/// since some interval.
 fn follow(job: &Job, book: &Book, plan: &Plan) -> Followed {
     let sent = |t: usize| job.rates[plan[t - 1].0];
     let unit = |t: usize| t.checked_sub(job.delay + 1);
     let choice = |t: usize| unit(t).map(|unit| &job.units[unit][plan[t - 1].1]);
     let taken = |t: usize| choice(t).map_or(0, |choice| choice.grains);
-    let mut levels = Vec::new();
+    let (mut levels, mut decoder) = (Vec::new(), Vec::new());
     for t in 1..=job.intervals() {
-        let decoder = job.start_decoder + (1..=t).map(|s| sent(s) - taken(s)).sum::<i64>();
+        let come = job.start_decoder + (1..=t).map(sent).sum::<i64>();
+        let gone = |upto: usize| (1..=upto).map(taken).sum::<i64>();
+        let (peak, level) = (come - gone(t - 1), come - gone(t));
+        decoder.push((peak, level));
         let since = |s: usize| (s + 1..=t).map(|r| sent(r) - job.drain).sum::<i64>();
         let risen = (1..=t).map(since).max().expect("an interval");
         let bucket = risen.max(job.start_bucket + since(0));
         let pinned = unit(t).and_then(|unit| book[unit]);
         let breaches = [
-            decoder < 0,
-            decoder > job.decoder_size,
-            bucket > job.bucket_size,
-            pinned.is_some_and(|pinned| pinned != plan[t - 1].1),
+            (OVER, peak > job.decoder_size),
+            (SHORT, level < 0),
+            (BUCKET_OVER, bucket > job.bucket_size),
+            (NOT_HELD, pinned.is_some_and(|pinned| pinned != plan[t - 1].1)),
         ];
-        if let Some(first) = breaches.iter().position(|breach| *breach) {
-            return Followed { levels, values: [first as u64 + 1, t as u64, 0, 0, 0] };
+        if let Some((first, _)) = breaches.into_iter().find(|(_, breach)| *breach) {
+            return Followed { levels, values: [first, t as u64, 0, 0, 0], decoder };
         }
-        levels.extend([decoder as u16, bucket as u16]);
+        levels.extend([level as u16, bucket as u16]);
     }
     let all = 1..=job.intervals();
     let distortion = |t: usize| choice(t).map_or(0, |choice| choice.distortion);
     let totals: [i64; 3] =
         [all.clone().map(distortion).sum(), all.clone().map(taken).sum(), all.map(sent).sum()];
     let [distortion, source, channel] = totals.map(|total| total as u64);
-    Followed { levels, values: [0, 0, distortion, source, channel] }
+    Followed { levels, values: [0, 0, distortion, source, channel], decoder }
 }
 
 fn check_replay(rng: &mut Rng, asked: &Asked, plan: &Plan) -> Checked {
     let due = follow(&asked.job, &asked.book, plan);
+    let stepped = replay(&asked.job, &asked.book, plan, |_, _| ());
+    same("clean step by step", due.values[0] == 0, stepped.is_some())?;
     let entries = plan_bytes(plan);
     let (room, more) = (2 * asked.intervals() + rng.from(0, 7), 5 + rng.from(0, 3));
     let mut levels = Lent::new(rng, room);
@@ -608,19 +613,17 @@ fn check_replay(rng: &mut Rng, asked: &Asked, plan: &Plan) -> Checked {
 }
 
 fn typed_replay([kind, interval, distortion, source_grains, channel_grains]: [u64; 5]) -> Replayed {
-    let violations = [
-        Violation::DecoderShort,
-        Violation::DecoderOver,
-        Violation::BucketOver,
-        Violation::PinNotHeld,
-    ];
-    match kind {
-        0 => Replayed::Clean(upload_planner::Totals { distortion, source_grains, channel_grains }),
-        _ => Replayed::Breach {
-            violation: violations[kind as usize - 1],
-            interval: interval as usize,
-        },
-    }
+    let violation = match kind {
+        0 => {
+            let totals = upload_planner::Totals { distortion, source_grains, channel_grains };
+            return Replayed::Clean(totals);
+        }
+        SHORT => Violation::DecoderShort,
+        OVER => Violation::DecoderOver,
+        BUCKET_OVER => Violation::BucketOver,
+        _ => Violation::PinNotHeld,
+    };
+    Replayed::Breach { violation, interval: interval as usize }
 }
 
 fn check_report(rng: &mut Rng, asked: &Asked, plan: &Plan) -> Checked {
@@ -652,11 +655,11 @@ fn random_plan(rng: &mut Rng, job: &Job, book: &Book) -> Plan {
             let sent = job.rates[entry.0];
             let unit = t.checked_sub(job.delay + 1);
             let taken = unit.map_or(0, |unit| job.units[unit][entry.1].grains);
-            let (level, filled) = (decoder + sent - taken, (bucket + sent - job.drain).max(0));
+            let level = by_peak(job, decoder, sent, taken);
+            let filled = (bucket + sent - job.drain).max(0);
             let pinned = unit.and_then(|unit| book[unit]).unwrap_or(entry.1);
             let held = pinned == entry.1 || !regards_pins;
-            let fits = (0..=job.decoder_size).contains(&level) && filled <= job.bucket_size;
-            if fits && held {
+            if let (Some(level), true) = (level, held && filled <= job.bucket_size) {
                 (decoder, bucket) = (level, filled);
                 break;
             }
@@ -761,6 +764,231 @@ fn misshapen(rng: &mut Rng, job: &Job, mut entries: Vec<u8>) -> (Vec<u8>, &'stat
     };
     entries.shrink_to_fit();
     (entries, how)
+}
+
+// ---------------------------------------------------------------------------
+// The decoder's peak.
+// ---------------------------------------------------------------------------
+
+/// A table and totals by hand.
+fn peaks_group() -> Result<String, String> {
+    let mut rng = Rng(1);
+    // One unit, a decoder of 2, rates 0 and 2. From level 0 the 2 grains sent are
+    // the peak; from 1 and 2 nothing can be sent. The last two choices take more
+    // than the decoder ever holds.
+    let unit = vec![(2, 5), (1, 8), (3, 1), (4, 0)];
+    let draft = Draft::new([0, 2, 0, 9, 0, 0], &[0, 2], &[unit]);
+    let asked = Asked::new(&mut rng, &draft);
+    check_plan(&mut rng, &asked, &[5, 8, 5, 0, 0, 0], &Some(vec![(1, 0)]))?;
+    for (start, plan, due) in [
+        (0, (1, 0), [0, 0, 5, 2, 2]),
+        (0, (1, 1), [0, 0, 8, 1, 2]),
+        (0, (0, 1), [SHORT, 1, 0, 0, 0]),
+        (0, (1, 2), [SHORT, 1, 0, 0, 0]),
+        (0, (1, 3), [SHORT, 1, 0, 0, 0]),
+        (1, (0, 1), [0, 0, 8, 1, 0]),
+        (1, (1, 0), [OVER, 1, 0, 0, 0]),
+        (1, (1, 1), [OVER, 1, 0, 0, 0]),
+        (1, (1, 2), [OVER, 1, 0, 0, 0]),
+        (1, (1, 3), [OVER, 1, 0, 0, 0]),
+        (2, (0, 0), [0, 0, 5, 2, 0]),
+        (2, (1, 0), [OVER, 1, 0, 0, 0]),
+    ] {
+        let asked = Asked::new(&mut rng, &draft.with(START_DECODER, start));
+        let what = format!("from {start} with {plan:?}");
+        same(&what, due, follow(&asked.job, &asked.book, &vec![plan]).values)?;
+        check_replay(&mut rng, &asked, &vec![plan])
+            .map_err(|trouble| format!("{what}: {trouble}"))?;
+    }
+
+    // As many grains as a plan can come to, more than sixteen bits count.
+    let units = vec![vec![(255, 1_000_000)]; 512];
+    let asked = Asked::new(&mut rng, &Draft::new([0, 255, 0, 255, 0, 0], &[255], &units));
+    let (table, plan) = (fast_table(&asked.job, &asked.book), vec![(0, 0); 512]);
+    same("512 full units", [512_000_000, 130_560, 130_560], totals_of(&asked, &plan))?;
+    check_plan(&mut rng, &asked, &table, &Some(plan.clone()))?;
+    check_replay(&mut rng, &asked, &plan)?;
+    Ok("by hand".to_string())
+}
+
+/// Every set of violations in one interval, before it none: the name is the first
+/// in the order of testing, whatever else is wrong.
+fn violations_group() -> Result<String, String> {
+    let mut rng = Rng(1);
+    let mut sets = 0;
+    for delay in 0..=2 {
+        for t in 1..=delay + 2 {
+            for bits in 0..32 {
+                let has: [bool; 5] = std::array::from_fn(|bit| bits >> bit & 1 == 1);
+                let [_, short, _, unheld, far] = has;
+                if t <= delay && (short || unheld || far) {
+                    // Nothing is taken, and nothing is pinned.
+                    continue;
+                }
+                check_violations(&mut rng, delay, t, has).map_err(|trouble| {
+                    format!("delay {delay}, interval {t}, {has:?}: {trouble}")
+                })?;
+                sets += 1;
+            }
+        }
+    }
+    Ok(format!("{sets} sets of violations"))
+}
+
+/// Two units and a decoder of 9 that holds 3 up to interval t, which sends the
+/// first grains: 6, or 7 for a peak of 10. Its unit takes just the peak, or one
+/// grain more to be short; far from that, a single grain, or 4,095. The bucket
+/// just holds or is over by one.
+fn check_violations(
+    rng: &mut Rng,
+    delay: usize,
+    t: usize,
+    [over, short, bucket, unheld, far]: [bool; 5],
+) -> Checked {
+    let sent: u16 = if over { 7 } else { 6 };
+    let taken = match (short, far) {
+        (false, false) => 3 + sent,
+        (false, true) => 1,
+        (true, false) => 3 + sent + 1,
+        (true, true) => 4095,
+    };
+    // The bucket falls by 1 in each interval, to 2 before interval t.
+    let start = 2 + (t as u16 - 1);
+    let size = 2 + sent - 1 - bucket as u16;
+    let units = vec![vec![(0, 5), (taken, 6)]; 2];
+    let mut draft = Draft::new([delay as u16, 9, size, 1, 3, start], &[0, sent], &units);
+    if unheld {
+        draft.commands.push(Pin((t - delay) as u16, 0));
+    }
+    let asked = Asked::new(rng, &draft);
+    let entry = |s: usize| {
+        let here = (s == t) as usize;
+        (here, if s > delay { here } else { NO_CHOICE })
+    };
+    let plan: Plan = (1..=delay + 2).map(entry).collect();
+
+    let first = first_of(&[(over, 2), (short, 1), (bucket, 3), (unheld, 4)]);
+    let due = match first {
+        0 if t > delay => [0, 0, 5 + 6, taken as u64, sent as u64],
+        0 => [0, 0, 5 + 5, 0, sent as u64],
+        _ => [first as u64, t as u64, 0, 0, 0],
+    };
+    same("followed", due, follow(&asked.job, &asked.book, &plan).values)?;
+    check_replay(rng, &asked, &plan)
+}
+
+/// Tight jobs: their tables and best plans, and plans that keep the decoder as
+/// full as it may be or a little fuller.
+fn tight_group(seed: u64, asks: bool) -> Result<String, String> {
+    let mut rng = Rng(seed);
+    let (mut plans, mut told) = (0, [0; MISTAKEN.len()]);
+    let mut sharp = Sharp::default();
+    let counts = [scaled(600), scaled(120), scaled(20)];
+    let jobs: usize = counts.iter().sum();
+    for index in 1..=jobs {
+        let shape = (index > counts[0]) as usize + (index > counts[0] + counts[1]) as usize;
+        let draft = random_tight_job(&mut rng, &TIGHT[shape]);
+        let asked = Asked::new(&mut rng, &draft);
+        let plan = dynamic(&asked.job, &asked.book);
+        let mut check = || -> Checked {
+            let table = fast_table(&asked.job, &asked.book);
+            if shape == 0 {
+                same("fast table", &brute_table(&asked.job, &asked.book), &table)?;
+                same("plan of all", &enumerate(&asked.job, &asked.book).best, &plan)?;
+            }
+            same("plan read off", &plan, &read_off(&asked.job, &asked.book, &table))?;
+            check_plan(&mut rng, &asked, &table, &plan)?;
+            check_replayed(&mut rng, &asked, &plan)?;
+            for _ in 0..8 {
+                let tight = tight_plan(&mut rng, &asked.job, &asked.book);
+                check_replay(&mut rng, &asked, &tight)
+                    .map_err(|trouble| format!("{trouble}\n  plan {tight:?}"))?;
+                sharp.count(&asked, &tight);
+            }
+            Ok(())
+        };
+        check().map_err(|trouble| failed(seed, index, &trouble, &asked))?;
+        plans += plan.is_some() as usize;
+        for (count, (_, rule)) in told.iter_mut().zip(MISTAKEN) {
+            *count += (dynamic_by(rule, &asked.job, &asked.book) != plan) as usize;
+        }
+    }
+    let Sharp { full, within, both, waiting } = sharp;
+    let apart: String = told
+        .iter()
+        .zip(MISTAKEN)
+        .map(|(count, (rule, _))| format!(", {count} tell the rule from {rule}"))
+        .collect();
+    let text = format!(
+        "{jobs} jobs, {plans} with a plan{apart}; {} plans: {full} units leave a full decoder, \
+         {within} over with a level within the size, {both} over and short, {waiting} over \
+         before the first unit",
+        8 * jobs
+    );
+    let often = told.iter().all(|count| count * 4 > jobs);
+    let each = [full, within, both, waiting].iter().all(|count| count * 10 > jobs);
+    ensure!((often && each && plans * 2 > jobs) || !asks, "too little in it: {text}");
+    Ok(text)
+}
+
+/// What tells the peak from the level, counted over plans.
+#[derive(Default)]
+struct Sharp {
+    /// A peak of just the size, and a unit of some grains leaves.
+    full: usize,
+    /// Over, and the level after the unit would be within the size.
+    within: usize,
+    /// Over and short at once.
+    both: usize,
+    /// Over where no unit leaves.
+    waiting: usize,
+}
+
+impl Sharp {
+    fn count(&mut self, asked: &Asked, plan: &Plan) {
+        let size = asked.job.decoder_size;
+        let Followed { values, decoder, .. } = follow(&asked.job, &asked.book, plan);
+        for (t, &(peak, level)) in (1..).zip(&decoder) {
+            let breaks = values[1] == t as u64;
+            self.full += (!breaks && peak == size && level < peak) as usize;
+            let over = breaks && values[0] == OVER;
+            self.within += (over && t > asked.job.delay && (0..=size).contains(&level)) as usize;
+            self.both += (over && level < 0) as usize;
+            self.waiting += (over && t <= asked.job.delay) as usize;
+        }
+    }
+}
+
+/// Goes on without a breach where that is possible, half of the time with the
+/// highest peak; now and then any entry.
+fn tight_plan(rng: &mut Rng, job: &Job, book: &Book) -> Plan {
+    let slip = rng.pick(&[2, 8, 1000]);
+    let (mut decoder, mut bucket) = (job.start_decoder, job.start_bucket);
+    let mut plan = Vec::new();
+    for t in 1..=job.intervals() {
+        let mut going = Vec::new();
+        for (rate, &sent) in job.rates.iter().enumerate() {
+            let filled = (bucket + sent - job.drain).max(0);
+            for (choice, grains, _) in options(job, book, t) {
+                let level = by_peak(job, decoder, sent, grains);
+                if let (Some(level), true) = (level, filled <= job.bucket_size) {
+                    going.push((decoder + sent, (rate, choice), level, filled));
+                }
+            }
+        }
+        if rng.one_in(2) {
+            let highest = going.iter().map(|step| step.0).max();
+            going.retain(|step| Some(step.0) == highest);
+        }
+        if going.is_empty() || rng.one_in(slip) {
+            plan.push(random_entry(rng, job, t));
+        } else {
+            let (_, entry, level, filled) = rng.pick(&going);
+            plan.push(entry);
+            (decoder, bucket) = (level, filled);
+        }
+    }
+    plan
 }
 
 // ---------------------------------------------------------------------------
@@ -1078,6 +1306,23 @@ fn limits_group() -> Result<String, String> {
 // Job A as written, and refusals in their order.
 // ---------------------------------------------------------------------------
 
+/// Job A's best plan, its levels and totals, by hand. Unit 2 has choice 1, as its
+/// choice 0 takes 5 grains and the decoder holds 4. Unit 1 at choice 0 takes 4,
+/// so the decoder is just full before it leaves.
+const BEST_A: [u8; 6] = [0, 255, 2, 0, 1, 1];
+const LEVELS_A: [u16; 6] = [0, 0, 0, 2, 0, 2];
+const TOTALS_A: [u64; 3] = [50, 6, 6];
+
+/// Job A's table by hand: a row for each decoder level, a word for each bucket
+/// level. Unit 1 at choice 0 needs a peak of just 4, which levels 0, 2 and 4 can
+/// reach and levels 1 and 3 cannot; from 0 the bucket must take 4 grains.
+const TABLE_A: [[[u32; 4]; 5]; 4] = [
+    [[50; 4], [70; 4], [50; 4], [70; 4], [50; 4]],
+    [[50, 50, 70, 70], [70; 4], [50; 4], [70; 4], [50; 4]],
+    [[40; 4]; 5],
+    [[0; 4]; 5],
+];
+
 /// The cases that the paper writes out, none of them worked out here.
 fn job_a_group() -> Result<String, String> {
     use upload_planner::{best_plan, open, plan, replay, report, written, Refusal, Totals};
@@ -1088,18 +1333,23 @@ fn job_a_group() -> Result<String, String> {
         channel_grains,
     };
     let (first, second) = (Call::Pin { unit: 1, choice: 0 }, Call::Pin { unit: 2, choice: 0 });
-    let lifted = Call::Lift { unit: 1 };
+    let (other, lifted) = (Call::Pin { unit: 1, choice: 1 }, Call::Lift { unit: 1 });
     let best = |calls: &[Call]| best_plan(&job, calls).map(|best| (best.entries, best.totals));
-    let plain = (vec![1, 255, 1, 1, 2, 0], totals(42, 7, 8));
-    let pinned = (vec![0, 255, 2, 0, 1, 1], totals(50, 6, 6));
+    let found = (BEST_A.to_vec(), totals(50, 6, 6));
+    let coarse = (vec![0, 255, 1, 1, 1, 1], totals(70, 4, 4));
 
     let opened = open(&job).map_err(|refusal| refusal.to_string())?;
     let opened = (opened.bytes, opened.units, opened.intervals, opened.table_words);
     same("opened", (64, 2, 3, 80), opened)?;
-    same("no pins", Ok(plain.clone()), best(&[]))?;
-    same("unit 1 pinned at 0", Ok(pinned), best(&[first]))?;
-    same("and lifted", Ok(plain.clone()), best(&[first, lifted]))?;
+    same("no pins", Ok(found.clone()), best(&[]))?;
+    same("unit 1 pinned at 0", Ok(found.clone()), best(&[first]))?;
+    same("and lifted", Ok(found.clone()), best(&[first, lifted]))?;
+    same("unit 1 pinned at 1", Ok(coarse), best(&[other]))?;
+    same("unit 1 pinned at 1 and lifted", Ok(found.clone()), best(&[other, lifted]))?;
     same("both pinned at 0", Err(Refusal::NoPlan), best(&[first, second]))?;
+    same("unit 2 pinned at 0", Err(Refusal::NoPlan), best(&[second]))?;
+    let table = best_plan(&job, &[]).map(|best| best.table);
+    same("the table", Ok(TABLE_A.concat().concat()), table)?;
     let answers = best_plan(&job, &[lifted]).map(|best| best.answers);
     same("lift of no pin", Ok(vec![Err(Refusal::NotPinned)]), answers)?;
 
@@ -1108,21 +1358,38 @@ fn job_a_group() -> Result<String, String> {
     };
     same("79 words", Err(Refusal::TableTooShort), sized(79, 6))?;
     same("five plan bytes", Err(Refusal::ListTooShort), sized(80, 5))?;
-    same("80 words, six bytes", Ok(plain.1), sized(80, 6))?;
+    same("80 words, six bytes", Ok(found.1), sized(80, 6))?;
 
-    let replayed = |calls: &[Call], entries: &[u8]| replay(&job, calls, entries, &mut [0; 6]);
-    let breach = |violation, interval| Ok(Replayed::Breach { violation, interval });
+    let replayed = |calls: &[Call], entries: &[u8]| {
+        let mut levels = [9; 6];
+        replay(&job, calls, entries, &mut levels).map(|replayed| (replayed, levels))
+    };
+    let breach = |violation, interval, levels: [u16; 6]| {
+        Ok((Replayed::Breach { violation, interval }, levels))
+    };
     let over = replayed(&[], &[2, 255, 2, 1, 0, 0]);
-    same("decoder over", breach(Violation::DecoderOver, 2), over)?;
+    same("decoder over", breach(Violation::DecoderOver, 2, [4, 2, 9, 9, 9, 9]), over)?;
     let short = replayed(&[], &[0, 255, 0, 1, 0, 1]);
-    same("decoder short", breach(Violation::DecoderShort, 2), short)?;
-    same("the best plan", Ok(Replayed::Clean(plain.1)), replayed(&[], &plain.0))?;
-    let unheld = replayed(&[first], &plain.0);
-    same("a pin not held", breach(Violation::PinNotHeld, 2), unheld)?;
+    same("decoder short", breach(Violation::DecoderShort, 2, [0, 0, 9, 9, 9, 9]), short)?;
+    let clean = Ok((Replayed::Clean(found.1), LEVELS_A));
+    same("the best plan", clean, replayed(&[], &BEST_A))?;
+    // Of distortion 42, but with 2 + 4 grains in a decoder of 4 before unit 2
+    // leaves with 5 of them.
+    let finer = [1, 255, 1, 1, 2, 0];
+    let over = replayed(&[], &finer);
+    same("over before unit 2", breach(Violation::DecoderOver, 3, [2, 0, 2, 0, 9, 9]), over)?;
+    for (pinned, entries, levels) in
+        [(first, finer, [2, 0, 9, 9, 9, 9]), (other, BEST_A, [0, 0, 9, 9, 9, 9])]
+    {
+        let unheld = replayed(&[pinned], &entries);
+        same("a pin not held", breach(Violation::PinNotHeld, 2, levels), unheld)?;
+    }
 
-    let mut sums = [9; 4];
-    same("report", Ok(()), report(&job, &plain.0, &mut sums))?;
-    same("effective buffers", [2, 2, 4, 9], sums)?;
+    for (entries, due) in [(finer, [2, 2, 4, 9]), (BEST_A, [0, 4, 2, 9])] {
+        let mut sums = [9; 4];
+        same("report", Ok(()), report(&job, &entries, &mut sums))?;
+        same("effective buffers", due, sums)?;
+    }
     let opens = |draft: Draft| open(&draft.bytes()).err().map_or(0, |refusal| refusal.number());
     same("no bytes", Err(Refusal::Cut), open(&[]))?;
     same("drain 0", 0, opens(job_a().with(DRAIN, 0)))?;
@@ -1223,7 +1490,7 @@ fn check_plan_order(
 ) -> Checked {
     let [values, kind, cut, table, answers, entries, no_plan] = std::array::from_fn(&has);
     let by_all = has(7);
-    let pins: [u16; 6] = if no_plan { [6, 1, 0, 6, 2, 0] } else { [6, 1, 0, 7, 1, 9] };
+    let pins: [u16; 6] = if no_plan { [6, 1, 0, 6, 2, 0] } else { [6, 1, 1, 7, 1, 9] };
     let calls = faulty_calls(&pins, kind, cut, has(8));
     let lengths = [
         cut_to(2, answers, by_all),
@@ -1244,8 +1511,9 @@ fn check_plan_order(
     same("plan", due, lent.plan(job, &calls))?;
     match due {
         0 => {
-            lent.entries.wrote("entries", &[1, 255, 1, 1, 2, 0])?;
-            lent.values.wrote("values", &[42, 7, 8])
+            lent.table.wrote("table", &TABLE_A.concat().concat())?;
+            lent.entries.wrote("entries", &BEST_A)?;
+            lent.values.wrote("values", &TOTALS_A)
         }
         13 => {
             lent.answers.wrote("answers", &[0, 0])?;
@@ -1266,7 +1534,7 @@ fn check_other_orders(
 ) -> Checked {
     let [short, kind, cut, shape, list] = std::array::from_fn(&has);
     let by_all = has(7);
-    let mut entries = vec![1, 255, 1, 1, 2, 0];
+    let mut entries = BEST_A.to_vec();
     if shape {
         match has(5) {
             true => entries[2] = 3,
@@ -1274,7 +1542,7 @@ fn check_other_orders(
         }
     }
     entries.shrink_to_fit();
-    let calls = faulty_calls(&[6, 2, 0], kind, cut, has(8));
+    let calls = faulty_calls(&[6, 2, 1], kind, cut, has(8));
     let mut values = Lent::new(rng, cut_to(5, short, by_all));
     let mut levels = Lent::new(rng, cut_to(6, list, by_all));
     let due =
@@ -1282,8 +1550,8 @@ fn check_other_orders(
     let found = numbers::replay(job, &calls, &entries, levels.list(), values.list());
     same("replay", due, found)?;
     if due == 0 {
-        values.wrote("values of replay", &[0, 0, 42, 7, 8])?;
-        levels.wrote("levels", &[2, 0, 2, 0, 1, 2])?;
+        values.wrote("values of replay", &[0, 0, 50, 6, 6])?;
+        levels.wrote("levels", &LEVELS_A)?;
     } else {
         values.kept("values of replay")?;
         levels.kept("levels")?;
@@ -1292,7 +1560,7 @@ fn check_other_orders(
     let mut sums = Lent::new(rng, cut_to(3, list, by_all));
     let due = first_of(&[(wrong > 0, wrong), (shape, 14), (list, 12)]);
     same("report", due, numbers::report(job, &entries, sums.list()))?;
-    sums.wrote("sums", if due == 0 { &[2, 2, 4] } else { &[] })?;
+    sums.wrote("sums", if due == 0 { &[0, 4, 2] } else { &[] })?;
 
     let mut values = Lent::new(rng, cut_to(4, short, by_all));
     let due = first_of(&[(short, 12), (wrong > 0, wrong)]);
@@ -1304,7 +1572,7 @@ fn check_other_orders(
 fn lengths_group() -> Result<String, String> {
     let mut rng = Rng(2);
     let job = job_a().bytes();
-    let calls = [6, 1, 1, 7, 1, 0, 7, 1, 0, 6, 2, 0];
+    let calls = [6, 1, 1, 7, 1, 0, 7, 1, 0, 6, 2, 1];
     let needs = [4, 80, 6, 3];
     let mut lists = 0;
     for (which, need) in needs.into_iter().enumerate() {
@@ -1321,8 +1589,8 @@ fn lengths_group() -> Result<String, String> {
                 lent.kept().map_err(|trouble| format!("{what}: {trouble}"))?;
             } else {
                 lent.answers.wrote("answers", &[0, 0, 10, 0])?;
-                lent.entries.wrote("entries", &[1, 255, 1, 1, 2, 0])?;
-                lent.values.wrote("values", &[42, 7, 8])?;
+                lent.entries.wrote("entries", &BEST_A)?;
+                lent.values.wrote("values", &TOTALS_A)?;
             }
             lists += 1;
         }
@@ -1330,11 +1598,11 @@ fn lengths_group() -> Result<String, String> {
     for length in 0..=8 {
         let mut levels = Lent::new(&mut rng, length);
         let mut values = Lent::new(&mut rng, 5);
-        // The first interval breaks off, yet room is asked for all of them.
+        // The second interval breaks off, yet room is asked for all of them.
         let entries = [2, 255, 2, 1, 0, 0];
         let found = numbers::replay(&job, &[], &entries, levels.list(), values.list());
         same(&format!("levels of {length}"), if length < 6 { 12 } else { 0 }, found)?;
-        let breach: (&[u16], &[u64]) = (&[4, 2], &[2, 2, 0, 0, 0]);
+        let breach: (&[u16], &[u64]) = (&[4, 2], &[OVER, 2, 0, 0, 0]);
         let (due, valued) = if length < 6 { (&[][..], &[][..]) } else { breach };
         levels.wrote("levels", due)?;
         values.wrote("values of replay", valued)?;
@@ -1368,8 +1636,7 @@ fn kinds_group() -> Result<String, String> {
                 let found = lent.plan(&job, &calls);
                 let mut levels = Lent::<u16>::new(&mut rng, 6);
                 let mut values = Lent::<u64>::new(&mut rng, 5);
-                let entries = [1, 255, 1, 1, 2, 0];
-                let again = numbers::replay(&job, &calls, &entries, levels.list(), values.list());
+                let again = numbers::replay(&job, &calls, &BEST_A, levels.list(), values.list());
                 same(&format!("calls {calls:?}"), (due, due), (found, again))?;
                 if due > 0 {
                     lent.kept()?;
@@ -2055,7 +2322,7 @@ fn large_job(rng: &mut Rng, size: &Size) -> Draft {
     for _ in 0..size.units / 16 {
         let unit = rng.from(1, size.units);
         // Of the coarsest, so that a small decoder can hold them.
-        let choice = size.choices - 1 - rng.from(0, size.choices / 8);
+        let choice = size.choices - 1 - rng.from(0, size.choices / 16);
         draft.commands.push(Pin(unit as u16, choice as u16));
     }
     draft
@@ -2119,6 +2386,8 @@ fn run_all(new_seed: u64, with_full: bool, examples: Option<&Path>) -> bool {
         print_group("refusals in their order", order_group()),
         print_group("lists of every length", lengths_group()),
         print_group("kinds of calls", kinds_group()),
+        print_group("decoder peaks", peaks_group()),
+        print_group("every set of violations", violations_group()),
         print_group("limits", limits_group()),
         print_group("cuts at every byte", cuts_group()),
         print_group("limits of writing", write_limits_group()),
@@ -2140,6 +2409,7 @@ fn run_all(new_seed: u64, with_full: bool, examples: Option<&Path>) -> bool {
     seeded("harmed bytes", &[1], harmed_group);
     seeded("replay and report", &[1, 2], replay_group);
     seeded("tiny jobs", &[1, 2, 3], tiny_group);
+    seeded("tight jobs", &[1, 2], tight_group);
     seeded("long sittings", &[1, 2], sittings_group);
     seeded("larger jobs", &[4], larger_group);
     if !small() {

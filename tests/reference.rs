@@ -216,6 +216,38 @@ pub fn read_input(input: &[u8]) -> Result<(Job, Book), Refusal> {
 }
 
 // ---------------------------------------------------------------------------
+// The decoder's limits.
+// ---------------------------------------------------------------------------
+
+/// What the decoder makes of an interval: from its level before, what is sent and
+/// what the unit takes (0 where none leaves) to its level after, or `None` where
+/// a limit is broken.
+pub type Decoder = fn(&Job, i64, i64, i64) -> Option<i64>;
+
+/// The rule. All that is sent has come before the unit leaves: this peak is at
+/// most the decoder's size, and after the unit at least nothing is left.
+pub fn by_peak(job: &Job, before: i64, sent: i64, taken: i64) -> Option<i64> {
+    let peak = before + sent;
+    let level = peak - taken;
+    (peak <= job.decoder_size && level >= 0).then_some(level)
+}
+
+/// Rules that a program might follow by mistake. They are searched only to count
+/// the jobs that tell them from the rule.
+pub const MISTAKEN: [(&str, Decoder); 2] =
+    [("the size asked of the level alone", by_level), ("the peak cut down to the size", by_cut)];
+
+fn by_level(job: &Job, before: i64, sent: i64, taken: i64) -> Option<i64> {
+    let level = before + sent - taken;
+    (0..=job.decoder_size).contains(&level).then_some(level)
+}
+
+fn by_cut(job: &Job, before: i64, sent: i64, taken: i64) -> Option<i64> {
+    let level = (before + sent).min(job.decoder_size) - taken;
+    (level >= 0).then_some(level)
+}
+
+// ---------------------------------------------------------------------------
 // The best plan: every plan replayed, and a dynamic program.
 // ---------------------------------------------------------------------------
 
@@ -253,9 +285,9 @@ pub fn replay(
             taken = job.units[unit - 1][choice].grains;
             totals.distortion += job.units[unit - 1][choice].distortion;
         }
-        decoder = decoder + sent - taken;
+        decoder = by_peak(job, decoder, sent, taken)?;
         bucket = (bucket + sent - job.drain).max(0);
-        if decoder < 0 || decoder > job.decoder_size || bucket > job.bucket_size {
+        if bucket > job.bucket_size {
             return None;
         }
         totals.source += taken;
@@ -319,10 +351,14 @@ pub struct Branch {
     pub entries: Plan,
 }
 
+pub fn dynamic(job: &Job, book: &Book) -> Option<Plan> {
+    dynamic_by(by_peak, job, book)
+}
+
 /// Carries the best path to each pair of levels forward, interval by interval.
 /// Paths that meet in both levels have the same continuations, so the better
 /// of the two (then the earlier in order) may stand for both.
-pub fn dynamic(job: &Job, book: &Book) -> Option<Plan> {
+pub fn dynamic_by(decoder_rule: Decoder, job: &Job, book: &Book) -> Option<Plan> {
     let start = Branch { distortion: 0, entries: Vec::new() };
     let mut layer = BTreeMap::from([((job.start_decoder, job.start_bucket), start)]);
     for t in 1..=job.intervals() {
@@ -335,8 +371,7 @@ pub fn dynamic(job: &Job, book: &Book) -> Option<Plan> {
                     continue;
                 }
                 for &(choice, grains, distortion) in &options {
-                    let level = decoder + sent - grains;
-                    if (0..=job.decoder_size).contains(&level) {
+                    if let Some(level) = decoder_rule(job, *decoder, *sent, grains) {
                         let total = branch.distortion + distortion;
                         offer(&mut next, (level, filled), branch, total, (rate, choice));
                     }
@@ -698,7 +733,8 @@ pub struct Shape {
     pub bucket: usize,
     pub rates: usize,
     pub choices: usize,
-    /// The largest usual rate and unit size.
+    /// The largest usual rate and unit size; in a tight job, how far they may
+    /// pass the decoder's size.
     pub grains: usize,
     /// How often, once in so many, a unit has no choice of next to nothing.
     /// Long jobs with several such units hardly ever have a plan.
@@ -721,7 +757,7 @@ pub const TINY: Shape = Shape {
 pub const MEDIUM: Shape = Shape {
     units: (8, 14),
     delay: (0, 4),
-    decoder: 15,
+    decoder: 30,
     bucket: 15,
     rates: 5,
     choices: 6,
@@ -741,6 +777,43 @@ pub const LONG: Shape = Shape {
     heavy: &[1000],
     commands: 12,
 };
+
+/// The shapes of tight jobs: to enumerate, for the dynamic program, and long.
+pub const TIGHT: [Shape; 3] = [
+    Shape {
+        units: (1, 3),
+        delay: (0, 2),
+        decoder: 8,
+        bucket: 8,
+        rates: 3,
+        choices: 3,
+        grains: 2,
+        heavy: &[4, 1000],
+        commands: 3,
+    },
+    Shape {
+        units: (6, 14),
+        delay: (0, 4),
+        decoder: 24,
+        bucket: 15,
+        rates: 6,
+        choices: 6,
+        grains: 3,
+        heavy: &[1000],
+        commands: 3,
+    },
+    Shape {
+        units: (100, 300),
+        delay: (0, 30),
+        decoder: 12,
+        bucket: 2,
+        rates: 4,
+        choices: 4,
+        grains: 2,
+        heavy: &[1000],
+        commands: 3,
+    },
+];
 
 pub fn random_job(rng: &mut Rng, shape: &Shape) -> Draft {
     let decoder = rng.from(0, shape.decoder);
@@ -847,6 +920,48 @@ pub fn random_long_job(rng: &mut Rng) -> Draft {
     draft.header[BUCKET] = bucket as u16;
     draft.header[START_DECODER] = rng.from(0, decoder) as u16;
     draft.header[START_BUCKET] = rng.from(0, bucket) as u16;
+    draft
+}
+
+/// A job in which the decoder's peak decides. Rates and units reach a little past
+/// the decoder's size, some units further than any rate, and distortions fall as
+/// the units grow, so that a good plan fills the decoder as far as it may.
+pub fn random_tight_job(rng: &mut Rng, shape: &Shape) -> Draft {
+    let decoder = rng.from(2, shape.decoder);
+    let bucket = rng.from(0, shape.bucket);
+    let most = decoder + shape.grains;
+    let levels = [
+        rng.from(shape.delay.0, shape.delay.1),
+        decoder,
+        bucket,
+        rng.from(most / 2, most),
+        rng.from(0, decoder),
+        rng.from(0, bucket),
+    ];
+    let count = rng.from(2, shape.rates.min(most));
+    let mut rates = rng.rising(count, most);
+    if !rng.one_in(8) {
+        rates[0] = 0;
+    }
+    let count = rng.from(shape.units.0, shape.units.1);
+    let choices = rng.from(2, shape.choices);
+    let (steep, heavy) = (rng.from(1, 9), rng.pick(shape.heavy));
+    let mut units = Vec::new();
+    for _ in 0..count {
+        let mut unit: Vec<(u16, u32)> = Vec::new();
+        for choice in 1..=choices {
+            let size = match rng.from(1, 8) {
+                _ if choice == choices && !rng.one_in(heavy) => rng.from(0, 1),
+                1 => most + rng.from(1, 9),
+                _ => rng.from(0, most),
+            };
+            let distortion = most.saturating_sub(size) * steep + rng.from(0, steep / 2);
+            unit.push((size as u16, distortion as u32));
+        }
+        units.push(unit);
+    }
+    let mut draft = Draft::new(levels.map(|level| level as u16), &rates, &units);
+    draft.commands = random_commands(rng, &draft, shape.commands);
     draft
 }
 
