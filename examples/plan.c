@@ -1,6 +1,7 @@
 /* Plans Job A four times and prints each plan: without pins, with unit 1 pinned
    at choice 0, with that pin lifted again, and with both units pinned at choice
-   0, for which there is no plan.
+   0, for which there is no plan. The best plan has unit 1 at choice 0 in any
+   case, so the first three are the same.
 
        gcc -Wall -Wextra -Iinclude examples/plan.c libupload.a
 

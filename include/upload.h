@@ -5,11 +5,14 @@
    buffer and of the carrier's leaky bucket, and the bucket's drain. There are
    T = N + d intervals. Interval t sends at one of the rates and, for t > d,
    decodes unit t - d at one of its choices. A plan gives a rate to each interval
-   and a choice to each unit. It is admissible if the decoder's level stays from
-   0 to its size, the bucket's level stays at most its size, and every pinned
-   unit has its pinned choice. Planning gives the admissible plan of least total
-   distortion; among several the first interval at which they differ decides:
-   the smaller rate index, then the smaller choice index.
+   and a choice to each unit. It is admissible if in every interval what the
+   decoder holds just before the unit leaves, its level before the interval and
+   what that sends, is at most its size and at least what the unit takes; if the
+   bucket's level stays at most its size; and if every pinned unit has its pinned
+   choice. The decoder's level is what is left after the unit. Planning gives the
+   admissible plan of least total distortion; among several the first interval at
+   which they differ decides: the smaller rate index, then the smaller choice
+   index.
 
    upload_write makes the bytes of a job from its header and lists. Every other
    function takes these bytes and reads them again; bytes after the job are not
@@ -74,11 +77,13 @@ enum upload_call {
 /* The word of a state from which no plan can be completed. */
 #define UPLOAD_NEVER UINT32_C(4294967295)
 
-/* What replay finds first, tested in this order in each interval. */
+/* What replay finds first. In each interval UPLOAD_DECODER_OVER is tested first,
+   then the others in the order of their numbers. */
 enum upload_violation {
     UPLOAD_CLEAN = 0,
-    UPLOAD_DECODER_SHORT = 1,   /* the decoder's level would fall below 0 */
-    UPLOAD_DECODER_OVER = 2,    /* the decoder's level would pass its size */
+    UPLOAD_DECODER_SHORT = 1,   /* the decoder holds less than the unit takes */
+    UPLOAD_DECODER_OVER = 2,    /* what the decoder holds just before a unit leaves, or in an
+                                   interval without one, would pass its size */
     UPLOAD_BUCKET_OVER = 3,     /* the bucket's level would pass its size */
     UPLOAD_PIN_NOT_HELD = 4     /* the unit is pinned at another choice */
 };
@@ -133,7 +138,8 @@ uint32_t upload_plan(const uint8_t *job, size_t job_len,
 
    entries: exactly 2 x T bytes, as upload_plan writes them.
    levels:  room for 2 x T numbers: the decoder's and the bucket's level after
-            each interval. Only those before the violation are written.
+            each interval, when its unit has left. Only those before the
+            violation are written.
    values:  5 numbers written: 0 or the violation; its interval, from 1, or 0;
             then total distortion, source grains and channel grains, each 0
             where there is a violation.

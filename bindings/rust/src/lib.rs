@@ -9,6 +9,10 @@
 //! t > d, interval t decodes unit t − d. Sizes, rates and levels are counted in
 //! grains. Units and intervals are counted from 1, rates and choices from 0.
 //!
+//! What an interval sends has come before its unit leaves. This peak, the level
+//! before the interval and what it sends, is at most the decoder's size and at
+//! least what the unit takes. A level is what is left after the unit.
+//!
 //! [`write()`] makes the bytes of a job from its header and lists; [`open`],
 //! [`plan`], [`replay`] and [`report`] take these bytes and read them again.
 //! They fill lists that the caller lends; [`written`] and [`best_plan`] make
@@ -36,18 +40,20 @@
 //! ];
 //!
 //! let best = best_plan(&job, &[])?;
-//! assert_eq!(best.totals.distortion, 42);
-//! assert_eq!(best.entries, [1, 255, 1, 1, 2, 0]);
-//!
-//! let first = Call::Pin { unit: 1, choice: 0 };
-//! let best = best_plan(&job, &[first])?;
 //! assert_eq!(best.totals.distortion, 50);
+//! assert_eq!(best.entries, [0, 255, 2, 0, 1, 1]);
 //!
-//! let second = Call::Pin { unit: 2, choice: 0 };
-//! assert_eq!(best_plan(&job, &[first, second]), Err(Refusal::NoPlan));
+//! let coarse = Call::Pin { unit: 1, choice: 1 };
+//! let best = best_plan(&job, &[coarse])?;
+//! assert_eq!(best.totals.distortion, 70);
 //!
-//! let best = best_plan(&job, &[first, Call::Lift { unit: 1 }, second])?;
-//! assert_eq!(best.totals.distortion, 42);
+//! // Five grains, and the decoder holds four.
+//! let large = Call::Pin { unit: 2, choice: 0 };
+//! assert_eq!(best_plan(&job, &[coarse, large]), Err(Refusal::NoPlan));
+//!
+//! let lifts = [Call::Lift { unit: 2 }, Call::Lift { unit: 1 }];
+//! let best = best_plan(&job, &[coarse, large, lifts[0], lifts[1]])?;
+//! assert_eq!(best.totals.distortion, 50);
 //! # Ok::<(), Refusal>(())
 //! ```
 
@@ -272,13 +278,15 @@ impl Totals {
     }
 }
 
-/// What is wrong with a plan in an interval. They are tested in this order.
+/// What is wrong with a plan in an interval. They are tested in this order, which
+/// is not that of their numbers in [`numbers::replay`].
 #[derive(Clone, Copy, Debug, PartialEq, Eq, PartialOrd, Ord, Hash)]
 pub enum Violation {
-    /// The decoder's level would fall below 0.
-    DecoderShort,
-    /// The decoder's level would pass its size.
+    /// What the decoder holds just before a unit leaves, or in an interval
+    /// without one, would pass its size.
     DecoderOver,
+    /// The decoder holds less than the unit takes.
+    DecoderShort,
     /// The bucket's level would pass its size.
     BucketOver,
     /// The unit is pinned at another choice.
@@ -288,8 +296,8 @@ pub enum Violation {
 impl fmt::Display for Violation {
     fn fmt(&self, f: &mut fmt::Formatter) -> fmt::Result {
         f.write_str(match self {
-            Violation::DecoderShort => "decoder short",
             Violation::DecoderOver => "decoder over",
+            Violation::DecoderShort => "decoder short",
             Violation::BucketOver => "bucket over",
             Violation::PinNotHeld => "pin not held",
         })
@@ -366,7 +374,8 @@ pub fn plan(
 /// to its first violation.
 ///
 /// `levels` needs room for 2 × T numbers: the decoder's and the bucket's level
-/// after each interval. Only those before the violation are written.
+/// after each interval, when its unit has left. Only those before the violation
+/// are written.
 ///
 /// # Errors
 ///
@@ -493,14 +502,16 @@ pub fn write(
 /// let mut distortions = [10, 30, 12, 40];
 ///
 /// let job = written(&header, &rates, &sizes, &distortions)?;
-/// assert_eq!(best_plan(&job, &[])?.totals.distortion, 42);
+/// let best = best_plan(&job, &[])?;
+/// assert_eq!(best.totals.distortion, 50);
+/// assert_eq!(best.entries, [0, 255, 2, 0, 1, 1]);
 ///
-/// // Unit 2 at its second choice is better than was thought.
-/// distortions[3] = 20;
+/// // Unit 1 at its second choice is better than was thought.
+/// distortions[1] = 5;
 /// let job = written(&header, &rates, &sizes, &distortions)?;
 /// let best = best_plan(&job, &[])?;
-/// assert_eq!(best.totals.distortion, 30);
-/// assert_eq!(best.entries, [0, 255, 2, 0, 1, 1]);
+/// assert_eq!(best.totals.distortion, 45);
+/// assert_eq!(best.entries, [0, 255, 1, 1, 1, 1]);
 ///
 /// // A distortion is missing.
 /// assert_eq!(written(&header, &rates, &sizes, &distortions[..3]), Err(Refusal::Lengths));
