@@ -1,7 +1,6 @@
 /* Plans Job A four times and prints each plan: without pins, with unit 1 pinned
-   at choice 0, with that pin lifted again, and with both units pinned at choice
-   0, for which there is no plan. The best plan has unit 1 at choice 0 in any
-   case, so the first three are the same.
+   at choice 1, with that pin lifted again, and with both units pinned at choice
+   0, for which there is no plan.
 
        gcc -Wall -Wextra -Iinclude examples/plan.c libupload.a
 
@@ -91,7 +90,7 @@ static uint32_t plan(const uint16_t *calls, size_t calls_len)
 int main(void)
 {
     const uint16_t calls[] = {
-        UPLOAD_PIN, 1, 0, UPLOAD_LIFT, 1, 0, /* unit 1 pinned at 0, and lifted */
+        UPLOAD_PIN, 1, 1, UPLOAD_LIFT, 1, 0, /* unit 1 pinned at 1, and lifted */
         UPLOAD_PIN, 1, 0, UPLOAD_PIN, 2, 0,  /* both units pinned at 0 */
     };
     const struct {

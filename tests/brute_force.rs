@@ -806,8 +806,8 @@ fn examples() -> Vec<(&'static str, Vec<u8>)> {
     let a = job_a();
     vec![
         ("job_a", a.bytes()),
-        ("job_a_pinned", a.commanded(&[Pin(1, 0)]).bytes()),
-        ("job_a_lifted", a.commanded(&[Pin(1, 0), Lift(1)]).bytes()),
+        ("job_a_pinned", a.commanded(&[Pin(1, 1)]).bytes()),
+        ("job_a_lifted", a.commanded(&[Pin(1, 1), Lift(1)]).bytes()),
         ("no_plan", a.commanded(&[Pin(1, 0), Pin(2, 0)]).bytes()),
         ("channel", channel_job().bytes()),
     ]

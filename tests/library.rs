@@ -1323,7 +1323,7 @@ const TABLE_A: [[[u32; 4]; 5]; 4] = [
     [[0; 4]; 5],
 ];
 
-/// The cases that the paper writes out, none of them worked out here.
+/// The cases that the papers write out and their neighbours, worked out by hand.
 fn job_a_group() -> Result<String, String> {
     use upload_planner::{best_plan, open, plan, replay, report, written, Refusal, Totals};
     let job = job_a().bytes();
