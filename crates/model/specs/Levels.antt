@@ -30,7 +30,7 @@ module _ (j : Job) (s : ℕ) (p : List Entry) where
   decoderLevel b zero = pos b
   decoderLevel b (suc n) = (decoderLevel b n +ℤ pos (sent j p (suc n))) -ℤ pos (taken (suc n))
 
-  -- its peak, which stands just before the unit leaves: B(n - 1) + C(n). It is the fullness before a picture is removed of the verifier in source document 002, section 3.3
+  -- its peak, just before the unit leaves: B(n - 1) + C(n), for which the verifier of source document 002 (section 3.3) writes B_f
   unfoldable pub decoderPeak : ℕ → ℕ → ℤ
   decoderPeak b zero = pos b
   decoderPeak b (suc n) = decoderLevel b n +ℤ pos (sent j p (suc n))
