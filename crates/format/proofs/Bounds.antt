@@ -53,6 +53,7 @@ limited j w =
       delay = omega arith;
       decoder = omega arith;
       bucket = omega arith;
+      drain = omega arith;
       start = (omega arith, omega arith);
       rates = (omega arith, omega arith);
       choices = (omega arith, omega arith);

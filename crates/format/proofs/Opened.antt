@@ -67,6 +67,10 @@ module _ (b : List ℕ) (h : Header) (o : Opens b h) where
   unfolding header-in
   bucket-is = ap (λ (k : Header). k .bucket) (o .header-is)
 
+  pub drain-most : h .drain ≤ 4095
+  unfolding header-in
+  drain-most = omega (arith, job-limits .drain, ap (λ (k : Header). k .drain) (o .header-is))
+
   pub buckets-are : job-in b .line .buckets ≡ record { size = h .bucket; drain = h .drain } ∷ []
   unfolding header-in job-of
   buckets-are =

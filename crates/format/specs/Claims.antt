@@ -45,6 +45,7 @@ pub record InLimits (j : Job) : Type 0 where
   pub delay : j .delay ≤ 64
   pub decoder : j .line .decoder ≤ 255
   pub bucket : bucketAt (j .line .buckets) 0 .size ≤ 255
+  pub drain : bucketAt (j .line .buckets) 0 .drain ≤ 4095
   pub start : (j .start .decoder ≤ j .line .decoder) × (getD (j .start .buckets) 0 0 ≤ bucketAt (j .line .buckets) 0 .size)
   pub rates : (1 ≤ length (j .line .rates)) × (length (j .line .rates) ≤ 16)
   pub choices : (1 ≤ j .choices) × (j .choices ≤ 31)

@@ -7,7 +7,7 @@ use mathlib.Core.List.{List}
 use native.Mathlib.Omega.{arith}
 use lib.IntN.{ℤ, pos, _+ℤ_, _-ℤ_, +ℤ-assoc, +ℤ-comm, -ℤ-+ℤ-cancel, pos-+ℤ-pos}
 use Rattle.model.specs.Job.{Job, Entry, coding, takes, ChoiceFits, waits, decodes, PlanFits, ends, goes}
-use Rattle.model.specs.Levels.{entryOf, sent, taken, decoderLevel, sentAfter, effectiveBuffer, unitsTaken}
+use Rattle.model.specs.Levels.{sum, entryOf, sent, taken, decoderLevel, sentAfter, effectiveBuffer, unitsTaken}
 use Rattle.model.specs.Claims.{EffectiveBuffers}
 
 -- no unit is decoded up to the delay
@@ -26,12 +26,11 @@ waits-taken j s p (suc n) (goes {t} {e} {p = q} f r) h =
 
 module _ (j : Job) (p : List Entry) where
   -- what the first n intervals take
-  takenTo : ℕ → ℕ
-  takenTo zero = 0
-  takenTo (suc n) = takenTo n + taken j 0 p (suc n)
+  abbrev takenTo : ℕ → ℕ
+  takenTo n = sum (taken j 0 p) n
 
   sent-split : (i n : ℕ) → sentAfter j p 0 (i + n) ≡ sentAfter j p 0 i + sentAfter j p i n
-  unfolding sentAfter
+  unfolding sum sentAfter
   sent-split i zero = let e : i + 0 ≡ i = omega arith in rw e (omega arith)
   sent-split i (suc n) =
       let e : i + suc n ≡ suc (i + n) = omega arith in
@@ -54,7 +53,7 @@ module _ (j : Job) (p : List Entry) where
 
   -- (16) summed up, which is (4)
   level-sum : (b n : ℕ) → decoderLevel j 0 p b n +ℤ pos (takenTo n) ≡ pos (b + sentAfter j p 0 n)
-  unfolding decoderLevel takenTo sentAfter
+  unfolding sum decoderLevel sentAfter
   level-sum b zero = pos-+ℤ-pos b 0
   level-sum b (suc n) =
       let e : 0 + suc n ≡ suc n = omega arith in
@@ -62,12 +61,12 @@ module _ (j : Job) (p : List Entry) where
 
   module _ (fits : PlanFits j 0 p) where
     waits-to : (n : ℕ) → n ≤ j .delay → takenTo n ≡ 0
-    unfolding takenTo
+    unfolding sum
     waits-to zero h = refl
     waits-to (suc n) h = let ih = waits-to n (omega arith) in let e = waits-taken j 0 p n fits (omega arith) in omega arith
 
     units-to : (i : ℕ) → takenTo (i + j .delay) ≡ unitsTaken j p i
-    unfolding takenTo unitsTaken
+    unfolding sum unitsTaken
     units-to zero = let e : 0 + j .delay ≡ j .delay = omega arith in rw e (waits-to (j .delay) (omega arith))
     units-to (suc i) =
         let e : suc i + j .delay ≡ suc (i + j .delay) = omega arith in

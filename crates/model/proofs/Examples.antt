@@ -55,7 +55,7 @@ printed-replayed : replayed (plan 0 2 0 1 1) ≡ record { levels = filled 0 0 �
 unfolding evaluate
 printed-replayed = refl
 
-printed-totals : totals job-a 0 (plan 0 2 0 1 1) ≡ record { distortion = 50; source = 6; channel = 6 }
+printed-totals : totals job-a 0 (job-a .start) (plan 0 2 0 1 1) ≡ record { distortion = 50; source = 6; channel = 6; unused = 2 ∷ [] }
 unfolding evaluate
 printed-totals = refl
 
@@ -122,9 +122,9 @@ unfolding evaluate
 short-levels = refl
 
 -- over is named before short: a peak of 8 in a decoder of 4, and a unit of 9
-both-replayed : decoder-step 4 4 4 9 ≡ breaks decoder-overflow
+over-and-short : decoder-step 4 4 4 9 ≡ breaks decoder-overflow
 unfolding evaluate
-both-replayed = refl
+over-and-short = refl
 
 -- a peak of 4 is within it, and all of it may leave
 full-held : decoder-step 4 0 4 4 ≡ holds 0

@@ -14,7 +14,7 @@ use Rattle.model.specs.Step.{bucket-step, poured, outcome}
 use Rattle.model.proofs.Outcome.{Judged, outcome-judged}
 
 module _ (j : Job) (s : ℕ) (e : Entry) (p : List Entry) where
-  taken-rest : (n : ℕ) → taken j s (e ∷ p) (suc (suc n)) ≡ taken j (suc s) p (suc n)
+  pub taken-rest : (n : ℕ) → taken j s (e ∷ p) (suc (suc n)) ≡ taken j (suc s) p (suc n)
   unfolding taken entryOf
   taken-rest n = let q : s + suc (suc n) ≡ suc s + suc n = omega arith in rw q
 
@@ -23,13 +23,13 @@ module _ (j : Job) (s : ℕ) (e : Entry) (p : List Entry) where
   decoder-rest b c zero h = sym h
   decoder-rest b c (suc n) h = let ih = decoder-rest b c n h in let q = taken-rest n in cc
 
-  bucket-rest : (k : Bucket) (l n : ℕ) → bucketLevel j s (e ∷ p) k l (suc n) ≡ bucketLevel j (suc s) p k ((l + sends j e) - k .drain) n
-  unfolding bucketLevel sent entryOf
+  pub bucket-rest : (k : Bucket) (l n : ℕ) → bucketLevel j s (e ∷ p) k l (suc n) ≡ bucketLevel j (suc s) p k (bucket-step (k .drain) l (sends j e) .level) n
+  unfolding bucketLevel bucket-step sent entryOf
   bucket-rest k l zero = refl
   bucket-rest k l (suc n) = let ih = bucket-rest k l n in cc
 
   buckets-rest : (ks : List Bucket) (ls : List ℕ) (n : ℕ) → bucketLevels j s (e ∷ p) ks ls (suc n) ≡ bucketLevels j (suc s) p ks (poured (sends j e) ks ls) n
-  unfolding bucketLevels poured bucket-step zipWith
+  unfolding bucketLevels poured zipWith
   buckets-rest [] ls n = refl
   buckets-rest (k ∷ ks) [] n = refl
   buckets-rest (k ∷ ks) (l ∷ ls) n = let q = bucket-rest k l n in let ih = buckets-rest ks ls n in cc

@@ -8,7 +8,9 @@ pub mod Decoder
 pub mod Violations
 pub mod Outcome
 pub mod Levels
+pub mod Sums
 pub mod DemandTwo
+pub mod Drains
 pub mod Buffers
 pub mod Entries
 pub mod Walks

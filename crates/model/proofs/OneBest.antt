@@ -9,7 +9,7 @@ use native.Mathlib.Omega.{arith}
 use Rattle.trellis.specs.Claims.{Strict}
 use Rattle.trellis.proofs.TieOrder.{no-later-antisym}
 use Rattle.model.specs.Job.{Entry}
-use Rattle.model.specs.Replay.{totals}
+use Rattle.model.specs.Replay.{total-distortion}
 use Rattle.model.specs.Best.{Order, late, ChoiceBefore, smaller, Before}
 use Rattle.model.specs.Claims.{OneBest}
 
@@ -32,5 +32,5 @@ pub one-best : (Among : List Entry → Type 0) → OneBest Among
 one-best Among j s o p q x y =
     let h = x .least-of-all q (y .among) in
     let k = y .least-of-all p (x .among) in
-    let e : totals j s q .distortion ≡ totals j s p .distortion = omega arith in
+    let e : total-distortion j s q ≡ total-distortion j s p = omega arith in
     no-later-antisym (before-strict o) (x .first-of-these q (y .among) e) (y .first-of-these p (x .among) (sym e))

@@ -50,6 +50,10 @@ module _ (line : Line) (pinned choice : Option ℕ) (c r : ℕ) (s u : Levels) w
         buckets = rw (g .1 .buckets) (g .0 .buckets);
       }
 
+  -- and the buckets hold what was poured into them
+  pub reaches-poured : outcome-of line pinned choice (s .decoder) (s .buckets) c r ≡ reaches u → u .buckets ≡ poured c (line .buckets) (s .buckets)
+  reaches-poured e = let f = outcome-judged line pinned choice (s .decoder) (s .buckets) c r in judged-good (rw e at f) .1 .buckets
+
   pub outcome-closed : InLayer line s → reached (outcome-of line pinned choice (s .decoder) (s .buckets) c r) ≡ some u → InLayer line u
   outcome-closed a k = reaches-in-layer (a .count) (reached-some (outcome-of line pinned choice (s .decoder) (s .buckets) c r) u k)
 

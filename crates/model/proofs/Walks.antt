@@ -9,10 +9,12 @@ use lib.ListN.{length}
 use Rattle.trellis.specs.Trellis.{Monotone, Walk, stop, move, total, least, Simulates}
 use Rattle.trellis.proofs.Simulation.{least-same}
 use Rattle.model.specs.Job.{Levels, Job, Entry, intervals, PlanFits, ends, goes}
+use Rattle.model.specs.Levels.{sum}
 use Rattle.model.specs.Pins.{PinMap}
 use Rattle.model.specs.Step.{Outcome, violates, reaches, outcome}
-use Rattle.model.specs.Replay.{clean, written, go-on, replay, with-entry, totals}
+use Rattle.model.specs.Replay.{total-distortion, clean, written, go-on, replay}
 use Rattle.model.specs.Best.{Order, late, reached, trellis-of}
+use Rattle.model.proofs.Sums.{distortion-first}
 use Rattle.model.proofs.Entries.{fits-listed, listed-fits}
 
 pub reached-some : (o : Outcome) (s : Levels) → reached o ≡ some s → o ≡ reaches s
@@ -44,10 +46,10 @@ module _ (j : Job) (m : PinMap) (o : Order) where
       go (violates v) q ih k = let z : _≡_ {A = ℕ} 0 1 = cc in absurd (omega arith)
       go (reaches s′) q ih k = move (fits-listed j (suc t) o f) (ap reached q) (ih s′ k)
 
-  pub sum-distortion : (t : ℕ) (p : List Entry) → total (trellis-of j m o) _+_ t p ≡ totals j t p .distortion
-  unfolding trellis-of total totals with-entry
-  sum-distortion t [] = refl
-  sum-distortion t (e ∷ p) = rw (sum-distortion (suc t) p)
+  pub sum-distortion : (t : ℕ) (p : List Entry) → total (trellis-of j m o) _+_ t p ≡ total-distortion j t p
+  unfolding trellis-of total
+  sum-distortion t [] = unfold total-distortion sum in refl
+  sum-distortion t (e ∷ p) = rw (sum-distortion (suc t) p, distortion-first j t e p)
 
 module _ (j : Job) (m : PinMap) where
   order-simulates : (o o′ : Order) → Simulates (trellis-of j m o) (trellis-of j m o′) (λ t s s′. s ≡ s′)

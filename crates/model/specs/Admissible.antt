@@ -3,12 +3,12 @@
 use Prim.Native.Nat.{ℕ, suc, _+_, _<_, _≤_}
 use mathlib.Core.Path.{_≡_}
 use mathlib.Core.Option.{Option}
-use mathlib.Core.List.{List, []}
+use mathlib.Core.List.{List}
 use lib.ListN.{length, getD}
 use lib.IntN.{ℤ, pos, natAbs}
 use lib.Signed.{ltZ, nonNeg}
 use Rattle.model.specs.If.{if_then_else_}
-use Rattle.model.specs.Job.{Bucket, Line, bucketAt, Levels, Job, Entry, PlanFits}
+use Rattle.model.specs.Job.{Bucket, Line, bucketAt, Levels, no-levels, Job, Entry, PlanFits}
 use Rattle.model.specs.Levels.{entryOf, decoderLevel, decoderPeak, bucketLevels}
 use Rattle.model.specs.Pins.{PinMap, pinAt, PinHeld}
 
@@ -96,4 +96,4 @@ module _ (j : Job) (m : PinMap) (s : ℕ) (start : Levels) (p : List Entry) wher
 
   -- the levels written, interval after interval, are those of the equations
   abbrev pub LevelsOf : List Levels → Type 0
-  LevelsOf ls = (n : ℕ) → n < length ls → Shows (ending (suc n)) (getD ls n (record { decoder = 0; buckets = [] }))
+  LevelsOf ls = (n : ℕ) → n < length ls → Shows (ending (suc n)) (getD ls n no-levels)

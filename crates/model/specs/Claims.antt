@@ -3,7 +3,7 @@
 -- Assumes nothing.
 use Prim.Native.Nat.{ℕ, suc, _+_, _*_, _<_, _≤_}
 use mathlib.Core.Path.{_≡_}
-use mathlib.Core.Logic.{_↔_}
+use mathlib.Core.Logic.{_↔_, _⊎_}
 use mathlib.Core.Option.{none, some}
 use mathlib.Core.List.{List, [], _∷_}
 use lib.ListN.{length, getD}
@@ -11,26 +11,33 @@ use lib.IntN.{pos, _+ℤ_}
 use lib.Signed.{_≤ℤ_}
 use Rattle.trellis.specs.Table.{first-at, marked-offer}
 use Rattle.trellis.specs.Trellis.{NoLater}
-use Rattle.model.specs.Job.{Bucket, Levels, Job, Entry, distorts, intervals, PlanFits}
-use Rattle.model.specs.Levels.{sent, decoderLevel, sentAfter, effectiveBuffer, unitsTaken}
+use Rattle.model.specs.Job.{Bucket, bucketAt, Levels, Job, Entry, distorts, intervals, PlanFits}
+use Rattle.model.specs.Levels.{sum, sent, decoderLevel, bucketLevel, unusedDrain, sentAfter, effectiveBuffer, unitsTaken}
 use Rattle.model.specs.Pins.{PinMap}
 use Rattle.model.specs.Admissible.{Violation, decoder-overflow, decoder-underflow, breaks, holds, Verified, ending, SoundFor, Admissible, FirstViolation, LevelsOf}
-use Rattle.model.specs.Step.{decoder-step, reaches, outcome}
-use Rattle.model.specs.Replay.{Replay, clean, stopped, replay, totals}
+use Rattle.model.specs.Step.{decoder-step, bucket-step, reaches, outcome}
+use Rattle.model.specs.Replay.{total-distortion, totals, Replay, clean, stopped, replay, last-levels}
 use Rattle.model.specs.Best.{Order, Before, entries, trellis-of, least-total, best-plan}
 use Rattle.model.specs.Table.{mark, bound, InLayer, words, wordAt, IsTable, FollowsRule, Bounded}
 
 -- of the plans in a set, p has the least total distortion, and of those with as little none comes before it
 pub record BestOf (j : Job) (s : ℕ) (o : Order) (Among : List Entry → Type 0) (p : List Entry) : Type 0 where
   pub among : Among p
-  pub least-of-all : (q : List Entry) → Among q → totals j s p .distortion ≤ totals j s q .distortion
-  pub first-of-these : (q : List Entry) → Among q → totals j s q .distortion ≡ totals j s p .distortion → NoLater (Before o) p q
+  pub least-of-all : (q : List Entry) → Among q → total-distortion j s p ≤ total-distortion j s q
+  pub first-of-these : (q : List Entry) → Among q → total-distortion j s q ≡ total-distortion j s p → NoLater (Before o) p q
 
 -- the decoder's step in natural numbers, from the level b where c is sent and r decoded: over before short, and else what is left after the unit
 pub record DecoderClaim (size b c r : ℕ) : Type 0 where
   pub over-iff : (decoder-step size b c r ≡ breaks decoder-overflow) ↔ (size < b + c)
   pub short-iff : (decoder-step size b c r ≡ breaks decoder-underflow) ↔ ((b + c ≤ size) × (b + c < r))
   pub holds-iff : (d : ℕ) → (decoder-step size b c r ≡ holds d) ↔ ((b + c ≤ size) × (d + r ≡ b + c))
+
+-- a bucket's step, from the level l where c is sent. The two parts leave one answer for the level and one for what goes unused
+pub record BucketClaim (drain l c : ℕ) : Type 0 where
+  -- what was held, what came in and what went unused are the drain and what is held now
+  pub balance : l + c + bucket-step drain l c .unused ≡ drain + bucket-step drain l c .level
+  -- drain goes unused only where the bucket is left empty
+  pub either : (bucket-step drain l c .level ≡ 0) ⊎ (bucket-step drain l c .unused ≡ 0)
 
 module _ (j : Job) (m : PinMap) (s : ℕ) (start : Levels) where
   -- r is the replay of p: the levels that it writes are those of (16) and (17)
@@ -45,11 +52,15 @@ module _ (j : Job) (m : PinMap) (s : ℕ) (start : Levels) where
     pub stopped-iff : (n : ℕ) (v : Violation) → (r .result ≡ stopped (s + suc n) v) ↔ FirstViolation j m s start p n v
     pub stopped-after : (t : ℕ) (v : Violation) → r .result ≡ stopped t v → t ≡ s + suc (length (r .levels))
 
+  -- E3, of each bucket and a replay r of p without a violation: starting level + channel total + unused total = intervals × drain + last level
+  pub record BalanceClaim (p : List Entry) (r : Replay) : Type 0 where
+    pub balance : (i : ℕ) → i < length (j .line .buckets) → getD (start .buckets) i 0 + totals j s start p .channel + getD (totals j s start p .unused) i 0 ≡ length p * bucketAt (j .line .buckets) i .drain + getD (last-levels start (r .levels) .buckets) i 0
+
   -- the least total is none exactly where no plan is admissible; else it is the distortion of `best-plan`, which is the best of the admissible plans
   pub record PlanningClaim (o : Order) : Type 0 where
     pub none-iff : (least-total j m s start ≡ none) ↔ ((p : List Entry) → Admissible j m s start p → ⊥)
     pub best-is : (v : ℕ) → least-total j m s start ≡ some v → BestOf j s o (Admissible j m s start) (best-plan j m s start o)
-    pub its-distortion : (v : ℕ) → least-total j m s start ≡ some v → totals j s (best-plan j m s start o) .distortion ≡ v
+    pub its-distortion : (v : ℕ) → least-total j m s start ≡ some v → total-distortion j s (best-plan j m s start o) ≡ v
 
 -- a plan is read off the table: its first entry is the first that offers the state's word v by way of the next layer, and the rest is the best plan from the levels which that entry reaches
 pub record ReadOffClaim (j : Job) (m : PinMap) (o : Order) (table : List ℕ) (t : ℕ) (s : Levels) (v : ℕ) : Type 0 where
@@ -78,6 +89,18 @@ DecoderRange = (j : Job) (m : PinMap) (s : ℕ) (start : Levels) (p : List Entry
 -- E2, of a step
 abbrev pub DecoderSteps : Type 0
 DecoderSteps = (size b c r : ℕ) → DecoderClaim size b c r
+
+-- E3, of a step
+abbrev pub BucketSteps : Type 0
+BucketSteps = (drain l c : ℕ) → BucketClaim drain l c
+
+-- E3, of any bucket and any plan, after n intervals: l + C(1) + ... + C(n) + what goes unused = n × drain + L(n)
+abbrev pub DrainBalance : Type 0
+DrainBalance = (j : Job) (s : ℕ) (p : List Entry) (k : Bucket) (l n : ℕ) → l + sum (sent j p) n + sum (unusedDrain j s p k l) n ≡ n * k .drain + bucketLevel j s p k l n
+
+-- E3, of a replay
+abbrev pub ReplayBalance : Type 0
+ReplayBalance = (j : Job) (m : PinMap) (s : ℕ) (start : Levels) (p : List Entry) → length (start .buckets) ≡ length (j .line .buckets) → replay j m s start p .result ≡ clean → BalanceClaim j m s start p (replay j m s start p)
 
 -- (5): B(i + d) is the effective buffer size less what the encoder holds, which by (3) is what the first i units take less what the first i intervals send.
 -- Written as sums, from a starting level b: B(i + d) + R(1) + ... + R(i) = b + C(1) + ... + C(i) + the effective buffer size

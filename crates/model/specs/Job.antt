@@ -35,6 +35,9 @@ pub record Levels : Type 0 where
   pub decoder : ℕ
   pub buckets : List ℕ
 
+abbrev pub no-levels : Levels
+no-levels = record { decoder = 0; buckets = [] }
+
 -- the delay d, the line, the starting levels B(0) and L(0), M, and M codings of each of the N units
 pub record Job : Type 0 where
   pub delay : ℕ

@@ -1,4 +1,4 @@
--- The levels of a plan, by the equations of source document 004, and the effective buffer sizes of its (6).
+-- The levels of a plan, by the equations of source document 004, the drain that goes unused (document 02, E3), and the effective buffer sizes of (6).
 -- A plan here is the entries of the intervals after interval s; s is 0 for a whole job, and n counts intervals from there.
 -- Assumes nothing.
 use Prim.Native.Nat.{ℕ, zero, suc, _+_, _-_}
@@ -6,7 +6,12 @@ use mathlib.Core.Option.{none}
 use mathlib.Core.List.{List, [], _∷_, _++_, zipWith}
 use lib.ListN.{length, getD}
 use lib.IntN.{ℤ, pos, _+ℤ_, _-ℤ_}
-use Rattle.model.specs.Job.{Bucket, Job, Entry, sends, takes}
+use Rattle.model.specs.Job.{Bucket, Job, Entry, sends, takes, distorts}
+
+-- f(1) + ... + f(n)
+unfoldable pub sum : (ℕ → ℕ) → ℕ → ℕ
+sum f zero = 0
+sum f (suc n) = sum f n + f (suc n)
 
 abbrev pub no-entry : Entry
 no-entry = record { rate = 0; choice = none }
@@ -24,6 +29,10 @@ module _ (j : Job) (s : ℕ) (p : List Entry) where
   -- R(n), what the interval decodes
   unfoldable pub taken : ℕ → ℕ
   taken n = takes j (s + n) (entryOf p n)
+
+  -- the distortion of the unit that it decodes
+  unfoldable pub distorted : ℕ → ℕ
+  distorted n = distorts j (s + n) (entryOf p n)
 
   -- (16), with its sign, from the level b: B(n) = B(n - 1) + C(n) - R(n)
   unfoldable pub decoderLevel : ℕ → ℕ → ℤ
@@ -44,11 +53,19 @@ module _ (j : Job) (s : ℕ) (p : List Entry) where
   unfoldable pub bucketLevels : List Bucket → List ℕ → ℕ → List ℕ
   bucketLevels ks ls n = zipWith (λ k l. bucketLevel k l n) ks ls
 
+  -- what the n-th interval leaves unused of the bucket's drain: the larger of drain - L(n - 1) - C(n) and 0
+  unfoldable pub unusedDrain : Bucket → ℕ → ℕ → ℕ
+  unusedDrain k l zero = 0
+  unusedDrain k l (suc n) = (k .drain - bucketLevel k l n) - sent j p (suc n)
+
+  -- what the first n intervals leave unused, of each bucket
+  unfoldable pub unusedTotals : List Bucket → List ℕ → ℕ → List ℕ
+  unusedTotals ks ls n = zipWith (λ k l. sum (unusedDrain k l) n) ks ls
+
 module _ (j : Job) (p : List Entry) where
   -- C(i + 1) + ... + C(i + n)
   unfoldable pub sentAfter : ℕ → ℕ → ℕ
-  sentAfter i zero = 0
-  sentAfter i (suc n) = sentAfter i n + sent j p (i + suc n)
+  sentAfter i n = sum (λ k. sent j p (i + k)) n
 
   -- (6), of a whole job's plan: what the d intervals after interval i send
   unfoldable pub effectiveBuffer : ℕ → ℕ
@@ -56,8 +73,7 @@ module _ (j : Job) (p : List Entry) where
 
   -- what the first i units take, unit after unit
   unfoldable pub unitsTaken : ℕ → ℕ
-  unitsTaken zero = 0
-  unitsTaken (suc i) = unitsTaken i + taken j 0 p (j .delay + suc i)
+  unitsTaken i = sum (λ k. taken j 0 p (j .delay + k)) i
 
 -- the numbers f 0 to f (n - 1)
 unfoldable pub build : ℕ → (ℕ → ℕ) → List ℕ

@@ -1,32 +1,33 @@
 -- Replaying a plan: interval by interval, up to the first violation (document 01, "Levels, interval by interval").
 -- Assumes nothing.
-use Prim.Native.Nat.{ℕ, suc, _+_}
+use Prim.Native.Nat.{ℕ, suc}
 use mathlib.Core.List.{List, [], _∷_}
-use Rattle.model.specs.Job.{Levels, Job, Entry, sends, takes, distorts}
+use lib.ListN.{length}
+use Rattle.model.specs.Job.{Levels, Job, Entry}
+use Rattle.model.specs.Levels.{sum, sent, taken, distorted, unusedTotals}
 use Rattle.model.specs.Pins.{PinMap}
 use Rattle.model.specs.Admissible.{Violation}
 use Rattle.model.specs.Step.{Outcome, violates, reaches, outcome}
 
--- distortion, source (sum of R) and channel (sum of C)
+-- total distortion, source (the sum of R), channel (the sum of C), and of each bucket the drain that went unused (document 02, E3)
 pub record Totals : Type 0 where
   pub distortion : ℕ
   pub source : ℕ
   pub channel : ℕ
+  pub unused : List ℕ
 
-abbrev pub none-yet : Totals
-none-yet = record { distortion = 0; source = 0; channel = 0 }
+-- of the entries of the intervals after s
+unfoldable pub total-distortion : Job → ℕ → List Entry → ℕ
+total-distortion j s p = sum (distorted j s p) (length p)
 
-unfoldable pub with-entry : Job → ℕ → Entry → Totals → Totals
-with-entry j t e s = record {
-  distortion = distorts j t e + s .distortion;
-  source = takes j t e + s .source;
-  channel = sends j e + s .channel;
+-- and from the levels there
+unfoldable pub totals : Job → ℕ → Levels → List Entry → Totals
+totals j s start p = record {
+  distortion = total-distortion j s p;
+  source = sum (taken j s p) (length p);
+  channel = sum (sent j p) (length p);
+  unused = unusedTotals j s p (j .line .buckets) (start .buckets) (length p);
 }
-
--- the totals of the entries of the intervals after t
-unfoldable pub totals : Job → ℕ → List Entry → Totals
-totals j t [] = none-yet
-totals j t (e ∷ p) = with-entry j (suc t) e (totals j (suc t) p)
 
 pub data Result : Type 0 where
   clean : Result
@@ -48,3 +49,8 @@ go-on t (reaches s) k = written s (k s)
 unfoldable pub replay : Job → PinMap → ℕ → Levels → List Entry → Replay
 replay j m t s [] = record { levels = []; result = clean }
 replay j m t s (e ∷ p) = go-on (suc t) (outcome j m (suc t) s e) (λ s′. replay j m (suc t) s′ p)
+
+-- the levels after the last interval, from those before the first
+unfoldable pub last-levels : Levels → List Levels → Levels
+last-levels s [] = s
+last-levels s (l ∷ ls) = last-levels l ls

@@ -19,13 +19,18 @@ pub data Outcome : Type 0 where
 unfoldable pub decoder-step : ℕ → ℕ → ℕ → ℕ → Decoded
 decoder-step size b c r = verify size (pos b +ℤ pos c) ((pos b +ℤ pos c) -ℤ pos r)
 
--- a bucket's part: its level at the end, from the level l where c is sent
-unfoldable pub bucket-step : Bucket → ℕ → ℕ → ℕ
-bucket-step k l c = (l + c) - k .drain
+-- what a bucket does in an interval: it holds so much when the interval ends, and so much of its drain went unused (document 02, E3)
+pub record Drained : Type 0 where
+  pub level : ℕ
+  pub unused : ℕ
 
--- of each bucket
+-- a bucket's part, from the level l where c is sent: Example 1, and the drain that is left over
+unfoldable pub bucket-step : ℕ → ℕ → ℕ → Drained
+bucket-step drain l c = record { level = (l + c) - drain; unused = (drain - l) - c }
+
+-- the levels of all buckets
 unfoldable pub poured : ℕ → List Bucket → List ℕ → List ℕ
-poured c ks ls = zipWith (λ k l. bucket-step k l c) ks ls
+poured c ks ls = zipWith (λ k l. bucket-step (k .drain) l c .level) ks ls
 
 -- the first bucket that holds more than its size
 unfoldable pub overfull : List Bucket → List ℕ → Option ℕ

@@ -37,7 +37,7 @@ searched j m none table entries = record {
   entries = entries;
 }
 searched j m (some v) table entries = record {
-  answer = gives (totals j 0 (best-plan j m 0 (j .start) late));
+  answer = gives (totals j 0 (j .start) (best-plan j m 0 (j .start) late));
   table = over (table-of j m) table;
   entries = over (entry-bytes (best-plan j m 0 (j .start) late)) entries;
 }

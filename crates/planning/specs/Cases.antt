@@ -1,4 +1,4 @@
--- Document 01's cases of Job A that are marked (m), those of planning, and cases of commands worked out by hand: what is asked, and what document 01 says, or by the decoder's limits of document 02, E2, would.
+-- Document 01's cases of Job A that are marked (m), those of planning, and cases of commands worked out by hand: what is asked, and what document 01 says, or by document 02, E2 and E3, would.
 -- Assumes nothing.
 use Prim.Native.Nat.{ℕ}
 use mathlib.Core.Path.{_≡_}
@@ -55,25 +55,25 @@ questions =
     ∷ asks [] 81 8
     ∷ []
 
-abbrev pub says : ℕ → ℕ → ℕ → List ℕ → Reply
-says d s c es = record { answer = gives (record { distortion = d; source = s; channel = c }); entries = es }
+abbrev pub says : ℕ → ℕ → ℕ → ℕ → List ℕ → Reply
+says d s c u es = record { answer = gives (record { distortion = d; source = s; channel = c; unused = u ∷ [] }); entries = es }
 
 abbrev pub refuses : ℕ → List ℕ → Reply
 refuses n es = record { answer = refused n; entries = es }
 
 unfoldable pub replies : List Reply
 replies =
-    says 50 6 6 (0 ∷ 255 ∷ 2 ∷ 0 ∷ 1 ∷ 1 ∷ [])
-    ∷ says 50 6 6 (0 ∷ 255 ∷ 2 ∷ 0 ∷ 1 ∷ 1 ∷ [])
-    ∷ says 50 6 6 (0 ∷ 255 ∷ 2 ∷ 0 ∷ 1 ∷ 1 ∷ [])
-    ∷ says 70 4 4 (0 ∷ 255 ∷ 1 ∷ 1 ∷ 1 ∷ 1 ∷ [])
-    ∷ says 50 6 6 (0 ∷ 255 ∷ 2 ∷ 0 ∷ 1 ∷ 1 ∷ [])
+    says 50 6 6 2 (0 ∷ 255 ∷ 2 ∷ 0 ∷ 1 ∷ 1 ∷ [])
+    ∷ says 50 6 6 2 (0 ∷ 255 ∷ 2 ∷ 0 ∷ 1 ∷ 1 ∷ [])
+    ∷ says 50 6 6 2 (0 ∷ 255 ∷ 2 ∷ 0 ∷ 1 ∷ 1 ∷ [])
+    ∷ says 70 4 4 2 (0 ∷ 255 ∷ 1 ∷ 1 ∷ 1 ∷ 1 ∷ [])
+    ∷ says 50 6 6 2 (0 ∷ 255 ∷ 2 ∷ 0 ∷ 1 ∷ 1 ∷ [])
     ∷ refuses 13 (replicate 6 7)
     ∷ refuses 11 (replicate 6 7)
     ∷ refuses 12 (replicate 5 7)
     ∷ refuses 11 (replicate 5 7)
     ∷ refuses 12 (replicate 5 7)
-    ∷ says 50 6 6 (0 ∷ 255 ∷ 2 ∷ 0 ∷ 1 ∷ 1 ∷ 7 ∷ 7 ∷ [])
+    ∷ says 50 6 6 2 (0 ∷ 255 ∷ 2 ∷ 0 ∷ 1 ∷ 1 ∷ 7 ∷ 7 ∷ [])
     ∷ []
 
 -- command records: what stands at the front of the bytes
@@ -137,11 +137,11 @@ inputs =
 
 unfoldable pub input-replies : List Reply
 input-replies =
-    says 50 6 6 (0 ∷ 255 ∷ 2 ∷ 0 ∷ 1 ∷ 1 ∷ [])
-    ∷ says 50 6 6 (0 ∷ 255 ∷ 2 ∷ 0 ∷ 1 ∷ 1 ∷ [])
-    ∷ says 50 6 6 (0 ∷ 255 ∷ 2 ∷ 0 ∷ 1 ∷ 1 ∷ [])
-    ∷ says 70 4 4 (0 ∷ 255 ∷ 1 ∷ 1 ∷ 1 ∷ 1 ∷ [])
-    ∷ says 50 6 6 (0 ∷ 255 ∷ 2 ∷ 0 ∷ 1 ∷ 1 ∷ [])
+    says 50 6 6 2 (0 ∷ 255 ∷ 2 ∷ 0 ∷ 1 ∷ 1 ∷ [])
+    ∷ says 50 6 6 2 (0 ∷ 255 ∷ 2 ∷ 0 ∷ 1 ∷ 1 ∷ [])
+    ∷ says 50 6 6 2 (0 ∷ 255 ∷ 2 ∷ 0 ∷ 1 ∷ 1 ∷ [])
+    ∷ says 70 4 4 2 (0 ∷ 255 ∷ 1 ∷ 1 ∷ 1 ∷ 1 ∷ [])
+    ∷ says 50 6 6 2 (0 ∷ 255 ∷ 2 ∷ 0 ∷ 1 ∷ 1 ∷ [])
     ∷ refuses 13 (replicate 6 7)
     ∷ refuses 9 (replicate 6 7)
     ∷ refuses 10 (replicate 6 7)
@@ -174,8 +174,8 @@ sittings =
 
 unfoldable pub sitting-replies : List Answers
 sitting-replies =
-    record { numbers = 10 ∷ 0 ∷ 9 ∷ 8 ∷ []; answer = gives (record { distortion = 50; source = 6; channel = 6 }) }
-    ∷ record { numbers = 0 ∷ 0 ∷ 5 ∷ 5 ∷ []; answer = gives (record { distortion = 50; source = 6; channel = 6 }) }
+    record { numbers = 10 ∷ 0 ∷ 9 ∷ 8 ∷ []; answer = gives (record { distortion = 50; source = 6; channel = 6; unused = 2 ∷ [] }) }
+    ∷ record { numbers = 0 ∷ 0 ∷ 5 ∷ 5 ∷ []; answer = gives (record { distortion = 50; source = 6; channel = 6; unused = 2 ∷ [] }) }
     ∷ record { numbers = replicate 4 5; answer = refused 2 }
     ∷ record { numbers = replicate 4 5; answer = refused 1 }
     ∷ record { numbers = replicate 4 5; answer = refused 12 }

@@ -40,7 +40,7 @@ module _ (j : Job) (m : PinMap) (table entries : List ℕ) where
     pub best : BestOf j 0 late (Admissible j m 0 (j .start)) plan
     pub bytes : take (entry-size * intervals j) (r .entries) ≡ entry-bytes plan
     pub read-back : plan-of j (r .entries) ≡ plan
-    pub totals-are : r .answer ≡ gives (totals j 0 plan)
+    pub totals-are : r .answer ≡ gives (totals j 0 (j .start) plan)
     pub rest : drop (entry-size * intervals j) (r .entries) ≡ drop (entry-size * intervals j) entries
     pub size : length (r .entries) ≡ length entries
 

@@ -1,7 +1,7 @@
 -- Replay answers and writes what demand 2 asks: `ReplayCalls`.
 -- Assumes nothing.
-use Prim.Native.Nat.{ℕ, suc, _+_, _*_, _≤_}
-use mathlib.Core.Path.{_≡_, refl, _∙_, ap}
+use Prim.Native.Nat.{ℕ, suc, _+_, _*_, _-_, _≤_}
+use mathlib.Core.Path.{_≡_, refl, sym, _∙_, ap}
 use mathlib.Core.Logic.{_↔_}
 use mathlib.Core.List.{List, [], _∷_, zipWith}
 use native.Mathlib.Omega.{arith}
@@ -10,16 +10,18 @@ use lib.IntN.{pos}
 use borrow.Author.Tests.{le-ltb}
 use Rattle.model.specs.If.{if_then_else_}
 use Rattle.model.specs.Answer.{Answer, gives}
-use Rattle.model.specs.Job.{Bucket, Levels, Job, Entry, intervals, PlanFits}
+use Rattle.model.specs.Job.{Bucket, bucketAt, Levels, Job, Entry, intervals, PlanFits}
 use Rattle.model.specs.Levels.{bucketLevel, bucketLevels}
 use Rattle.model.specs.Pins.{PinMap}
 use Rattle.model.specs.Admissible.{Violation, ending, FirstViolation, LevelsOf}
 use Rattle.model.specs.Replay.{Totals, totals, Result, clean, stopped, Replay}
 use Rattle.model.specs.Claims.{ReplayClaim}
 use Rattle.model.proofs.DemandTwo.{demand-two}
+use Rattle.model.proofs.Drains.{drain-balance, unused-at}
 use Rattle.model.proofs.Walks.{fits-length}
 use Rattle.format.proofs.RoundTrip.{one-only}
 use Rattle.format.proofs.Places.{well-read}
+use Rattle.format.proofs.Bounds.{limited}
 use Rattle.pinning.specs.State.{lines}
 use Rattle.pinning.proofs.Agree.{matched}
 use Rattle.replaying.specs.Entries.{plan-of}
@@ -42,13 +44,18 @@ stopped-case s clean t v = (λ e. let z : _≡_ {A = ℕ} 0 1 = cc in absurd (om
 stopped-case s (stopped u w) t v =
     (λ e. let p : u ≡ t = cc in let q : w ≡ v = cc in rw (p, q), λ e. let p : u ≡ t = cc in let q : w ≡ v = cc in rw (p, q))
 
+given-case : (s t : Totals) (x : Result) → _≡_ {A = Answer Replayed} (gives (replayed s x)) (gives (totals-are t)) → (x ≡ clean) × (s ≡ t)
+unfolding replayed
+given-case s t clean e = (refl, cc)
+given-case s t (stopped n v) e = let z : _≡_ {A = ℕ} 0 1 = cc in absurd (omega arith)
+
 -- the two directions of two equivalences
 both : {A B C : Type 0} → (A ↔ B) → (B ↔ C) → (A ↔ C)
 both p q = (λ a. q .0 (p .0 a), λ c. p .1 (q .1 c))
 
 module _ (j : Job) (m : PinMap) (p : List Entry) (one : length (j .line .buckets) ≡ 1) (one-start : length (j .start .buckets) ≡ 1) where
   abbrev k : Bucket
-  k = getD (j .line .buckets) 0 (record { size = 0; drain = 0 })
+  k = bucketAt (j .line .buckets) 0
 
   -- the levels that the equations give have one bucket
   one-bucket : (n : ℕ) → ending j m 0 (j .start) p n .buckets ≡ bucketLevel j 0 p k (getD (j .start .buckets) 0 0) n ∷ []
@@ -74,19 +81,32 @@ module _ (j : Job) (m : PinMap) (p : List Entry) (one : length (j .line .buckets
           size = over-length (flat ls) levels room;
         }
 
+  -- the balance of all intervals, with the last level as it stands in the list
+  balanced : (levels list : List ℕ) → 1 ≤ intervals j → length p ≡ intervals j → Written j m p levels (intervals j) list → getD (j .start .buckets) 0 0 + totals j 0 (j .start) p .channel + getD (totals j 0 (j .start) p .unused) 0 0 ≡ intervals j * k .drain + getD list (2 * intervals j - 1) 0
+  unfolding totals
+  balanced levels list some n w =
+      let i = intervals j - 1 in
+      let a : 2 * intervals j - 1 ≡ 2 * i + 1 = omega arith in
+      let z : suc i ≡ intervals j = omega arith in
+      rw (unused-at j m 0 (j .start) p (one-start ∙ sym one) 0 (omega arith), n, a, w .bucket i (omega arith), z) (drain-balance j 0 p k (getD (j .start .buckets) 0 0) (intervals j))
+
   -- of any replay of which the model's claim holds
-  demand-two-of : (levels : List ℕ) (r : Replay) → PlanFits j 0 p → 2 * intervals j ≤ length levels → ReplayClaim j m 0 (j .start) p r → DemandTwo j m p levels (record { answer = gives (replayed (totals j 0 p) (r .result)); list = over (flat (r .levels)) levels })
-  demand-two-of levels r fits room c =
+  demand-two-of : (levels : List ℕ) (r : Replay) → 1 ≤ intervals j → PlanFits j 0 p → 2 * intervals j ≤ length levels → ReplayClaim j m 0 (j .start) p r → DemandTwo j m p levels (record { answer = gives (replayed (totals j 0 (j .start) p) (r .result)); list = over (flat (r .levels)) levels })
+  demand-two-of levels r some fits room c =
       let n = fits-length fits in
       record {
-        clean-iff = both (clean-case (totals j 0 p) (r .result)) (c .admissible-iff fits);
-        clean-written = λ e. let w = c .clean-whole (clean-case (totals j 0 p) (r .result) .0 e) in written (r .levels) (c .levels) levels (intervals j) (omega arith) room;
-        violated-iff = λ i v. both (stopped-case (totals j 0 p) (r .result) (suc i) v) (named i v);
+        clean-iff = both (clean-case (totals j 0 (j .start) p) (r .result)) (c .admissible-iff fits);
+        clean-written = λ e. let w = c .clean-whole (clean-case (totals j 0 (j .start) p) (r .result) .0 e) in written (r .levels) (c .levels) levels (intervals j) (omega arith) room;
+        violated-iff = λ i v. both (stopped-case (totals j 0 (j .start) p) (r .result) (suc i) v) (named i v);
         violated-written = λ i v e.
-            let q = stopped-case (totals j 0 p) (r .result) (suc i) v .0 e in
+            let q = stopped-case (totals j 0 (j .start) p) (r .result) (suc i) v .0 e in
             let a = c .stopped-after (suc i) v q in
             let f = named i v .0 q .counted in
             written (r .levels) (c .levels) levels i (omega arith) (omega arith);
+        balance = λ t e.
+            let g = given-case (totals j 0 (j .start) p) t (r .result) e in
+            let w = c .clean-whole (g .0) in
+            rw (← g .1) (balanced levels _ some (omega arith) (written (r .levels) (c .levels) levels (intervals j) (omega arith) room));
       }
     where
       named : (i : ℕ) (v : Violation) → (r .result ≡ stopped (suc i) v) ↔ FirstViolation j m 0 (j .start) p i v
@@ -99,7 +119,7 @@ replay-calls b j n s entries levels parsed matches fit room =
     let one = w .one-bucket in
     let size : 2 * intervals j ≤ length levels = room-two in
     rw (matched b j n parsed s matches, fit, le-ltb (length levels) (suc (length (j .line .buckets)) * intervals j) room)
-    (demand-two-of j (lines (length (j .units)) (s .bytes)) (plan-of j entries) one (w .one-fill) levels _ (plan-bytes b j n parsed .shaped-iff entries .0 fit .1) size (demand-two j (lines (length (j .units)) (s .bytes)) 0 (j .start) (plan-of j entries)))
+    (demand-two-of j (lines (length (j .units)) (s .bytes)) (plan-of j entries) one (w .one-fill) levels _ (unfold intervals in omega (arith, limited j w .units)) (plan-bytes b j n parsed .shaped-iff entries .0 fit .1) size (demand-two j (lines (length (j .units)) (s .bytes)) 0 (j .start) (plan-of j entries)))
   where
     room-two : 2 * intervals j ≤ length levels
     room-two = let e = well-read b j n parsed .one-bucket in rw e at room

@@ -5,11 +5,8 @@ use mathlib.Core.Path.{_≡_, refl, ap}
 use mathlib.Core.List.{List, [], _∷_}
 use native.Mathlib.Omega.{arith}
 use lib.ListN.{length, getD}
-use Rattle.model.specs.Job.{Levels}
+use Rattle.model.specs.Job.{Levels, no-levels}
 use Rattle.replaying.specs.Calls.{flat}
-
-abbrev no-levels : Levels
-no-levels = record { decoder = 0; buckets = [] }
 
 -- each has one bucket's level
 pub data Single : List Levels → Type 0 where

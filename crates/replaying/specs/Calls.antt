@@ -39,7 +39,7 @@ level-count j = suc (length (j .line .buckets)) * intervals j
 -- the replay of a plan in shape with these pins, its levels over the first numbers of the list
 unfoldable pub played : Job → PinMap → List ℕ → List ℕ → Ended Replayed
 played j m entries levels = record {
-  answer = gives (replayed (totals j 0 (plan-of j entries)) (replay j m 0 (j .start) (plan-of j entries) .result));
+  answer = gives (replayed (totals j 0 (j .start) (plan-of j entries)) (replay j m 0 (j .start) (plan-of j entries) .result));
   list = over (flat (replay j m 0 (j .start) (plan-of j entries) .levels)) levels;
 }
 

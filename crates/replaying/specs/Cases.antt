@@ -1,4 +1,4 @@
--- Document 01's cases of Job A that are marked (m), those of pins, replay and report: what is asked, and what document 01 says, or by the decoder's limits of document 02, E2, would.
+-- Document 01's cases of Job A that are marked (m), those of pins, replay and report: what is asked, and what document 01 says, or by document 02, E2 and E3, would.
 -- Assumes nothing.
 use Prim.Native.Nat.{ℕ}
 use mathlib.Core.Path.{_≡_}
@@ -45,6 +45,9 @@ questions =
     ∷ replays [] (1 ∷ 255 ∷ 1 ∷ 1 ∷ 2 ∷ 0 ∷ [])
     -- the plan with unit 1 pinned at 0
     ∷ replays (pin 1 0 ∷ []) (0 ∷ 255 ∷ 2 ∷ 0 ∷ 1 ∷ 1 ∷ [])
+    -- every drain is used; and all is sent at once, so that the bucket still drains in interval 2, and interval 3 has nothing left to drain
+    ∷ replays [] (1 ∷ 255 ∷ 1 ∷ 1 ∷ 1 ∷ 1 ∷ [])
+    ∷ replays [] (2 ∷ 255 ∷ 0 ∷ 1 ∷ 0 ∷ 1 ∷ [])
     ∷ replays [] (2 ∷ 255 ∷ 2 ∷ 1 ∷ 0 ∷ 0 ∷ [])
     ∷ replays [] (0 ∷ 255 ∷ 0 ∷ 1 ∷ 0 ∷ 1 ∷ [])
     -- effective buffers of the 42 plan
@@ -57,9 +60,11 @@ replies =
     answered (some 10 ∷ []) (record { count = 0; size = 0; distortion = 0 })
     ∷ answered (none ∷ []) (record { count = 1; size = 4; distortion = 10 })
     ∷ answered (none ∷ none ∷ []) (record { count = 0; size = 0; distortion = 0 })
-    ∷ replayed (record { answer = gives (totals-are (record { distortion = 50; source = 6; channel = 6 })); list = 0 ∷ 0 ∷ 0 ∷ 2 ∷ 0 ∷ 2 ∷ 7 ∷ [] })
+    ∷ replayed (record { answer = gives (totals-are (record { distortion = 50; source = 6; channel = 6; unused = 2 ∷ [] })); list = 0 ∷ 0 ∷ 0 ∷ 2 ∷ 0 ∷ 2 ∷ 7 ∷ [] })
     ∷ replayed (record { answer = gives (violated 3 decoder-overflow); list = 2 ∷ 0 ∷ 2 ∷ 0 ∷ 7 ∷ 7 ∷ 7 ∷ [] })
-    ∷ replayed (record { answer = gives (totals-are (record { distortion = 50; source = 6; channel = 6 })); list = 0 ∷ 0 ∷ 0 ∷ 2 ∷ 0 ∷ 2 ∷ 7 ∷ [] })
+    ∷ replayed (record { answer = gives (totals-are (record { distortion = 50; source = 6; channel = 6; unused = 2 ∷ [] })); list = 0 ∷ 0 ∷ 0 ∷ 2 ∷ 0 ∷ 2 ∷ 7 ∷ [] })
+    ∷ replayed (record { answer = gives (totals-are (record { distortion = 70; source = 4; channel = 6; unused = 0 ∷ [] })); list = 2 ∷ 0 ∷ 2 ∷ 0 ∷ 2 ∷ 0 ∷ 7 ∷ [] })
+    ∷ replayed (record { answer = gives (totals-are (record { distortion = 70; source = 4; channel = 4; unused = 2 ∷ [] })); list = 4 ∷ 2 ∷ 2 ∷ 0 ∷ 0 ∷ 0 ∷ 7 ∷ [] })
     ∷ replayed (record { answer = gives (violated 2 decoder-overflow); list = 4 ∷ 2 ∷ 7 ∷ 7 ∷ 7 ∷ 7 ∷ 7 ∷ [] })
     ∷ replayed (record { answer = gives (violated 2 decoder-underflow); list = 0 ∷ 0 ∷ 7 ∷ 7 ∷ 7 ∷ 7 ∷ 7 ∷ [] })
     ∷ reported (record { answer = gives tt; list = 2 ∷ 2 ∷ 4 ∷ 7 ∷ [] })

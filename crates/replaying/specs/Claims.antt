@@ -1,6 +1,6 @@
 -- What is claimed of plans as bytes, of replay and of the report: each claim is a type, which a theorem of proofs/ inhabits.
 -- Assumes nothing.
-use Prim.Native.Nat.{ℕ, suc, _+_, _*_, _<_, _≤_}
+use Prim.Native.Nat.{ℕ, suc, _+_, _*_, _-_, _<_, _≤_}
 use mathlib.Core.Path.{_≡_}
 use mathlib.Core.Logic.{_↔_}
 use mathlib.Core.Bool.{true}
@@ -8,11 +8,11 @@ use mathlib.Core.List.{List}
 use lib.ListN.{length, getD, drop}
 use lib.IntN.{pos}
 use Rattle.model.specs.Answer.{gives}
-use Rattle.model.specs.Job.{Job, Entry, intervals, PlanFits}
+use Rattle.model.specs.Job.{bucketAt, Job, Entry, intervals, PlanFits}
 use Rattle.model.specs.Levels.{decoderLevel, bucketLevel, effectiveBuffer}
 use Rattle.model.specs.Pins.{PinMap}
 use Rattle.model.specs.Admissible.{Violation, Admissible, FirstViolation}
-use Rattle.model.specs.Replay.{totals}
+use Rattle.model.specs.Replay.{Totals, totals}
 use Rattle.format.specs.Parser.{refused, took}
 use Rattle.format.specs.JobBytes.{header-in, parse}
 use Rattle.pinning.specs.State.{State, lines}
@@ -27,22 +27,24 @@ pub record Shapes (j : Job) : Type 0 where
   -- every plan in shape has its bytes
   pub written : (p : List Entry) → PlanFits j 0 p → (shaped (header-in j) (entry-bytes p) ≡ true) × (plan-of j (entry-bytes p) ≡ p)
 
--- demand 2, of a job with one bucket, a matching set, a plan in shape and a list that is long enough: m are the set's pins, p is the plan and r what the call answers and leaves
+-- demand 2 and E3's balance, of a job with one bucket, a matching set, a plan in shape and a list that is long enough: m are the set's pins, p is the plan and r what the call answers and leaves
 module _ (j : Job) (m : PinMap) (p : List Entry) (levels : List ℕ) where
   -- the levels of the first n intervals stand in the list, those of (16) and of Example 1 (17), and the rest of it is as before
   pub record Written (n : ℕ) (list : List ℕ) : Type 0 where
     pub decoder : (i : ℕ) → i < n → pos (getD list (2 * i) 0) ≡ decoderLevel j 0 p (j .start .decoder) (suc i)
-    pub bucket : (i : ℕ) → i < n → getD list (2 * i + 1) 0 ≡ bucketLevel j 0 p (getD (j .line .buckets) 0 (record { size = 0; drain = 0 })) (getD (j .start .buckets) 0 0) (suc i)
+    pub bucket : (i : ℕ) → i < n → getD list (2 * i + 1) 0 ≡ bucketLevel j 0 p (bucketAt (j .line .buckets) 0) (getD (j .start .buckets) 0 0) (suc i)
     pub rest : drop (2 * n) list ≡ drop (2 * n) levels
     pub size : length list ≡ length levels
 
   pub record DemandTwo (r : Ended Replayed) : Type 0 where
     -- no violation is found exactly where the plan is admissible; then every level is written and the answer has the totals
-    pub clean-iff : (r .answer ≡ gives (totals-are (totals j 0 p))) ↔ Admissible j m 0 (j .start) p
-    pub clean-written : r .answer ≡ gives (totals-are (totals j 0 p)) → Written (intervals j) (r .list)
+    pub clean-iff : (r .answer ≡ gives (totals-are (totals j 0 (j .start) p))) ↔ Admissible j m 0 (j .start) p
+    pub clean-written : r .answer ≡ gives (totals-are (totals j 0 (j .start) p)) → Written (intervals j) (r .list)
     -- a violation is named exactly where it is the first; then the levels of the intervals before it are written
     pub violated-iff : (n : ℕ) (v : Violation) → (r .answer ≡ gives (violated (suc n) v)) ↔ FirstViolation j m 0 (j .start) p n v
     pub violated-written : (n : ℕ) (v : Violation) → r .answer ≡ gives (violated (suc n) v) → Written n (r .list)
+    -- document 02, E3: where totals are given, starting level + channel total + unused total = T × drain + last level, which is the last number written
+    pub balance : (t : Totals) → r .answer ≡ gives (totals-are t) → getD (j .start .buckets) 0 0 + t .channel + getD (t .unused) 0 0 ≡ intervals j * bucketAt (j .line .buckets) 0 .drain + getD (r .list) (2 * intervals j - 1) 0
 
 -- in which order replay looks at what it is given
 pub record ReplayOrder (b : List ℕ) (s : State) (entries levels : List ℕ) : Type 0 where
