@@ -39,12 +39,13 @@ pub fn head(header: Header) {
     end();
 }
 
-// Distortion, source size and channel size.
+// Distortion, source size, channel size and unused drain.
 pub fn total(totals: Totals) {
     text(b"total");
     number(totals.distortion as u64);
     number(totals.source as u64);
     number(totals.channel as u64);
+    number(totals.unused as u64);
     end();
 }
 

@@ -17,6 +17,7 @@ use Rattle.model.specs.Job.{Coding, intervals, coding, sends, takes, distorts}
 use Rattle.model.specs.Step.{reaches, outcome-of}
 use Rattle.model.specs.Best.{late, pairs, entry, reached}
 use Rattle.model.specs.Table.{layerWords, words, layerOf, wordIn, IsTable}
+use Rattle.model.proofs.Steps.{reaches-poured}
 use Rattle.format.specs.Choices.{choice-of}
 use Rattle.format.specs.JobBytes.{job-in}
 use Rattle.format.specs.JobBytes as format
@@ -158,10 +159,13 @@ module _ (b : List ℕ) (h : Header) (l : Line) (pins table : List ℕ) (place :
               entry = e;
               rate = unfold entry in outer-is;
               choice = choice-is byte q;
-              sent = is .sent-is ∙ sent-is;
-              size = is .size-is ∙ coding-is .0;
-              distortion = is .distortion-is ∙ coding-is .1;
-              limits = (omega (arith, is .sent-is, sent-is, sent-most), omega (arith, is .size-is, coding-is, coding-most), omega (arith, is .distortion-is, coding-is, coding-most));
+              does = record {
+                sent = is .sent-is ∙ sent-is;
+                size = is .size-is ∙ coding-is .0;
+                distortion = is .distortion-is ∙ coding-is .1;
+                limits = (omega (arith, is .sent-is, sent-is, sent-most), omega (arith, is .size-is, coding-is, coding-most), omega (arith, is .distortion-is, coding-is, coding-most));
+              };
+              buckets = rw to-is (reaches-poured (job-in b .line) _ _ _ _ (levels-of at) (first .end) (first .step));
               ends = rw to-is (record { inside = first .inside; value = first .value; least-is = first .least-is });
               rest = rw to-is (first .rest);
             }

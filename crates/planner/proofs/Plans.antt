@@ -8,10 +8,9 @@ use native.Mathlib.Omega.{arith}
 use lib.ListN.{length, drop, set, length-append, length-set}
 use Rattle.trellis.specs.Trellis.{best}
 use Rattle.model.specs.Job as model
-use Rattle.model.specs.Job.{Job, Entry, intervals}
+use Rattle.model.specs.Job.{Bucket, Job, Entry, intervals}
 use Rattle.model.specs.Pins.{PinMap}
-use Rattle.model.specs.Replay as model-replay
-use Rattle.model.specs.Replay.{with-entry, totals, none-yet}
+use Rattle.model.specs.Replay.{totals}
 use Rattle.model.specs.Best.{late, best-plan}
 use Rattle.format.specs.Choices.{choice-byte}
 use Rattle.format.proofs.Choices.{byte-back}
@@ -21,7 +20,8 @@ use Rattle.replaying.proofs.Entries.{bytes-size, bytes-more}
 use Rattle.replay.specs.declared.Levels.{Levels}
 use Rattle.replay.specs.declared.Totals.{Totals}
 use Rattle.replay.specs.Answers.{levels-of, totals-of, added}
-use Rattle.replay.proofs.Replaying.{plus, totals-same, two-set}
+use Rattle.replay.proofs.Adding.{Added, added-start, added-on, added-end}
+use Rattle.replay.proofs.Replaying.{two-set}
 use Rattle.planner.specs.declared.Move.{Move}
 use Rattle.planner.specs.Answers.{Standing, BestMove, PlanRead}
 
@@ -32,36 +32,27 @@ module _ (j : Job) (m : PinMap) (entries₀ : List ℕ) where
     pub count : length done ≡ place
     pub plan : best-plan j m 0 (j .start) late ≡ done ++ best-plan j m place (levels-of at) late
     pub stands : Standing j m place (levels-of at)
-    pub sums : totals j 0 (best-plan j m 0 (j .start) late) ≡ plus (totals-of sum) (totals j place (best-plan j m place (levels-of at) late))
+    pub sums : Added j (totals j 0 (j .start) (best-plan j m 0 (j .start) late)) place at sum (best-plan j m place (levels-of at) late)
     pub list : entries ≡ entry-bytes done ++ drop (entry-size * place) entries₀
     pub size : length entries ≡ length entries₀
-    pub small : (sum .distortion ≤ place * 1000000) × (sum .source ≤ place * 4095) × (sum .channel ≤ place * 4095)
 
-  pub read-start : (at : Levels) (sum : Totals) → levels-of at ≡ j .start → totals-of sum ≡ none-yet → Standing j m 0 (j .start) → ReadTo 0 at sum entries₀
-  unfolding plus totals-of entry-bytes
-  read-start at sum e z s =
-      let d : sum .distortion ≡ 0 = ap (λ (t : model-replay.Totals). t .distortion) z in
-      let r : sum .source ≡ 0 = ap (λ (t : model-replay.Totals). t .source) z in
-      let c : sum .channel ≡ 0 = ap (λ (t : model-replay.Totals). t .channel) z in
-      record {
-        done = [];
-        count = refl;
-        plan = rw e;
-        stands = rw e s;
-        sums = rw e (totals-same (omega arith) (omega arith) (omega arith));
-        list = refl;
-        size = refl;
-        small = (omega arith, omega arith, omega arith);
-      }
+module _ (j : Job) (m : PinMap) (entries₀ : List ℕ) (k : Bucket) (only : j .line .buckets ≡ k ∷ []) where
+  pub read-start : (at : Levels) → levels-of at ≡ j .start → Standing j m 0 (j .start) → ReadTo j m entries₀ 0 at (record { distortion = 0; source = 0; channel = 0; unused = 0 }) entries₀
+  unfolding entry-bytes
+  read-start at e s = record {
+    done = [];
+    count = refl;
+    plan = rw e;
+    stands = rw e s;
+    sums = added-start j k only _ at _ (rw e);
+    list = refl;
+    size = refl;
+  }
 
   -- one entry more
-  pub read-on : (place : ℕ) (at : Levels) (sum : Totals) (entries : List ℕ) (x : Move) (sum′ : Totals) → ReadTo place at sum entries → BestMove j m place (levels-of at) x → totals-of sum′ ≡ added sum (x .interval) → entry-size * place + 2 ≤ length entries₀ → ReadTo (place + 1) (x .to) sum′ (set (set entries (entry-size * place) (x .rate)) (entry-size * place + 1) (x .choice))
-  unfolding plus totals with-entry totals-of added
-  read-on place at sum entries x sum′ g b e room =
+  pub read-on : (place : ℕ) (at : Levels) (sum : Totals) (entries : List ℕ) (x : Move) (sum′ : Totals) → ReadTo j m entries₀ place at sum entries → BestMove j m place (levels-of at) x → totals-of sum′ ≡ added sum (k .drain) at (x .interval) → k .drain ≤ 4095 → entry-size * place + 2 ≤ length entries₀ → ReadTo j m entries₀ (place + 1) (x .to) sum′ (set (set entries (entry-size * place) (x .rate)) (entry-size * place + 1) (x .choice))
+  read-on place at sum entries x sum′ g b e most room =
       let n : entry-size * place + 2 ≡ entry-size * suc place = omega arith in
-      let d : sum′ .distortion ≡ sum .distortion + x .interval .distortion = ap (λ (t : model-replay.Totals). t .distortion) e in
-      let r : sum′ .source ≡ sum .source + x .interval .size = ap (λ (t : model-replay.Totals). t .source) e in
-      let c : sum′ .channel ≡ sum .channel + x .interval .sent = ap (λ (t : model-replay.Totals). t .channel) e in
       let bytes : entry-bytes (g .done ++ (b .entry ∷ [])) ≡ entry-bytes (g .done) ++ (x .rate ∷ x .choice ∷ []) =
       bytes-more (g .done) (b .entry) ∙ ap₂ (λ (y z : ℕ). entry-bytes (g .done) ++ (y ∷ z ∷ [])) (b .rate) (ap choice-byte (b .choice) ∙ byte-back (x .choice)) in
       rw (add-one place) (record {
@@ -69,13 +60,12 @@ module _ (j : Job) (m : PinMap) (entries₀ : List ℕ) where
         count = length-append (g .done) (b .entry ∷ []) ∙ omega (arith, g .count);
         plan = g .plan ∙ ap (λ (p : List Entry). g .done ++ p) (b .rest) ∙ sym (append-assoc (g .done) (b .entry ∷ []) (best-plan j m (suc place) (levels-of (x .to)) late));
         stands = b .ends;
-        sums = g .sums ∙ ap (λ (p : List Entry). plus (totals-of sum) (totals j place p)) (b .rest) ∙ totals-same (omega (arith, b .distortion)) (omega (arith, b .size)) (omega (arith, b .sent));
+        sums = added-on j k only _ place at sum (b .entry) _ (x .to) (x .interval) sum′ (rw (b .rest) at (g .sums)) (b .does) (b .buckets) e most;
         list =
             ap (λ (l : List ℕ). set (set l (entry-size * place) (x .rate)) (entry-size * place + 1) (x .choice)) (g .list)
             ∙ two-set (entry-bytes (g .done)) entries₀ (entry-size * place) (x .rate) (x .choice) (omega (arith, bytes-size (g .done), g .count)) room
             ∙ ap₂ (λ (w : List ℕ) (i : ℕ). w ++ drop i entries₀) (sym bytes) n;
         size = simp length-set (g .size);
-        small = (omega (arith, g .small, b .limits), omega (arith, g .small, b .limits), omega (arith, g .small, b .limits));
       })
 
   -- behind the last place nothing is left
@@ -83,12 +73,12 @@ module _ (j : Job) (m : PinMap) (entries₀ : List ℕ) where
   unfolding best-plan best
   none-left place s q = let n : intervals j - place ≡ 0 = omega arith in rw n
 
-  pub read-end : (place : ℕ) (at : Levels) (sum : Totals) (entries : List ℕ) → ReadTo place at sum entries → place ≡ intervals j → PlanRead j m entries₀ sum entries
-  unfolding plus totals totals-of over
+  pub read-end : (place : ℕ) (at : Levels) (sum : Totals) (entries : List ℕ) → ReadTo j m entries₀ place at sum entries → place ≡ intervals j → PlanRead j m entries₀ sum entries
+  unfolding over
   read-end place at sum entries g q =
       let e : best-plan j m place (levels-of at) late ≡ [] = none-left place (levels-of at) q in
       let all : best-plan j m 0 (j .start) late ≡ g .done = g .plan ∙ ap (λ (p : List Entry). g .done ++ p) e ∙ append-nil (g .done) in
       record {
-        totals-are = sym (g .sums ∙ ap (λ (p : List Entry). plus (totals-of sum) (totals j place p)) e ∙ totals-same (omega arith) (omega arith) (omega arith));
+        totals-are = added-end j k only _ place at sum (rw e at (g .sums));
         written = rw (all, bytes-size (g .done), g .count) (g .list);
       }

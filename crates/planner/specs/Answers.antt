@@ -13,7 +13,7 @@ use Rattle.model.specs.If.{if_then_else_}
 use Rattle.model.specs.Answer.{Answer, refused, gives}
 use Rattle.model.specs.Job as model
 use Rattle.model.specs.Pins.{PinMap}
-use Rattle.model.specs.Step.{Outcome, reaches, pin-held, outcome-of}
+use Rattle.model.specs.Step.{Outcome, reaches, poured, pin-held, outcome-of}
 use Rattle.model.specs.Replay as model-replay
 use Rattle.model.specs.Best.{late, pairs, width, least-total, best-plan}
 use Rattle.model.specs.Table.{InLayer, layerWords, words, layerOf, wordIn}
@@ -26,7 +26,7 @@ use Rattle.job.specs.Answers.{plain}
 use Rattle.replay.specs.declared.Totals.{Totals}
 use Rattle.replay.specs.declared.Levels.{Levels}
 use Rattle.replay.specs.declared.Interval.{Interval}
-use Rattle.replay.specs.Answers.{levels-of, totals-of, line-of}
+use Rattle.replay.specs.Answers.{levels-of, totals-of, line-of, Does}
 use Rattle.replaying.specs.Entries.{entry-bytes}
 use Rattle.model.specs.Lent.{over}
 use Rattle.planning.specs.Rule.{Allowed, pair-offer, allowed-in}
@@ -172,14 +172,12 @@ pub record BestMove (j : model.Job) (m : PinMap) (place : ℕ) (s : model.Levels
   pub entry : model.Entry
   pub rate : entry .rate ≡ x .rate
   pub choice : entry .choice ≡ choice-of (x .choice)
-  pub sent : x .interval .sent ≡ model.sends j entry
-  pub size : x .interval .size ≡ model.takes j (suc place) entry
-  pub distortion : x .interval .distortion ≡ model.distorts j (suc place) entry
-  pub limits : (x .interval .sent ≤ 4095) × (x .interval .size ≤ 4095) × (x .interval .distortion ≤ 1000000)
+  pub does : Does j (suc place) entry (x .interval)
+  pub buckets : levels-of (x .to) .buckets ≡ poured (model.sends j entry) (j .line .buckets) (s .buckets)
   pub ends : Standing j m (suc place) (levels-of (x .to))
   pub rest : best-plan j m place s late ≡ entry ∷ best-plan j m (suc place) (levels-of (x .to)) late
 
 -- the best plan, written over the first entries, and its totals
 pub record PlanRead (j : model.Job) (m : PinMap) (old : List ℕ) (t : Totals) (new : List ℕ) : Type 0 where
-  pub totals-are : totals-of t ≡ model-replay.totals j 0 (best-plan j m 0 (j .start) late)
+  pub totals-are : totals-of t ≡ model-replay.totals j 0 (j .start) (best-plan j m 0 (j .start) late)
   pub written : new ≡ over (entry-bytes (best-plan j m 0 (j .start) late)) old

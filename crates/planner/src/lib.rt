@@ -414,11 +414,12 @@ fn read_off(
         distortion: 0,
         source: 0,
         channel: 0,
+        unused: 0,
     };
     for place in 0..total {
         let taken = best_move(job, header, line, pins, table, place, at);
         put_entry(entries, place, taken.rate, taken.choice);
-        sum = replay::with_interval(sum, taken.interval);
+        sum = replay::with_interval(sum, header.drain, at, taken.interval);
         at = taken.to;
     }
     sum

@@ -104,10 +104,7 @@ module _ (b : List ℕ) (h : Header) (entries : List ℕ) (s : Shaped b h entrie
         let w = coding-is x d in
         let e = w .is in
         record {
-          sent = sent-is;
-          size = cc;
-          distortion = cc;
+          does = record { sent = sent-is; size = cc; distortion = cc; limits = (sent-most, w .size-most, w .distortion-most) };
           pin = pin-is pins pin n q;
           choice = refl;
-          limits = (sent-most, w .size-most, w .distortion-most);
         }

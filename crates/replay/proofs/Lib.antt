@@ -2,6 +2,7 @@
 pub mod Steps
 pub mod Shapes
 pub mod Entries
+pub mod Adding
 pub mod Replaying
 pub mod Sums
 pub mod Answering

@@ -9,12 +9,12 @@ use lib.ListN.{length, getD, drop, set, length-append, length-set}
 use lib.Seq.{drop-cons, set-at}
 use Rattle.model.specs.Answer.{gives}
 use Rattle.model.specs.Job as model
-use Rattle.model.specs.Job.{Job, Entry, intervals}
+use Rattle.model.specs.Job.{Bucket, Job, Entry, intervals}
 use Rattle.model.specs.Pins.{PinMap}
 use Rattle.model.specs.Admissible as v
 use Rattle.model.specs.Step.{violates, reaches, outcome-of, outcome}
-use Rattle.model.specs.Replay.{Replay, stopped, written, go-on, replay, with-entry, totals, none-yet}
-use Rattle.model.specs.Replay as r
+use Rattle.model.specs.Replay.{totals, Replay, stopped, written, go-on, replay}
+use Rattle.model.proofs.Steps.{reaches-poured}
 use Rattle.format.specs.Choices.{choice-of}
 use Rattle.format.specs.JobBytes.{Header, job-in, Opens}
 use Rattle.format.proofs.Opened.{decoder-is, buckets-are}
@@ -26,23 +26,17 @@ use Rattle.replay.specs.declared.Interval.{Interval}
 use Rattle.replay.specs.declared.Levels.{Levels}
 use Rattle.replay.specs.declared.Totals.{Totals}
 use Rattle.replay.specs.Answers.{levels-of, totals-of, line-of, added, IsInterval}
+use Rattle.replay.proofs.Adding.{Added, added-start, added-on, added-end}
 
 module _ (b : List ℕ) (h : Header) (entries : List ℕ) (o : Opens b h) where
   -- a step over the header's line is the interval's outcome
   pub outcome-is-job : (m : PinMap) (i : ℕ) (x : Interval) (at : Levels) → IsInterval (job-in b) m entries i x → outcome-of (line-of h) (choice-of (x .pin)) (choice-of (x .choice)) (at .decoder) (at .bucket ∷ []) (x .sent) (x .size) ≡ outcome (job-in b) m (suc i) (levels-of at) (entry-at entries i)
   unfolding outcome outcome-of line-of levels-of
-  outcome-is-job m i x at d = rw (d .pin, d .choice, d .sent, d .size, buckets-are b h o, decoder-is b h o)
+  outcome-is-job m i x at d = rw (d .pin, d .choice, d .does .sent, d .does .size, buckets-are b h o, decoder-is b h o)
 
 -- a replay behind levels that are written
 unfoldable pub before : List model.Levels → Replay → Replay
 before ls r = record { levels = ls ++ r .levels; result = r .result }
-
--- totals one after the other
-unfoldable pub plus : r.Totals → r.Totals → r.Totals
-plus a b = record { distortion = a .distortion + b .distortion; source = a .source + b .source; channel = a .channel + b .channel }
-
-pub totals-same : {a b c a′ b′ c′ : ℕ} → a ≡ a′ → b ≡ b′ → c ≡ c′ → _≡_ {A = r.Totals} (record { distortion = a; source = b; channel = c }) (record { distortion = a′; source = b′; channel = c′ })
-totals-same p q z = cc
 
 -- two numbers written behind what is written
 pub two-set : (w l : List ℕ) (p a b : ℕ) → length w ≡ p → p + 2 ≤ length l → set (set (w ++ drop p l) p a) (p + 1) b ≡ (w ++ (a ∷ b ∷ [])) ++ drop (p + 2) l
@@ -73,68 +67,58 @@ module _ (j : Job) (m : PinMap) (entries levels₀ : List ℕ) where
     pub count : length done ≡ i
     pub single : Single done
     pub rest : replay j m 0 (j .start) (plan-of j entries) ≡ before done (replay j m i (levels-of at) (left i))
-    pub sums : totals j 0 (plan-of j entries) ≡ plus (totals-of sum) (totals j i (left i))
+    pub sums : Added j (totals j 0 (j .start) (plan-of j entries)) i at sum (left i)
     pub list : levels ≡ flat done ++ drop (2 * i) levels₀
     pub size : length levels ≡ length levels₀
-    pub small : (sum .distortion ≤ i * 1000000) × (sum .source ≤ i * 4095) × (sum .channel ≤ i * 4095)
 
-  pub going-start : (at : Levels) (sum : Totals) → levels-of at ≡ j .start → totals-of sum ≡ none-yet → Going 0 at sum levels₀
-  unfolding before plus plan-of flat totals-of
-  going-start at sum e z =
+  pub going-start : (k : Bucket) → j .line .buckets ≡ k ∷ [] → (at : Levels) → levels-of at ≡ j .start → Going 0 at (record { distortion = 0; source = 0; channel = 0; unused = 0 }) levels₀
+  unfolding before plan-of flat
+  going-start k only at e =
       let n : intervals j - 0 ≡ intervals j = omega arith in
-      let d : sum .distortion ≡ 0 = ap (λ (t : r.Totals). t .distortion) z in
-      let s : sum .source ≡ 0 = ap (λ (t : r.Totals). t .source) z in
-      let c : sum .channel ≡ 0 = ap (λ (t : r.Totals). t .channel) z in
       record {
         done = [];
         count = refl;
         single = none-left;
         rest = rw (e, n);
-        sums = rw n (totals-same (omega arith) (omega arith) (omega arith));
+        sums = rw n (added-start j k only _ at (plan-of j entries) (rw e));
         list = refl;
         size = refl;
-        small = (omega arith, omega arith, omega arith);
       }
 
   left-more : (i : ℕ) → i < intervals j → left i ≡ entry-at entries i ∷ left (suc i)
   unfolding plan-from
-  left-more i h = let e : intervals j - i ≡ suc (intervals j - suc i) = omega arith in rw e
+  left-more i more = let e : intervals j - i ≡ suc (intervals j - suc i) = omega arith in rw e
 
-  module _ (i : ℕ) (at : Levels) (sum : Totals) (levels : List ℕ) (g : Going i at sum levels) (h : i < intervals j) where
+  module _ (i : ℕ) (at : Levels) (sum : Totals) (levels : List ℕ) (g : Going i at sum levels) (more : i < intervals j) where
     -- an interval that reaches levels
-    pub going-on : (next : Levels) (x : Interval) (sum′ : Totals) → outcome j m (suc i) (levels-of at) (entry-at entries i) ≡ reaches (levels-of next) → IsInterval j m entries i x → totals-of sum′ ≡ added sum x → 2 * i + 2 ≤ length levels₀ → Going (i + 1) next sum′ (set (set levels (2 * i) (next .decoder)) (2 * i + 1) (next .bucket))
-    unfolding replay go-on written before plus totals with-entry totals-of added levels-of
-    going-on next x sum′ o d e room =
+    pub going-on : (k : Bucket) → j .line .buckets ≡ k ∷ [] → (next : Levels) (x : Interval) (sum′ : Totals) → outcome j m (suc i) (levels-of at) (entry-at entries i) ≡ reaches (levels-of next) → IsInterval j m entries i x → totals-of sum′ ≡ added sum (k .drain) at x → k .drain ≤ 4095 → 2 * i + 2 ≤ length levels₀ → Going (i + 1) next sum′ (set (set levels (2 * i) (next .decoder)) (2 * i + 1) (next .bucket))
+    unfolding replay go-on written before levels-of
+    going-on k only next x sum′ o d e most room =
         let n : 2 * suc i ≡ 2 * i + 2 = omega arith in
         let c = g .count in
         let s = flat-size (g .single) in
-        let p : sum′ .distortion ≡ sum .distortion + x .distortion = ap (λ (t : r.Totals). t .distortion) e in
-        let q : sum′ .source ≡ sum .source + x .size = ap (λ (t : r.Totals). t .source) e in
-        let z : sum′ .channel ≡ sum .channel + x .sent = ap (λ (t : r.Totals). t .channel) e in
         rw (add-one i) (record {
           done = g .done ++ (levels-of next ∷ []);
           count = length-append (g .done) (levels-of next ∷ []) ∙ omega arith;
           single = single-more (next .decoder) (next .bucket) (g .single);
-          rest = g .rest ∙ rw (left-more i h, o) (ap (λ (ls : List model.Levels). record { levels = ls; result = replay j m (suc i) (levels-of next) (left (suc i)) .result }) (sym (append-assoc (g .done) (levels-of next ∷ []) (replay j m (suc i) (levels-of next) (left (suc i)) .levels))));
-          sums = g .sums ∙ rw (left-more i h) (totals-same (omega (arith, d .distortion)) (omega (arith, d .size)) (omega (arith, d .sent)));
+          rest = g .rest ∙ rw (left-more i more, o) (ap (λ (ls : List model.Levels). record { levels = ls; result = replay j m (suc i) (levels-of next) (left (suc i)) .result }) (sym (append-assoc (g .done) (levels-of next ∷ []) (replay j m (suc i) (levels-of next) (left (suc i)) .levels))));
+          sums = added-on j k only _ i at sum (entry-at entries i) (left (suc i)) next x sum′ (rw (left-more i more) at (g .sums)) (d .does) (unfold outcome in reaches-poured (j .line) _ _ _ _ (levels-of at) (levels-of next) o) e most;
           list = rw (g .list, n, flat-more (g .done) (next .decoder) (next .bucket)) (two-set (flat (g .done)) levels₀ (2 * i) (next .decoder) (next .bucket) (omega arith) room);
           size = simp length-set (g .size);
-          small = (omega (arith, g .small, d .limits), omega (arith, g .small, d .limits), omega (arith, g .small, d .limits));
         })
 
     -- an interval with a violation ends it
     pub going-stop : (w : v.Violation) → outcome j m (suc i) (levels-of at) (entry-at entries i) ≡ violates w → record { answer = gives (violated (suc i) w); list = levels } ≡ played j m entries levels₀
     unfolding played replayed replay go-on before over
     going-stop w o =
-        let e : replay j m 0 (j .start) (plan-of j entries) ≡ record { levels = g .done ++ []; result = stopped (suc i) w } = g .rest ∙ rw (left-more i h, o) in
+        let e : replay j m 0 (j .start) (plan-of j entries) ≡ record { levels = g .done ++ []; result = stopped (suc i) w } = g .rest ∙ rw (left-more i more, o) in
         rw (e, append-nil, flat-size (g .single), g .count) (ap (λ (l : List ℕ). record { answer = gives (violated (suc i) w); list = l }) (g .list))
 
   -- all intervals are done
-  pub going-end : (i : ℕ) (at : Levels) (sum : Totals) (levels : List ℕ) → Going i at sum levels → i ≡ intervals j → record { answer = gives (totals-are (totals-of sum)); list = levels } ≡ played j m entries levels₀
-  unfolding played replayed replay before over plus totals plan-from totals-of
-  going-end i at sum levels g q =
+  pub going-end : (k : Bucket) → j .line .buckets ≡ k ∷ [] → (i : ℕ) (at : Levels) (sum : Totals) (levels : List ℕ) → Going i at sum levels → i ≡ intervals j → record { answer = gives (totals-are (totals-of sum)); list = levels } ≡ played j m entries levels₀
+  unfolding played replayed replay before over plan-from
+  going-end k only i at sum levels g q =
       let n : intervals j - i ≡ 0 = omega arith in
       let e = rw n at (g .rest) in
-      let s = rw n at (g .sums) in
-      let z : totals j 0 (plan-of j entries) ≡ totals-of sum = s ∙ totals-same (omega arith) (omega arith) (omega arith) in
-      rw (e, append-nil, flat-size (g .single), g .count, z) (ap (λ (l : List ℕ). record { answer = gives (totals-are (totals-of sum)); list = l }) (g .list))
+      let z = added-end j k only _ i at sum (rw n at (g .sums)) in
+      rw (e, append-nil, flat-size (g .single), g .count, ← z) (ap (λ (l : List ℕ). record { answer = gives (totals-are (totals-of sum)); list = l }) (g .list))

@@ -1,6 +1,6 @@
 -- One interval, test by test.
 -- Assumes nothing.
-use Prim.Native.Nat.{ℕ, _+_, _-_, _<_, _≤_}
+use Prim.Native.Nat.{ℕ, _-_, _<_, _≤_}
 use mathlib.Core.Path.{_≡_, refl, sym}
 use mathlib.Core.Bool.{Bool, true, false}
 use mathlib.Core.Option.{Option}
@@ -10,7 +10,7 @@ use lib.Dec.{eqb}
 use borrow.Author.Tests.{lt-ltb, le-ltb, eqb-true, eq-eqb, ne-eqb}
 use Rattle.model.specs.If.{if_then_else_}
 use Rattle.model.specs.Admissible.{Violation, bucket-overflow, pin-not-held, breaks, holds}
-use Rattle.model.specs.Step.{decoder-step, bucket-step, violates, reaches, poured, overfull, same-choice, pin-held, or-overflow, after-decoder, outcome-of}
+use Rattle.model.specs.Step.{decoder-step, Drained, bucket-step, violates, reaches, poured, overfull, same-choice, pin-held, or-overflow, after-decoder, outcome-of}
 use Rattle.format.specs.Choices.{no-choice, choice-of}
 use Rattle.format.specs.JobBytes.{Header}
 use Rattle.format.proofs.Choices.{of-mark, of-choice}
@@ -28,21 +28,24 @@ pin-holds-by pin choice h = rw (of-choice pin h) (go (eqb choice no-choice) refl
     go true e = let q = eqb-true choice no-choice e in rw (q, of-mark) (ne-eqb no-choice pin (λ z. h (sym z)))
     go false e = rw (of-choice choice (λ z. let y : _≡_ {A = ℕ} 0 1 = cc (eq-eqb choice no-choice z) in omega arith))
 
+pub drained-same : {a a′ b b′ : ℕ} → a ≡ a′ → b ≡ b′ → _≡_ {A = Drained} (record { level = a; unused = b }) (record { level = a′; unused = b′ })
+drained-same p q = cc
+
 -- an interval over the line of a header, from what its parts answered
 module _ (h : Header) (pinned choice : Option ℕ) (b l c r : ℕ) where
   pub outcome-decoder : (v : Violation) → breaks v ≡ decoder-step (h .decoder) b c r → violates v ≡ outcome-of (line-of h) pinned choice b (l ∷ []) c r
   unfolding outcome-of line-of after-decoder
   outcome-decoder v e = rw (← e)
 
-  module _ (d : ℕ) (e : holds d ≡ decoder-step (h .decoder) b c r) where
-    pub outcome-bucket : h .bucket < (l + c) - h .drain → violates (bucket-overflow 0) ≡ outcome-of (line-of h) pinned choice b (l ∷ []) c r
-    unfolding outcome-of line-of after-decoder poured bucket-step zipWith overfull or-overflow if_then_else_
-    outcome-bucket k = rw (← e, lt-ltb (h .bucket) ((l + c) - h .drain) k)
+  module _ (d : ℕ) (e : holds d ≡ decoder-step (h .decoder) b c r) (x : ℕ) (w : x ≡ bucket-step (h .drain) l c .level) where
+    pub outcome-bucket : h .bucket < x → violates (bucket-overflow 0) ≡ outcome-of (line-of h) pinned choice b (l ∷ []) c r
+    unfolding outcome-of line-of after-decoder poured zipWith overfull or-overflow if_then_else_
+    outcome-bucket k = rw (← e, ← w, lt-ltb (h .bucket) x k)
 
-    pub outcome-pin : (l + c) - h .drain ≤ h .bucket → pin-held pinned choice ≡ false → violates pin-not-held ≡ outcome-of (line-of h) pinned choice b (l ∷ []) c r
-    unfolding outcome-of line-of after-decoder poured bucket-step zipWith overfull or-overflow if_then_else_
-    outcome-pin k q = rw (← e, le-ltb (h .bucket) ((l + c) - h .drain) k, q)
+    pub outcome-pin : x ≤ h .bucket → pin-held pinned choice ≡ false → violates pin-not-held ≡ outcome-of (line-of h) pinned choice b (l ∷ []) c r
+    unfolding outcome-of line-of after-decoder poured zipWith overfull or-overflow if_then_else_
+    outcome-pin k q = rw (← e, ← w, le-ltb (h .bucket) x k, q)
 
-    pub outcome-reaches : (l + c) - h .drain ≤ h .bucket → pin-held pinned choice ≡ true → reaches (record { decoder = d; buckets = ((l + c) - h .drain) ∷ [] }) ≡ outcome-of (line-of h) pinned choice b (l ∷ []) c r
-    unfolding outcome-of line-of after-decoder poured bucket-step zipWith overfull or-overflow if_then_else_
-    outcome-reaches k q = rw (← e, le-ltb (h .bucket) ((l + c) - h .drain) k, q)
+    pub outcome-reaches : x ≤ h .bucket → pin-held pinned choice ≡ true → reaches (record { decoder = d; buckets = x ∷ [] }) ≡ outcome-of (line-of h) pinned choice b (l ∷ []) c r
+    unfolding outcome-of line-of after-decoder poured zipWith overfull or-overflow if_then_else_
+    outcome-reaches k q = rw (← e, ← w, le-ltb (h .bucket) x k, q)

@@ -7,7 +7,7 @@ use native.Mathlib.Numerals.{add-one}
 use native.Mathlib.Omega.{arith}
 use lib.ListN.{length, getD, drop}
 use Rattle.model.specs.Job.{Job, Entry, intervals}
-use Rattle.model.specs.Levels.{no-entry, entryOf, sent, sentAfter, effectiveBuffer, build, effectiveBuffers}
+use Rattle.model.specs.Levels.{sum, no-entry, entryOf, sent, sentAfter, effectiveBuffer, build, effectiveBuffers}
 use Rattle.model.proofs.Builds.{build-length}
 use Rattle.format.specs.JobBytes.{Header, job-in}
 use Rattle.format.specs.Places.{rate-at}
@@ -25,9 +25,9 @@ plan-at entries i (suc n) (suc k) h = let e : i + suc k ≡ suc i + k = omega ar
 
 module _ (b : List ℕ) (h : Header) (entries : List ℕ) (s : Shaped b h entries) where
   -- one rate more
-  pub sum-more : (i n : ℕ) → i + n < h .units + h .delay → (sum : ℕ) → sum ≡ sentAfter (job-in b) (plan-of (job-in b) entries) i n → sum + rate-at b (rate-byte entries (i + n)) ≡ sentAfter (job-in b) (plan-of (job-in b) entries) i (n + 1)
-  unfolding sentAfter sent entryOf plan-of
-  sum-more i n l sum e =
+  pub sum-more : (i n : ℕ) → i + n < h .units + h .delay → (x : ℕ) → x ≡ sentAfter (job-in b) (plan-of (job-in b) entries) i n → x + rate-at b (rate-byte entries (i + n)) ≡ sentAfter (job-in b) (plan-of (job-in b) entries) i (n + 1)
+  unfolding sum sentAfter sent entryOf plan-of
+  sum-more i n l x e =
       let k : i + suc n ≡ suc (i + n) = omega arith in
       let z : 0 + (i + n) ≡ i + n = omega arith in
       rw (add-one n, k, plan-at entries 0 (intervals (job-in b)) (i + n) (omega (arith, intervals-are b h (s .opens))), z, ← sent-is b h entries s (i + n) l, e)

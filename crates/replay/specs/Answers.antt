@@ -25,6 +25,7 @@ use Rattle.replay.specs.declared.Violation.{Violation}
 use Rattle.replay.specs.declared.Violation.the-variants as v
 use Rattle.replay.specs.declared.Decoded.{Decoded}
 use Rattle.replay.specs.declared.Decoded.the-variants as d
+use Rattle.replay.specs.declared.Drained.{Drained}
 use Rattle.replay.specs.declared.Outcome.{Outcome}
 use Rattle.replay.specs.declared.Outcome.the-variants as o
 use Rattle.replay.specs.declared.Replayed.{Replayed}
@@ -45,6 +46,9 @@ unfoldable pub decoded : Decoded → model-violation.Decoded
 decoded (d.Level n) = model-violation.holds n
 decoded (d.Violated x) = model-violation.breaks (violation x)
 
+unfoldable pub drained : Drained → model-step.Drained
+drained x = record { level = x .level; unused = x .unused }
+
 unfoldable pub levels-of : Levels → model.Levels
 levels-of l = record { decoder = l .decoder; buckets = l .bucket ∷ [] }
 
@@ -53,7 +57,7 @@ outcome-is (o.Reaches l) = model-step.reaches (levels-of l)
 outcome-is (o.Violates x) = model-step.violates (violation x)
 
 unfoldable pub totals-of : Totals → model-replay.Totals
-totals-of t = record { distortion = t .distortion; source = t .source; channel = t .channel }
+totals-of t = record { distortion = t .distortion; source = t .source; channel = t .channel; unused = t .unused ∷ [] }
 
 -- the answer of replay and the list that was lent
 unfoldable pub answered : Replayed → Answer calls.Replayed
@@ -76,15 +80,21 @@ reported x list = record { answer = report-answer x; list = list }
 unfoldable pub line-of : format.Header → model.Line
 line-of h = record { decoder = h .decoder; buckets = record { size = h .bucket; drain = h .drain } ∷ []; rates = [] }
 
--- the totals with one interval more
-unfoldable pub added : Totals → Interval → model-replay.Totals
-added t x = record { distortion = t .distortion + x .distortion; source = t .source + x .size; channel = t .channel + x .sent }
+-- the totals with one interval more, from the levels before it, of a bucket with this drain
+unfoldable pub added : Totals → ℕ → Levels → Interval → model-replay.Totals
+added t drain before x = record {
+  distortion = t .distortion + x .distortion;
+  source = t .source + x .size;
+  channel = t .channel + x .sent;
+  unused = (t .unused + model-step.bucket-step drain (before .bucket) (x .sent) .unused) ∷ [];
+}
 
--- and that they fit
+-- and that they fit, whatever goes unused of a drain of 16 bits
 pub record Room (t : Totals) (x : Interval) : Type 0 where
   pub distortion : t .distortion + x .distortion < 4294967296
   pub source : t .source + x .size < 4294967296
   pub channel : t .channel + x .sent < 4294967296
+  pub unused : t .unused + 65535 < 4294967296
 
 -- What the private functions say and ask.
 
@@ -103,14 +113,18 @@ pub data PinIn (h : format.Header) (pins : List ℕ) (place x : ℕ) : Type 0 wh
   no-pin : place < h .delay → x ≡ no-choice → PinIn h pins place x
   pinned : h .delay ≤ place → x ≡ getD pins (place - h .delay) 0 → PinIn h pins place x
 
--- what the plan does in the interval of a place, and the limits of document 01
+-- what an entry does in interval t, and the limits of document 01
+pub record Does (j : model.Job) (t : ℕ) (e : model.Entry) (x : Interval) : Type 0 where
+  pub sent : x .sent ≡ model.sends j e
+  pub size : x .size ≡ model.takes j t e
+  pub distortion : x .distortion ≡ model.distorts j t e
+  pub limits : (x .sent ≤ 4095) × (x .size ≤ 4095) × (x .distortion ≤ 1000000)
+
+-- what the plan does in the interval of a place
 pub record IsInterval (j : model.Job) (m : PinMap) (entries : List ℕ) (place : ℕ) (x : Interval) : Type 0 where
-  pub sent : x .sent ≡ model.sends j (entry-at entries place)
-  pub size : x .size ≡ model.takes j (suc place) (entry-at entries place)
-  pub distortion : x .distortion ≡ model.distorts j (suc place) (entry-at entries place)
+  pub does : Does j (suc place) (entry-at entries place) x
   pub pin : choice-of (x .pin) ≡ pinAt j m (suc place)
   pub choice : choice-of (x .choice) ≡ entry-at entries place .choice
-  pub limits : (x .sent ≤ 4095) × (x .size ≤ 4095) × (x .distortion ≤ 1000000)
 
 -- a plan in shape, the pins of a set, and a list that is long enough for its levels
 pub record Plays (b : List ℕ) (h : format.Header) (pins entries levels : List ℕ) : Type 0 where

@@ -4,9 +4,9 @@ pub mod refusal;
 
 ghost use mathlib.Core.Path.{_≡_};
 ghost use mathlib.Core.List.{[], _∷_};
-ghost use Prim.Native.Nat.{_+_, _*_, _-_, _<_, _≤_};
+ghost use Prim.Native.Nat.{_+_, _*_, _<_, _≤_};
 ghost use lib.ListN.{length, set};
-ghost use Rattle.model.specs.Step.{decoder-step, pin-held, outcome-of};
+ghost use Rattle.model.specs.Step.{decoder-step, bucket-step, pin-held, outcome-of};
 ghost use Rattle.model.specs.Levels.{sentAfter, effectiveBuffers};
 ghost use Rattle.format.specs.Choices.{choice-of};
 ghost use Rattle.format.specs.JobBytes.{job-in};
@@ -16,17 +16,18 @@ ghost use Rattle.pins.specs.Answers.{state};
 ghost use Rattle.replaying.specs.Entries.{entry-fits, shaped, plan-of};
 ghost use Rattle.model.specs.Lent.{over};
 ghost use Rattle.replaying.specs.Calls.{played, replay-call, report-call};
-ghost use Rattle.replay.specs.Answers.{decoded, outcome-is, line-of, totals-of, ended, reported, Shaped, CodingIn, PinIn, IsInterval, added, Room, Plays, Sums};
+ghost use Rattle.replay.specs.Answers.{decoded, drained, outcome-is, line-of, totals-of, ended, reported, Shaped, CodingIn, PinIn, IsInterval, added, Room, Plays, Sums};
 use job::Coding;
 use job::Header;
 use job::Reading;
 use pins::PinSet;
 
-// Distortion, source size (the sum of R) and channel size (the sum of C).
+// Distortion, source size (the sum of R), channel size (the sum of C) and the drain that the bucket left unused.
 pub struct Totals {
     pub distortion: u32,
     pub source: u32,
     pub channel: u32,
+    pub unused: u32,
 }
 
 // Document 01's breaches, in the order in which they are tested.
@@ -60,6 +61,12 @@ pub struct Levels {
 pub enum Decoded {
     Level(u16),
     Violated(Violation),
+}
+
+// The bucket's part of an interval: its level at the end, and what it could have drained besides.
+pub struct Drained {
+    pub level: u32,
+    pub unused: u32,
 }
 
 // What an interval leads to.
@@ -99,15 +106,24 @@ pub fn decoder_step(size: u16, level: u16, sent: u16, taken: u16) -> Decoded
     Decoded::Level((peak - taken as u32) as u16)
 }
 
-// Example 1: the larger of level + sent - drain and 0.
-pub fn bucket_step(drain: u16, level: u16, sent: u16) -> u32
-    ensures { λ r. ⌜ r ≡ (level + sent) - drain ⌝ }
+// Example 1: the larger of level + sent - drain and 0. The larger of drain - level - sent and 0 goes unused.
+pub fn bucket_step(drain: u16, level: u16, sent: u16) -> Drained
+    ensures { λ r. ⌜ drained r ≡ bucket-step drain level sent ⌝ }
 {
-    let full = level as u32 + sent as u32;
-    if full < drain as u32 {
-        return 0;
+    let held = level as u32;
+    let came = sent as u32;
+    let most = drain as u32;
+    let full = held + came;
+    if full < most {
+        return Drained {
+            level: 0,
+            unused: most - full,
+        };
     }
-    full - drain as u32
+    Drained {
+        level: full - most,
+        unused: 0,
+    }
 }
 
 // Whether there is no pin, or the choice is the pinned one.
@@ -128,7 +144,8 @@ pub fn step(header: Header, before: Levels, x: Interval) -> Outcome
         Decoded::Violated(v) => Outcome::Violates(v),
         Decoded::Level(decoder) => {
             let bucket = bucket_step(header.drain, before.bucket, x.sent);
-            if (header.bucket as u32) < bucket {
+            let level = bucket.level;
+            if (header.bucket as u32) < level {
                 return Outcome::Violates(Violation::BucketOverflow);
             }
             if !pin_holds(x.pin, x.choice) {
@@ -136,7 +153,7 @@ pub fn step(header: Header, before: Levels, x: Interval) -> Outcome
             }
             Outcome::Reaches(Levels {
                 decoder,
-                bucket: bucket as u16,
+                bucket: level as u16,
             })
         }
     }
@@ -234,15 +251,17 @@ fn interval_at(
     }
 }
 
-// The totals with one interval more.
-pub fn with_interval(sum: Totals, x: Interval) -> Totals
+// The totals with one interval more, from the levels before it.
+pub fn with_interval(sum: Totals, drain: u16, before: Levels, x: Interval) -> Totals
     requires { ⌜ Room sum x ⌝ }
-    ensures { λ r. ⌜ totals-of r ≡ added sum x ⌝ }
+    ensures { λ r. ⌜ totals-of r ≡ added sum drain before x ⌝ }
 {
+    let bucket = bucket_step(drain, before.bucket, x.sent);
     Totals {
         distortion: sum.distortion + x.distortion,
         source: sum.source + x.size as u32,
         channel: sum.channel + x.sent as u32,
+        unused: sum.unused + bucket.unused,
     }
 }
 
@@ -277,6 +296,7 @@ fn play(
         distortion: 0,
         source: 0,
         channel: 0,
+        unused: 0,
     };
     for place in 0..total {
         let x = interval_at(job, header, pins, entries, place);
@@ -290,7 +310,7 @@ fn play(
             }
             Outcome::Reaches(next) => {
                 put_levels(levels, place, next);
-                sum = with_interval(sum, x);
+                sum = with_interval(sum, header.drain, at, x);
                 at = next;
             }
         }

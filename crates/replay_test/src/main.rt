@@ -1,5 +1,6 @@
 // Tries replay and the effective buffer report on Job A of document 01, on changes of it, and on a job of 512 units from standard input. Each line says what is tried and what is answered.
 mod calls;
+mod drains;
 mod job_a;
 mod limits;
 mod long_job;
@@ -14,6 +15,7 @@ fn main() {
     violations::run();
     limits::run();
     peaks::run();
+    drains::run();
     refusals::run();
     let mut input = [0u8; 7458];
     let n = io::read_full(STDIN_FILENO, &mut input);

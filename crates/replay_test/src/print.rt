@@ -45,13 +45,14 @@ fn breach(violation: Violation) {
     }
 }
 
-// What replay answers: the totals are distortion, source grains and channel grains.
+// What replay answers: the totals are distortion, source grains, channel grains and unused grains.
 pub fn replayed(answer: Replayed) {
     match answer {
         Replayed::Clean(totals) => {
             counted(b": clean ", totals.distortion as u64);
             number(totals.source as u64);
             number(totals.channel as u64);
+            number(totals.unused as u64);
         }
         Replayed::Violated {
             interval,

@@ -51,37 +51,37 @@ module _ (job values : List ℕ) where
 
 -- planning after calls
 module _ (job calls answers table entries values : List ℕ) where
-  pub plan-12 : length values < 3 → planned 12 answers table entries values ≡ plan-export job calls answers table entries values
+  pub plan-12 : length values < 4 → planned 12 answers table entries values ≡ plan-export job calls answers table entries values
   unfolding plan-export if_then_else_
-  plan-12 l = rw (lt-ltb (length values) 3 l)
+  plan-12 l = rw (lt-ltb (length values) 4 l)
 
-  module _ (room : 3 ≤ length values) (x : Planned) (a t e : List ℕ) (i : sat-is x a t e ≡ sitting-call job calls answers table entries) where
+  module _ (room : 4 ≤ length values) (x : Planned) (a t e : List ℕ) (i : sat-is x a t e ≡ sitting-call job calls answers table entries) where
     pub plan-refused : (n : ℕ) → x ≡ plans.Refused n → planned n a t e values ≡ plan-export job calls answers table entries values
     unfolding plan-export if_then_else_ after-sitting sat-is planner.planned planner.answered number-of put
-    plan-refused n q = rw (le-ltb (length values) 3 room, ← i, q)
+    plan-refused n q = rw (le-ltb (length values) 4 room, ← i, q)
 
     pub plan-best : (best : Totals) → x ≡ plans.Best best → (new : List ℕ) → new ≡ over (totals-values best) values → planned 0 a t e new ≡ plan-export job calls answers table entries values
     unfolding plan-export if_then_else_ after-sitting sat-is planner.planned planner.answered number-of put totals-values
-    plan-best best q new w = rw (le-ltb (length values) 3 room, ← i, q, w)
+    plan-best best q new w = rw (le-ltb (length values) 4 room, ← i, q, w)
 
 -- a replay after calls
 module _ (job calls entries levels values : List ℕ) where
-  pub replay-12 : length values < 5 → replayed 12 levels values ≡ replay-export job calls entries levels values
+  pub replay-12 : length values < 6 → replayed 12 levels values ≡ replay-export job calls entries levels values
   unfolding replay-export if_then_else_
-  replay-12 l = rw (lt-ltb (length values) 5 l)
+  replay-12 l = rw (lt-ltb (length values) 6 l)
 
-  module _ (room : 5 ≤ length values) (x : Replayed) (l : List ℕ) (i : ended x l ≡ replay-sitting job calls entries levels) where
+  module _ (room : 6 ≤ length values) (x : Replayed) (l : List ℕ) (i : ended x l ≡ replay-sitting job calls entries levels) where
     pub replay-refused : (n : ℕ) → x ≡ replays.Refused n → replayed n l values ≡ replay-export job calls entries levels values
     unfolding replay-export if_then_else_ after-replay ended replay.answered number-of put
-    replay-refused n q = rw (le-ltb (length values) 5 room, ← i, q)
+    replay-refused n q = rw (le-ltb (length values) 6 room, ← i, q)
 
     pub replay-clean : (t : Totals) → x ≡ replays.Clean t → (new : List ℕ) → new ≡ over (0 ∷ 0 ∷ totals-values t) values → replayed 0 l new ≡ replay-export job calls entries levels values
     unfolding replay-export if_then_else_ after-replay ended replay.answered number-of put replayed-list totals-values
-    replay-clean t q new w = rw (le-ltb (length values) 5 room, ← i, q, w)
+    replay-clean t q new w = rw (le-ltb (length values) 6 room, ← i, q, w)
 
-    pub replay-violated : (n : ℕ) (v : Violation) → x ≡ replays.Violated n v → (k : ℕ) → k ≡ violation-number (violation v) → (new : List ℕ) → new ≡ over (k ∷ n ∷ totals-values record { distortion = 0; source = 0; channel = 0 }) values → replayed 0 l new ≡ replay-export job calls entries levels values
+    pub replay-violated : (n : ℕ) (v : Violation) → x ≡ replays.Violated n v → (k : ℕ) → k ≡ violation-number (violation v) → (new : List ℕ) → new ≡ over (k ∷ n ∷ totals-values record { distortion = 0; source = 0; channel = 0; unused = 0 }) values → replayed 0 l new ≡ replay-export job calls entries levels values
     unfolding replay-export if_then_else_ after-replay ended replay.answered number-of put replayed-list totals-values totals-list totals-of
-    replay-violated n v q k f new w = rw (le-ltb (length values) 5 room, ← i, q, w, f)
+    replay-violated n v q k f new w = rw (le-ltb (length values) 6 room, ← i, q, w, f)
 
 -- the report
 module _ (job entries sums : List ℕ) (x : Reported) (new : List ℕ) (i : replay.reported x new ≡ report-call job entries sums) where

@@ -44,9 +44,9 @@ open-export b values =
     if ltb (length values) 4 then opened 12 values
     else opened (number-of (open-call b .answer)) (put (open-call b .answer) (λ k. opened-values k (open-call b .state .header)) values)
 
--- distortion, source size and channel size
+-- distortion, source size, channel size, and of each bucket the drain that went unused
 unfoldable pub totals-list : model.Totals → List ℕ
-totals-list t = t .distortion ∷ t .source ∷ t .channel ∷ []
+totals-list t = t .distortion ∷ t .source ∷ t .channel ∷ t .unused
 
 unfoldable pub totals-values : Totals → List ℕ
 totals-values t = totals-list (totals-of t)
@@ -66,7 +66,7 @@ after-sitting r values = planned (number-of (r .planned .answer)) (r .answers) (
 
 unfoldable pub plan-export : List ℕ → List ℕ → List ℕ → List ℕ → List ℕ → List ℕ → Planned
 plan-export b calls answers table entries values =
-    if ltb (length values) 3 then planned 12 answers table entries values
+    if ltb (length values) 4 then planned 12 answers table entries values
     else after-sitting (sitting-call b calls answers table entries) values
 
 -- document 01's breaches, counted from 1 in the order in which it names them; there is one bucket
@@ -79,7 +79,7 @@ violation-number v.pin-not-held = 4
 -- the violation's number, or 0, its interval, or 0, and the totals, 0 where there is a violation
 unfoldable pub replayed-list : Replayed → List ℕ
 replayed-list (totals-are t) = 0 ∷ 0 ∷ totals-list t
-replayed-list (violated n x) = violation-number x ∷ n ∷ 0 ∷ 0 ∷ 0 ∷ []
+replayed-list (violated n x) = violation-number x ∷ n ∷ 0 ∷ 0 ∷ 0 ∷ 0 ∷ []
 
 pub record Played : Type 0 where
   pub number : ℕ
@@ -94,7 +94,7 @@ after-replay r values = replayed (number-of (r .answer)) (r .list) (put (r .answ
 
 unfoldable pub replay-export : List ℕ → List ℕ → List ℕ → List ℕ → List ℕ → Played
 replay-export b calls entries levels values =
-    if ltb (length values) 5 then replayed 12 levels values
+    if ltb (length values) 6 then replayed 12 levels values
     else after-replay (replay-sitting b calls entries levels) values
 
 pub record Reported : Type 0 where

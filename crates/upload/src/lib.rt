@@ -21,9 +21,9 @@ use writer::Wrote;
 // How many values each call gives.
 const OPEN_VALUES: usize = 4;
 
-const PLAN_VALUES: usize = 3;
+const PLAN_VALUES: usize = 4;
 
-const REPLAY_VALUES: usize = 5;
+const REPLAY_VALUES: usize = 6;
 
 const WRITE_VALUES: usize = 1;
 
@@ -71,17 +71,18 @@ pub extern "C" fn upload_open(job: &[u8], values: &mut [u64]) -> u32
     }
 }
 
-// Distortion, source size and channel size.
+// Distortion, source size, channel size and unused drain.
 fn put_totals(values: &mut [u64], totals: Totals)
-    requires { ⌜ 3 ≤ length (now values) ⌝ }
+    requires { ⌜ 4 ≤ length (now values) ⌝ }
     ensures { λ _. ⌜ now (values .exit) ≡ over (totals-values totals) (now (values .entry)) ⌝ }
 {
     values[0] = totals.distortion as u64;
     values[1] = totals.source as u64;
     values[2] = totals.channel as u64;
+    values[3] = totals.unused as u64;
 }
 
-// Makes calls as numbers, three a call (6 pins, 7 lifts; the unit; the choice), refused ones included, and plans with the pins that they leave. Values: distortion, source size and channel size of the plan.
+// Makes calls as numbers, three a call (6 pins, 7 lifts; the unit; the choice), refused ones included, and plans with the pins that they leave. Values: distortion, source size, channel size and unused drain of the plan.
 #[no_mangle]
 pub extern "C" fn upload_plan(
     job: &[u8],
@@ -119,7 +120,7 @@ fn violation_number(x: Violation) -> u64
 
 // The violation's number, or 0, its interval, or 0, and the totals, 0 where there is a violation.
 fn put_replayed(values: &mut [u64], violation: u64, interval: u16, totals: Totals)
-    requires { ⌜ 5 ≤ length (now values) ⌝ }
+    requires { ⌜ 6 ≤ length (now values) ⌝ }
     ensures { λ _. ⌜ now (values .exit) ≡ over (violation ∷ interval ∷ totals-values totals) (now (values .entry)) ⌝ }
 {
     values[0] = violation;
@@ -127,9 +128,10 @@ fn put_replayed(values: &mut [u64], violation: u64, interval: u16, totals: Total
     values[2] = totals.distortion as u64;
     values[3] = totals.source as u64;
     values[4] = totals.channel as u64;
+    values[5] = totals.unused as u64;
 }
 
-// Replays a plan with the pins that calls as numbers leave. Values: 0, or the number of the first violation (1 decoder short, 2 decoder over, 3 bucket over, 4 pin not held); its interval, counted from 1, or 0; then distortion, source size and channel size, 0 where there is a violation.
+// Replays a plan with the pins that calls as numbers leave. Values: 0, or the number of the first violation (1 decoder short, 2 decoder over, 3 bucket over, 4 pin not held); its interval, counted from 1, or 0; then distortion, source size, channel size and unused drain, 0 where there is a violation.
 #[no_mangle]
 pub extern "C" fn upload_replay(
     job: &[u8],
@@ -157,6 +159,7 @@ pub extern "C" fn upload_replay(
                 distortion: 0,
                 source: 0,
                 channel: 0,
+                unused: 0,
             };
             put_replayed(values, violation_number(violation), interval, none);
             DONE

@@ -1,10 +1,10 @@
 use Rattle.planner.proofs.Plans.{ReadTo, read-start, read-on, read-end}
 use Rattle.format.specs.JobBytes.{job-in}
-use Rattle.format.proofs.Opened.{few-intervals, intervals-are, start-is}
+use Rattle.format.proofs.Opened.{few-intervals, intervals-are, drain-most, buckets-are, start-is}
 use Rattle.job.specs.Answers.{plain}
 use Rattle.pinning.specs.State.{lines}
 use Rattle.replay.specs.Answers.{levels-of, totals-of}
-use mathlib.Core.Path.{refl, sym}
+use mathlib.Core.Path.{sym}
 use Prim.Native.Nat.{_-_, _<_, _≤_}
 use native.Mathlib.Omega.{arith}
 use borrow.Author.Needs.{needs}
@@ -24,7 +24,7 @@ loop-holds : tie.Need-loop-holds Inv-loop μ-loop
 unfolding plain levels-of totals-of
 loop-holds c =
     let a = c .before .before .before .before in
-    (search needs, read-start _ _ _ _ _ (sym (start-is _ _ (a .pre .0 .opens))) refl (a .pre .2))
+    (search needs, read-start _ _ _ _ (buckets-are _ _ (a .pre .0 .opens)) _ (sym (start-is _ _ (a .pre .0 .opens))) (a .pre .2))
 
 best-move-requires : tie.Need-best-move-requires Inv-loop μ-loop
 best-move-requires c κs =
@@ -46,9 +46,9 @@ with-interval-requires c κs =
     let l = x .before .before in
     let a = l .before .before .before .before .before in
     let b : l .loop .place < 576 = omega (arith, l .before .intervals .ensures, few-intervals _ _ (a .pre .0 .opens)) in
-    let g = l .loop .inv .1 .small in
-    let m = x .best-move .ensures .limits in
-    record { distortion = omega arith; source = omega arith; channel = omega arith }
+    let g = l .loop .inv .1 .sums .small in
+    let m = x .best-move .ensures .does .limits in
+    record { distortion = omega arith; source = omega arith; channel = omega arith; unused = omega arith }
 
 add-place : tie.Need-add-place Inv-loop μ-loop
 add-place c = search needs
@@ -57,13 +57,14 @@ loop-less : tie.Need-loop-less Inv-loop μ-loop
 loop-less c = search needs
 
 loop-again : tie.Need-loop-again Inv-loop μ-loop
+unfolding plain
 loop-again c =
     let w = c .before in
     let p = w .before .before .before in
     let x = p .before .before in
     let l = x .before .before in
     let a = l .before .before .before .before .before in
-    (omega arith, rw (p .put-entry .ensures) (read-on _ _ _ (l .loop .place) (l .loop .at) (l .loop .sum) _ _ _ (l .loop .inv .1) (x .best-move .ensures) (w .with-interval .ensures) (omega (arith, l .before .intervals .ensures, a .pre .3))))
+    (omega arith, rw (p .put-entry .ensures) (read-on _ _ _ _ (buckets-are _ _ (a .pre .0 .opens)) (l .loop .place) (l .loop .at) (l .loop .sum) _ _ _ (l .loop .inv .1) (x .best-move .ensures) (w .with-interval .ensures) (drain-most _ _ (a .pre .0 .opens)) (omega (arith, l .before .intervals .ensures, a .pre .3))))
 
 same-length : tie.Need-same-length Inv-loop μ-loop
 same-length c = search needs
@@ -73,7 +74,7 @@ unfolding plain
 returns c =
     let l = c .before in
     let a = l .before .before .before .before .before in
-    read-end _ _ _ (l .loop .place) (l .loop .at) (l .loop .sum) _ (l .loop .inv .1) (omega (arith, l .before .intervals .ensures, intervals-are _ _ (a .pre .0 .opens)))
+    read-end _ _ _ _ (buckets-are _ _ (a .pre .0 .opens)) (l .loop .place) (l .loop .at) (l .loop .sum) _ (l .loop .inv .1) (omega (arith, l .before .intervals .ensures, intervals-are _ _ (a .pre .0 .opens)))
 
 pub read-off-spec : {M : Type 1} → statement M
 read-off-spec =

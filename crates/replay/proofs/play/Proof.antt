@@ -1,10 +1,10 @@
 use Rattle.replay.proofs.Replaying.{outcome-is-job, Going, going-start, going-on, going-stop, going-end}
-use Rattle.format.proofs.Opened.{few-intervals, intervals-are, start-is}
+use Rattle.format.proofs.Opened.{few-intervals, intervals-are, drain-most, buckets-are, start-is}
 use Rattle.replay.specs.Answers.{levels-of, totals-of, outcome-is, answered, ended}
 use Rattle.pinning.specs.State.{lines}
 use Rattle.job.specs.Answers.{plain}
 use Rattle.format.specs.JobBytes.{job-in}
-use mathlib.Core.Path.{refl, sym, _∙_, ap}
+use mathlib.Core.Path.{sym, _∙_, ap}
 use Prim.Native.Nat.{_≤_, _<_, _-_}
 use native.Mathlib.Numerals.{add-one}
 use native.Mathlib.Omega.{arith}
@@ -25,7 +25,7 @@ loop-holds : tie.Need-loop-holds Inv-loop μ-loop
 unfolding plain levels-of totals-of
 loop-holds c =
     let a = c .before .before .before .before in
-    (search needs, going-start _ _ _ _ _ _ (sym (start-is _ _ (a .pre .plan .opens))) refl)
+    (search needs, going-start _ _ _ _ _ (buckets-are _ _ (a .pre .plan .opens)) _ (sym (start-is _ _ (a .pre .plan .opens))))
 
 interval-at-requires : tie.Need-interval-at-requires Inv-loop μ-loop
 interval-at-requires c κs =
@@ -84,9 +84,9 @@ with-interval-requires c κs =
     let l = x .before .before in
     let a = l .before .before .before .before .before in
     let b : l .loop .place < 576 = omega (arith, l .before .intervals .ensures, few-intervals _ _ (a .pre .plan .opens)) in
-    let g = l .loop .inv .1 .small in
-    let m = x .interval-at .ensures .limits in
-    record { distortion = omega arith; source = omega arith; channel = omega arith }
+    let g = l .loop .inv .1 .sums .small in
+    let m = x .interval-at .ensures .does .limits in
+    record { distortion = omega arith; source = omega arith; channel = omega arith; unused = omega arith }
 
 add-place : tie.Need-add-place Inv-loop μ-loop
 add-place c = search needs
@@ -106,7 +106,7 @@ loop-again c =
     let o = sym (outcome-is-job _ _ _ (a .pre .plan .opens) _ _ _ (l .loop .at) (x .interval-at .ensures)) ∙ sym (t .step .ensures) ∙ ap outcome-is (n .next .given .1) in (
       omega arith,
       rw (put .put-levels .ensures)
-          (going-on _ _ _ _ (l .loop .place) (l .loop .at) (l .loop .sum) _ (l .loop .inv .1) (omega (arith, l .before .intervals .ensures, intervals-are _ _ (a .pre .plan .opens))) _ _ _ o (x .interval-at .ensures) (c .with-interval .ensures) (omega (arith, l .before .intervals .ensures, a .pre .room))),
+          (going-on _ _ _ _ (l .loop .place) (l .loop .at) (l .loop .sum) _ (l .loop .inv .1) (omega (arith, l .before .intervals .ensures, intervals-are _ _ (a .pre .plan .opens))) _ (buckets-are _ _ (a .pre .plan .opens)) _ _ _ o (x .interval-at .ensures) (c .with-interval .ensures) (drain-most _ _ (a .pre .plan .opens)) (omega (arith, l .before .intervals .ensures, a .pre .room))),
     )
 
 same-length-2 : tie.Need-same-length-2 Inv-loop μ-loop
@@ -117,7 +117,7 @@ unfolding plain ended answered
 returns-2 c =
     let l = c .before in
     let a = l .before .before .before .before .before in
-    going-end _ _ _ _ (l .loop .place) (l .loop .at) (l .loop .sum) _ (l .loop .inv .1) (omega (arith, l .before .intervals .ensures, intervals-are _ _ (a .pre .plan .opens)))
+    going-end _ _ _ _ _ (buckets-are _ _ (a .pre .plan .opens)) (l .loop .place) (l .loop .at) (l .loop .sum) _ (l .loop .inv .1) (omega (arith, l .before .intervals .ensures, intervals-are _ _ (a .pre .plan .opens)))
 
 pub play-spec : {M : Type 1} → statement M
 play-spec =

@@ -4,7 +4,7 @@ use Rattle.replay.proofs.Entries.{entries-size}
 use Rattle.replaying.specs.Entries.{rate-byte, plan-of}
 use Rattle.job.specs.Answers.{plain}
 use Rattle.format.specs.JobBytes.{job-in}
-use Rattle.model.specs.Levels.{sentAfter}
+use Rattle.model.specs.Levels.{sum, sentAfter}
 use mathlib.Core.Path.{_≡_}
 use Prim.Native.Nat.{_≤_, _-_, _+_, _*_}
 use native.Mathlib.Omega.{arith}
@@ -19,7 +19,7 @@ abbrev μ-loop : tie.MeasureT-loop
 μ-loop job entries place count sum₀ k₀ sum k = count - k
 
 loop-holds : tie.Need-loop-holds Inv-loop μ-loop
-unfolding sentAfter
+unfolding sum sentAfter
 loop-holds c = search needs
 
 add-at : tie.Need-add-at Inv-loop μ-loop

@@ -1,5 +1,6 @@
 use Rattle.replay.proofs.Steps.{outcome-decoder, outcome-bucket, outcome-pin, outcome-reaches}
-use Rattle.replay.specs.Answers.{violation, decoded, levels-of, outcome-is}
+use Rattle.replay.specs.Answers.{violation, decoded, drained, levels-of, outcome-is}
+use Rattle.model.specs.Step.{Drained}
 use Rattle.job.specs.Answers.{plain}
 use borrow.Author.Tests.{not-true, not-false}
 use mathlib.Core.Path.{sym, _∙_, ap}
@@ -23,27 +24,27 @@ cast-if1 : tie.Need-cast-if1
 cast-if1 c = search needs
 
 returns : tie.Need-returns
-unfolding outcome-is decoded violation plain
+unfolding outcome-is decoded drained violation plain
 returns c =
     let b = c .before .before in
     let d = b .before .before in
     let s = d .before .before .decoder-step in
-    outcome-bucket _ _ _ _ _ _ _ _ (sym (ap decoded (d .decoder .given .1)) ∙ s .ensures) (rw (b .bucket-step .ensures) at (c .if1 .taken))
+    outcome-bucket _ _ _ _ _ _ _ _ (sym (ap decoded (d .decoder .given .1)) ∙ s .ensures) _ (ap (λ (x : Drained). x .level) (b .bucket-step .ensures)) (c .if1 .taken)
 
 pin-holds-requires : tie.Need-pin-holds-requires
 pin-holds-requires c κs = search needs
 
 returns-2 : tie.Need-returns-2
-unfolding outcome-is decoded violation plain
+unfolding outcome-is decoded drained violation plain
 returns-2 c =
     let e = c .before .before in
     let b = e .before .before in
     let d = b .before .before in
     let s = d .before .before .decoder-step in
-    outcome-pin _ _ _ _ _ _ _ _ (sym (ap decoded (d .decoder .given .1)) ∙ s .ensures) (rw (b .bucket-step .ensures) at (e .if1 .left)) (sym (c .before .pin-holds .ensures) ∙ not-true _ (c .if2 .taken))
+    outcome-pin _ _ _ _ _ _ _ _ (sym (ap decoded (d .decoder .given .1)) ∙ s .ensures) _ (ap (λ (x : Drained). x .level) (b .bucket-step .ensures)) (e .if1 .left) (sym (c .before .pin-holds .ensures) ∙ not-true _ (c .if2 .taken))
 
-cast-t14 : tie.Need-cast-t14
-cast-t14 c = search needs
+cast-t15 : tie.Need-cast-t15
+cast-t15 c = search needs
 
 returns-3 : tie.Need-returns-3
 unfolding outcome-is decoded plain
@@ -53,13 +54,13 @@ returns-3 c =
     outcome-decoder _ _ _ _ _ _ _ _ (sym (ap decoded (v .v .given .1)) ∙ s .ensures)
 
 returns-4 : tie.Need-returns-4
-unfolding outcome-is levels-of decoded plain
+unfolding outcome-is levels-of decoded drained plain
 returns-4 c =
     let e = c .before .before in
     let b = e .before .before in
     let d = b .before .before in
     let s = d .before .before .decoder-step in
-    rw (b .bucket-step .ensures) (outcome-reaches _ _ _ _ _ _ _ _ (sym (ap decoded (d .decoder .given .1)) ∙ s .ensures) (rw (b .bucket-step .ensures) at (e .if1 .left)) (sym (c .before .pin-holds .ensures) ∙ not-false _ (c .if2 .left)))
+    outcome-reaches _ _ _ _ _ _ _ _ (sym (ap decoded (d .decoder .given .1)) ∙ s .ensures) _ (ap (λ (x : Drained). x .level) (b .bucket-step .ensures)) (e .if1 .left) (sym (c .before .pin-holds .ensures) ∙ not-false _ (c .if2 .left))
 
 pub step-spec : {M : Type 1} → statement M
 step-spec =
@@ -73,6 +74,6 @@ step-spec =
     returns
     pin-holds-requires
     returns-2
-    cast-t14
+    cast-t15
     returns-3
     returns-4)

@@ -30,14 +30,20 @@ cast-values-3 : tie.Need-cast-values-3
 cast-values-3 c = search needs
 
 slice-write-values-5 : tie.Need-slice-write-values-5
-slice-write-values-5 c = search needs
+slice-write-values-5 c = simp length-set (omega arith)
+
+cast-values-4 : tie.Need-cast-values-4
+cast-values-4 c = search needs
+
+slice-write-values-6 : tie.Need-slice-write-values-6
+slice-write-values-6 c = search needs
 
 same-length : tie.Need-same-length
 same-length c = search needs
 
 returns : tie.Need-returns
 unfolding totals-values totals-list totals-of
-returns c = stored (_ ∷ _ ∷ _ ∷ _ ∷ _ ∷ []) _ (c .before .before .before .pre)
+returns c = stored (_ ∷ _ ∷ _ ∷ _ ∷ _ ∷ _ ∷ []) _ (c .before .before .before .before .pre)
 
 pub put-replayed-spec : {M : Type 1} → statement M
 put-replayed-spec =
@@ -51,5 +57,7 @@ put-replayed-spec =
     slice-write-values-4
     cast-values-3
     slice-write-values-5
+    cast-values-4
+    slice-write-values-6
     same-length
     returns)

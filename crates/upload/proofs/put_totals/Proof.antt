@@ -24,14 +24,20 @@ cast-values-3 : tie.Need-cast-values-3
 cast-values-3 c = search needs
 
 slice-write-values-3 : tie.Need-slice-write-values-3
-slice-write-values-3 c = search needs
+slice-write-values-3 c = simp length-set (omega arith)
+
+cast-values-4 : tie.Need-cast-values-4
+cast-values-4 c = search needs
+
+slice-write-values-4 : tie.Need-slice-write-values-4
+slice-write-values-4 c = search needs
 
 same-length : tie.Need-same-length
 same-length c = search needs
 
 returns : tie.Need-returns
 unfolding totals-values totals-list totals-of
-returns c = stored (_ ∷ _ ∷ _ ∷ []) _ (c .before .before .before .pre)
+returns c = stored (_ ∷ _ ∷ _ ∷ _ ∷ []) _ (c .before .before .before .before .pre)
 
 pub put-totals-spec : {M : Type 1} → statement M
 put-totals-spec =
@@ -43,5 +49,7 @@ put-totals-spec =
     slice-write-values-2
     cast-values-3
     slice-write-values-3
+    cast-values-4
+    slice-write-values-4
     same-length
     returns)
