@@ -515,7 +515,7 @@ fn call_tables() {
     for count in [2, 64, 1024, 16_384, 262_144] {
         let calls: Vec<u16> = [[6, 1, 0], [7, 1, 0]].concat().repeat(count / 2);
         let (mut answers, mut words, mut entries) = (vec![0; count], [0; 2], [0; 2]);
-        let mut values = [0; 3];
+        let mut values = [0; numbers::PLAN_VALUES];
         let mut spare = (vec![0; count], [0; 2], [0; 2]);
         let times = short_in_turn(
             || {
@@ -544,7 +544,7 @@ fn call_tables() {
         let calls: Vec<u16> = (0..512).flat_map(pair).collect();
         let mut levels = [vec![0; 2 * size.intervals()], vec![0; 2 * size.intervals()]];
         let [our_levels, plain_levels] = &mut levels;
-        let mut values = [0; 5];
+        let mut values = [0; numbers::REPLAY_VALUES];
         let times = short_in_turn(
             || {
                 black_box(numbers::replay(&job, &calls, &entries, our_levels, &mut values));

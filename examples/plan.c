@@ -7,7 +7,7 @@
    A plan's first line has N, T and the words of the table. Then comes a line
    for each interval: its number, what it sends, the choice of the unit that is
    decoded or -, the levels of decoder and bucket. Last the totals: distortion,
-   source grains, channel grains. */
+   source grains, channel grains, unused grains. */
 
 #include <inttypes.h>
 #include <stdint.h>
@@ -78,7 +78,10 @@ static uint32_t plan(const uint16_t *calls, size_t calls_len)
         printf("plan %" PRIu64 " %zu %zu\n", opened[1], intervals, words);
         for (size_t t = 1; t <= intervals; t++)
             print_interval((unsigned)t, entries + 2 * (t - 1), levels + 2 * (t - 1));
-        printf("total %" PRIu64 " %" PRIu64 " %" PRIu64 "\n", totals[0], totals[1], totals[2]);
+        printf("total");
+        for (size_t i = 0; i < UPLOAD_PLAN_VALUES; i++)
+            printf(" %" PRIu64, totals[i]);
+        printf("\n");
     }
     free(answers);
     free(table);

@@ -9,7 +9,9 @@
    decoder holds just before the unit leaves, its level before the interval and
    what that sends, is at most its size and at least what the unit takes; if the
    bucket's level stays at most its size; and if every pinned unit has its pinned
-   choice. The decoder's level is what is left after the unit. Planning gives the
+   choice. The decoder's level is what is left after the unit. What an interval
+   sends goes to the bucket too, which then loses the drain, or all that it has;
+   grains of the drain that find nothing there go by unused. Planning gives the
    admissible plan of least total distortion; among several the first interval at
    which they differ decides: the smaller rate index, then the smaller choice
    index.
@@ -90,8 +92,8 @@ enum upload_violation {
 
 /* How many numbers the `values` lists need. */
 #define UPLOAD_OPEN_VALUES 4
-#define UPLOAD_PLAN_VALUES 3
-#define UPLOAD_REPLAY_VALUES 5
+#define UPLOAD_PLAN_VALUES 4
+#define UPLOAD_REPLAY_VALUES 6
 #define UPLOAD_WRITE_VALUES 1
 
 /* How many fields a job's header has. */
@@ -119,8 +121,11 @@ uint32_t upload_open(const uint8_t *job, size_t job_len,
             they cannot be completed.
    entries: 2 x T bytes written, two an interval: the index of its rate, then
             that of its unit's choice, or UPLOAD_NO_UNIT for the first d.
-   values:  3 numbers written: total distortion, source grains (what the units
-            take) and channel grains (what the intervals send).
+   values:  4 numbers written: total distortion, source grains (what the units
+            take), channel grains (what the intervals send) and unused grains
+            (in each interval the larger of 0 and the drain less the bucket's
+            level before it less what it sends). The bucket's starting level +
+            channel grains + unused grains = T x drain + its last level.
 
    Refusals in order: 12 where `values` is too short; 1 to 5 for the job; 2 for
    a call of another kind, then 1 where the last call is cut; 11; 12 where
@@ -140,9 +145,9 @@ uint32_t upload_plan(const uint8_t *job, size_t job_len,
    levels:  room for 2 x T numbers: the decoder's and the bucket's level after
             each interval, when its unit has left. Only those before the
             violation are written.
-   values:  5 numbers written: 0 or the violation; its interval, from 1, or 0;
-            then total distortion, source grains and channel grains, each 0
-            where there is a violation.
+   values:  6 numbers written: 0 or the violation; its interval, from 1, or 0;
+            then the 4 numbers of upload_plan, each 0 where there is a
+            violation.
 
    Refusals in order: 12 where `values` is too short; 1 to 5 for the job; 2 for
    a call of another kind, then 1 where the last call is cut; 14; 12 where

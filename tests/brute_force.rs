@@ -19,8 +19,9 @@
 //! (small jobs), and a dynamic program that carries whole paths forward (the
 //! jobs too large to enumerate). The two searches check each other. Cases
 //! written by hand also carry the number or the text that the paper calls for, so
-//! that a slip in the reader here, or in the decoder's limits that both searches
-//! share, is seen too.
+//! that a slip in the reader here, or in the decoder's limits and the bucket's
+//! step that both searches share, is seen too. Of every plan printed the bucket's
+//! balance is asked besides.
 
 use std::collections::BTreeMap;
 use std::io::{Read, Write};
@@ -56,8 +57,8 @@ fn print_plan(job: &Job, book: &Book, plan: &Plan) -> String {
         let shown = if choice == NO_CHOICE { "-".to_string() } else { choice.to_string() };
         text += &format!("{t} {} {shown} {decoder} {bucket}\n", job.rates[rate]);
     });
-    let totals = totals.expect("a plan that was found replays");
-    text + &format!("total {} {} {}\n", totals.distortion, totals.source, totals.channel)
+    let totals = totals.expect("a plan that was found replays").numbers();
+    text + &format!("total {}\n", totals.map(|total| total.to_string()).join(" "))
 }
 
 fn refused(number: Refusal) -> String {
@@ -76,18 +77,21 @@ fn answer(input: &[u8]) -> String {
 enum ByHand {
     Nothing,
     APlan,
+    /// A plan whose last number, the unused drain, is this one.
+    Unused(i64),
     Refused(Refusal),
     Text(&'static str),
     /// The text of a file that lies beside the input.
     Filed(String),
 }
-use ByHand::{APlan, Filed, Nothing, Refused, Text};
+use ByHand::{APlan, Filed, Nothing, Refused, Text, Unused};
 
 impl ByHand {
     fn holds(&self, text: &str) -> bool {
         match self {
             Nothing => true,
             APlan => text.starts_with("plan "),
+            Unused(grains) => APlan.holds(text) && text.ends_with(&format!(" {grains}\n")),
             Refused(number) => text == refused(*number),
             Text(said) => text == *said,
             Filed(said) => text == said,
@@ -98,6 +102,7 @@ impl ByHand {
         match self {
             Nothing => "nothing".to_string(),
             APlan => "a plan".to_string(),
+            Unused(grains) => format!("a plan that leaves {grains} grains unused"),
             Refused(number) => refused(*number),
             Text(said) => said.to_string(),
             Filed(said) => said.clone(),
@@ -123,9 +128,9 @@ struct Group {
     /// At least one case in this many must have a plan, so that a random group
     /// cannot pass by asking for refusals alone; 0 where nothing is asked.
     plan_in: usize,
-    /// At least one case in this many must have another answer under each of the
-    /// mistaken rules; 0 where they are only counted, `None` where not even that.
-    told_in: Option<usize>,
+    /// Mistaken rules, and that at least one case in this many must have another
+    /// answer under each of them; 0 where they are only counted.
+    told_in: Option<(Mistakes, usize)>,
 }
 
 fn group(name: impl Into<String>, cases: Vec<Case>) -> Group {
@@ -166,11 +171,16 @@ fn random_group(
     }
 }
 
-/// Jobs that tell the decoder's rule from the mistaken ones.
-fn tight_group(kind: &str, seed: Seed, count: usize, plan_in: usize, shape: &Shape) -> Group {
-    let make = |rng: &mut Rng| random_tight_job(rng, shape).bytes();
+/// Jobs of three sizes that tell a rule from mistaken ones.
+fn telling_groups(name: &str, mistakes: Mistakes, seed: Seed, shapes: &[Shape; 3]) -> [Group; 3] {
     let asked = if matches!(seed, Fixed(_)) { 5 } else { 0 };
-    Group { told_in: Some(asked), ..random_group(kind, seed, count, plan_in, make) }
+    let sizes = [("jobs", 1000, 2), ("medium jobs", 250, 2), ("long jobs", 40, 3)];
+    std::array::from_fn(|size| {
+        let (kind, count, plan_in) = sizes[size];
+        let make = |rng: &mut Rng| random_tight_job(rng, &shapes[size]).bytes();
+        let group = random_group(&format!("{name} {kind}"), seed, count, plan_in, make);
+        Group { told_in: Some((mistakes, asked)), ..group }
+    })
 }
 
 fn random_groups(new_seed: u64) -> Vec<Group> {
@@ -187,19 +197,19 @@ fn random_groups(new_seed: u64) -> Vec<Group> {
         groups.push(random_group("scrambled bytes", seed, 1000, 40, scrambled));
     }
     for seed in [Fixed(5), New(new_seed)] {
-        groups.push(tight_group("tight jobs", seed, 1000, 2, &TIGHT[0]));
-        groups.push(tight_group("tight medium jobs", seed, 250, 2, &TIGHT[1]));
-        groups.push(tight_group("tight long jobs", seed, 40, 3, &TIGHT[2]));
+        groups.extend(telling_groups("tight", decoder_mistakes, seed, &TIGHT));
+        groups.extend(telling_groups("idle", unused_mistakes, seed, &IDLE));
     }
     groups
 }
 
 /// The cases the paper writes out for Job A. Its decoder of 4 never holds the 5
 /// grains of unit 2's choice 0, so unit 2 has choice 1; the best plan has unit 1
-/// at 0 anyway, and only a pin at 1 changes it.
+/// at 0 anyway, and only a pin at 1 changes it. Both plans send nothing in interval
+/// 1, and its drain of 2 goes by; later they send 2 or more.
 fn job_a_group() -> Group {
-    let best = "plan 2 3 80\n1 0 - 0 0\n2 4 0 0 2\n3 2 1 0 2\ntotal 50 6 6\n";
-    let coarse = "plan 2 3 80\n1 0 - 0 0\n2 2 1 0 0\n3 2 1 0 0\ntotal 70 4 4\n";
+    let best = "plan 2 3 80\n1 0 - 0 0\n2 4 0 0 2\n3 2 1 0 2\ntotal 50 6 6 2\n";
+    let coarse = "plan 2 3 80\n1 0 - 0 0\n2 2 1 0 0\n3 2 1 0 0\ntotal 70 4 4 2\n";
     let a = job_a();
     let of = |commands: &[Command]| a.commanded(commands).bytes();
     group(
@@ -706,15 +716,16 @@ fn large_numbers_group() -> Group {
 /// What the decoder may hold just before a unit leaves: up to its size, with one
 /// more refused even where the unit takes that away. Each line: d, D, the
 /// starting level, the rates, one unit's sizes (choice c has distortion 7 + c),
-/// and what is due by hand; the bucket drains all.
+/// and what is due by hand; the bucket drains all, and of 4,095 in each interval
+/// all but what is sent goes by.
 fn peaks_group() -> Group {
     let rows: [([u16; 3], &[u16], &[u16], ByHand); 26] = [
         // The peak is the size, and something or nothing is left.
-        ([0, 4, 1], &[3], &[3], Text("plan 1 1 10\n1 3 0 1 0\ntotal 7 3 3\n")),
-        ([0, 4, 1], &[3], &[4], Text("plan 1 1 10\n1 3 0 0 0\ntotal 7 4 3\n")),
-        ([0, 4, 1], &[3], &[0], Text("plan 1 1 10\n1 3 0 4 0\ntotal 7 0 3\n")),
-        ([0, 4, 0], &[4], &[4], Text("plan 1 1 10\n1 4 0 0 0\ntotal 7 4 4\n")),
-        ([0, 4, 4], &[0], &[4], Text("plan 1 1 10\n1 0 0 0 0\ntotal 7 4 0\n")),
+        ([0, 4, 1], &[3], &[3], Text("plan 1 1 10\n1 3 0 1 0\ntotal 7 3 3 4092\n")),
+        ([0, 4, 1], &[3], &[4], Text("plan 1 1 10\n1 3 0 0 0\ntotal 7 4 3 4092\n")),
+        ([0, 4, 1], &[3], &[0], Text("plan 1 1 10\n1 3 0 4 0\ntotal 7 0 3 4092\n")),
+        ([0, 4, 0], &[4], &[4], Text("plan 1 1 10\n1 4 0 0 0\ntotal 7 4 4 4091\n")),
+        ([0, 4, 4], &[0], &[4], Text("plan 1 1 10\n1 0 0 0 0\ntotal 7 4 0 4095\n")),
         // The peak is one more, and the unit would take it down to 4 or less.
         ([0, 4, 2], &[3], &[1], Refused(13)),
         ([0, 4, 2], &[3], &[3], Refused(13)),
@@ -730,23 +741,23 @@ fn peaks_group() -> Group {
         ([0, 4, 4], &[0, 1, 2, 3, 4, 5], &[5], Refused(13)),
         ([1, 4, 0], &[0, 1, 2, 3, 4, 5], &[5], Refused(13)),
         // The first choice needs 5 there; the second just fits.
-        ([0, 4, 3], &[0, 1, 2], &[5, 4, 3], Text("plan 1 1 10\n1 1 1 0 0\ntotal 8 4 1\n")),
+        ([0, 4, 3], &[0, 1, 2], &[5, 4, 3], Text("plan 1 1 10\n1 1 1 0 0\ntotal 8 4 1 4094\n")),
         // No unit leaves during the delay, and the level is the peak.
         ([1, 4, 1], &[3], &[3], Refused(13)),
         ([1, 4, 0], &[4, 5], &[4], Refused(13)),
-        ([1, 4, 0], &[0, 4], &[4], Text("plan 1 2 15\n1 0 - 0 0\n2 4 0 0 0\ntotal 7 4 4\n")),
-        ([1, 4, 4], &[0, 1], &[4], Text("plan 1 2 15\n1 0 - 4 0\n2 0 0 0 0\ntotal 7 4 0\n")),
+        ([1, 4, 0], &[0, 4], &[4], Text("plan 1 2 15\n1 0 - 0 0\n2 4 0 0 0\ntotal 7 4 4 8186\n")),
+        ([1, 4, 4], &[0, 1], &[4], Text("plan 1 2 15\n1 0 - 4 0\n2 0 0 0 0\ntotal 7 4 0 8190\n")),
         (
             [2, 6, 0],
             &[2],
             &[3],
-            Text("plan 1 3 28\n1 2 - 2 0\n2 2 - 4 0\n3 2 0 3 0\ntotal 7 3 6\n"),
+            Text("plan 1 3 28\n1 2 - 2 0\n2 2 - 4 0\n3 2 0 3 0\ntotal 7 3 6 12279\n"),
         ),
         ([2, 5, 0], &[2], &[3], Refused(13)),
         // The ends of the decoder's range.
-        ([0, 0, 0], &[0], &[0], Text("plan 1 1 2\n1 0 0 0 0\ntotal 7 0 0\n")),
+        ([0, 0, 0], &[0], &[0], Text("plan 1 1 2\n1 0 0 0 0\ntotal 7 0 0 4095\n")),
         ([0, 0, 0], &[1], &[1], Refused(13)),
-        ([0, 255, 55], &[200], &[1], Text("plan 1 1 512\n1 200 0 254 0\ntotal 7 1 200\n")),
+        ([0, 255, 55], &[200], &[1], Text("plan 1 1 512\n1 200 0 254 0\ntotal 7 1 200 3895\n")),
         ([0, 255, 55], &[201], &[1], Refused(13)),
     ];
     let mut cases = Vec::new();
@@ -757,6 +768,11 @@ fn peaks_group() -> Group {
         cases.push(case(label, draft.bytes(), by_hand));
     }
     group("decoder peaks", cases)
+}
+
+fn unused_group() -> Group {
+    let case = |(label, draft, unused): (_, Draft, _)| case(label, draft.bytes(), Unused(unused));
+    group("unused drain", unused_by_hand().into_iter().map(case).collect())
 }
 
 /// Standard input may come in parts; the program must read to the end.
@@ -942,11 +958,32 @@ fn check(program: &Program, worker: usize, case: &Case) -> Result<String, Failur
         ));
     }
     match program.run(worker, &case.input, case.parts) {
-        Ok(printed) if printed == due.as_bytes() => Ok(due),
-        Ok(printed) => {
+        Ok(printed) if printed != due.as_bytes() => {
             Err(fail("the program prints something else", &due, &String::from_utf8_lossy(&printed)))
         }
+        Ok(_) if APlan.holds(&due) && !balances(&case.input, &due) => {
+            Err(fail("the program prints what does not balance", BALANCE, &due))
+        }
+        Ok(_) => Ok(due),
         Err(trouble) => Err(fail("the program failed", &due, &trouble)),
+    }
+}
+
+const BALANCE: &str = "starting level + channel + unused = T x drain + last level";
+
+/// The bucket's balance, from the printed lines and the job's header alone.
+fn balances(input: &[u8], printed: &str) -> bool {
+    let field = |at: usize| u16_at(input, 4 + 2 * at) as i64;
+    let numbers = |line: &str| -> Vec<i64> {
+        line.split(' ').filter_map(|number| number.parse().ok()).collect()
+    };
+    let lines: Vec<Vec<i64>> = printed.lines().map(numbers).collect();
+    let [first, .., interval, total] = &lines[..] else { return false };
+    match (&first[..], &interval[..], &total[..]) {
+        ([_, intervals, _], [.., level], [_, _, channel, unused]) => {
+            field(START_BUCKET) + channel + unused == intervals * field(DRAIN) + level
+        }
+        _ => false,
     }
 }
 
@@ -1004,30 +1041,27 @@ fn report_group(group: &Group, failures: Vec<Failure>, tally: BTreeMap<String, u
         println!("FAILED {}: too few plans among {jobs} jobs: {}", group.name, parts.join(", "));
         return false;
     }
-    let told = if group.told_in.is_some() { told_apart(&group.cases) } else { Vec::new() };
-    let counts: String =
-        told.iter().map(|(count, rule)| format!("; {count} tell it from {rule}")).collect();
-    let asked = group.told_in.unwrap_or(0);
-    if asked > 0 && told.iter().any(|(count, _)| count * asked < jobs) {
-        println!("FAILED {}: too little in {jobs} jobs{counts}", group.name);
-        return false;
+    let mut counts = String::new();
+    if let Some((mistakes, asked)) = group.told_in {
+        let told = told_apart(mistakes, &group.cases);
+        counts = told.show();
+        if asked > 0 && !told.each(jobs.div_ceil(asked)) {
+            println!("FAILED {}: too little in {jobs} jobs{counts}", group.name);
+            return false;
+        }
     }
     println!("ok {}: {jobs} jobs ok ({}){counts}", group.name, parts.join(", "));
     true
 }
 
-/// How many cases have another plan, or one where there is none, under each of
-/// the mistaken rules.
-fn told_apart(cases: &[Case]) -> Vec<(usize, &'static str)> {
-    let mut told = MISTAKEN.map(|(name, _)| (0, name));
+fn told_apart(mistakes: Mistakes, cases: &[Case]) -> Told {
+    let mut told = Told::new(mistakes);
     for case in cases {
-        let Ok((job, book)) = read_input(&case.input) else { continue };
-        let plan = dynamic(&job, &book);
-        for ((count, _), (_, rule)) in told.iter_mut().zip(MISTAKEN) {
-            *count += (dynamic_by(rule, &job, &book) != plan) as usize;
+        if let Ok((job, book)) = read_input(&case.input) {
+            told.count(&job, &book, dynamic(&job, &book).as_ref());
         }
     }
-    told.to_vec()
+    told
 }
 
 /// The dynamic program against the enumeration, on tiny jobs and tight ones. It
@@ -1087,6 +1121,7 @@ fn run_all(path: String, new_seed: u64, example_directory: Option<&Path>) -> boo
         unit_counts_group(),
         large_numbers_group(),
         peaks_group(),
+        unused_group(),
         parts_group(),
         command_lists_group(),
     ];

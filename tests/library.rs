@@ -1,6 +1,7 @@
 //! Checks the library through the crate `upload_planner`: what each function
 //! answers, every number it writes, and that it writes no other. What is due is
-//! worked out here and in `reference.rs`, straight from the product's paper.
+//! worked out here and in `reference.rs`, straight from the product's paper. Of
+//! every clean replay the bucket's balance is asked besides.
 //!
 //! Build and run, where DIR holds libupload.a:
 //!
@@ -25,7 +26,7 @@ use std::path::{Path, PathBuf};
 use std::process::ExitCode;
 use std::sync::atomic::{AtomicBool, Ordering};
 
-use upload_planner::{numbers, Call, Header, Replayed, Violation};
+use upload_planner::{numbers, Call, Header, Replayed, Totals, Violation};
 
 #[allow(dead_code)]
 mod reference;
@@ -33,6 +34,11 @@ use reference::*;
 
 /// The word of a state that cannot be completed.
 const NEVER: u32 = 4_294_967_295;
+
+/// How many values planning writes: distortion, source, channel and unused grains.
+const PLAN_VALUES: usize = 4;
+/// How many replay writes: the violation and its interval, then the same four.
+const REPLAY_VALUES: usize = 6;
 
 /// Set once, before the first group.
 static SMALL: AtomicBool = AtomicBool::new(false);
@@ -208,9 +214,10 @@ fn plan_bytes(plan: &Plan) -> Vec<u8> {
     plan.iter().flat_map(|&(rate, choice)| [rate as u8, choice as u8]).collect()
 }
 
-fn totals_of(asked: &Asked, plan: &Plan) -> [u64; 3] {
-    let totals = replay(&asked.job, &asked.book, plan, |_, _| ()).expect("an admissible plan");
-    [totals.distortion as u64, totals.source as u64, totals.channel as u64]
+/// The totals of an admissible plan, step by step.
+fn totals_of(asked: &Asked, plan: &Plan) -> Option<[u64; PLAN_VALUES]> {
+    let totals = replay(&asked.job, &asked.book, plan, |_, _| ())?;
+    Some(totals.numbers().map(|total| total as u64))
 }
 
 // ---------------------------------------------------------------------------
@@ -231,7 +238,7 @@ fn least(job: &Job, options: &Options, t: usize, decoder: i64, bucket: i64) -> O
     }
     let mut found: Option<i64> = None;
     for sent in &job.rates {
-        let filled = (bucket + sent - job.drain).max(0);
+        let (filled, _) = bucket_step(job, bucket, *sent);
         for (_, grains, distortion) in &options[t] {
             let Some(level) = by_peak(job, decoder, *sent, *grains) else { continue };
             if filled > job.bucket_size {
@@ -343,7 +350,7 @@ fn read_off(job: &Job, book: &Book, table: &[u32]) -> Option<Plan> {
         for (rate, &sent) in job.rates.iter().enumerate() {
             for (choice, grains, distortion) in options(job, book, t) {
                 let Some(level) = by_peak(job, decoder, sent, grains) else { continue };
-                let filled = (bucket + sent - job.drain).max(0);
+                let (filled, _) = bucket_step(job, bucket, sent);
                 if taken.is_none() && filled <= job.bucket_size {
                     let rest = word(t, level, filled);
                     if rest != NEVER && distortion as u32 + rest == due {
@@ -363,14 +370,15 @@ fn read_off(job: &Job, book: &Book, table: &[u32]) -> Option<Plan> {
 // Planning.
 // ---------------------------------------------------------------------------
 
-/// Lends lists of just enough or somewhat more and compares all of them.
+/// Lends lists of just enough or somewhat more and compares all of them. A plan
+/// that was found replays under the same calls.
 fn check_plan(rng: &mut Rng, asked: &Asked, table: &[u32], plan: &Option<Plan>) -> Checked {
     let mut slack = || if rng.one_in(3) { 0 } else { rng.from(1, 9) };
     let lengths = [
         asked.answers.len() + slack(),
         table.len() + slack(),
         2 * asked.intervals() + slack(),
-        3 + slack(),
+        PLAN_VALUES + slack(),
     ];
     let mut lent = PlanLists::new(rng, lengths);
     let number = lent.plan(&asked.bytes, &asked.calls);
@@ -383,7 +391,9 @@ fn check_plan(rng: &mut Rng, asked: &Asked, table: &[u32], plan: &Option<Plan>) 
     };
     same("plan", 0, number)?;
     lent.entries.wrote("entries", &plan_bytes(plan))?;
-    lent.values.wrote("values", &totals_of(asked, plan))
+    let totals = totals_of(asked, plan).ok_or("the plan due is not admissible")?;
+    lent.values.wrote("values", &totals)?;
+    check_replay(rng, asked, plan)
 }
 
 struct PlanLists {
@@ -450,8 +460,7 @@ fn check_typed(asked: &Asked, table: &[u32], plan: &Option<Plan>) -> Checked {
     };
     let found = found.map_err(|refusal| refusal.to_string())?;
     let owned = owned.map_err(|refusal| refusal.to_string())?;
-    let totals = [found.distortion, found.source_grains, found.channel_grains];
-    same("typed totals", totals_of(asked, plan), totals)?;
+    same("typed totals", totals_of(asked, plan).map(typed_totals), Some(found))?;
     same("typed entries", plan_bytes(plan), entries)?;
     same("owned totals", found, owned.totals)?;
     same("owned entries", plan_bytes(plan), owned.entries)?;
@@ -460,14 +469,6 @@ fn check_typed(asked: &Asked, table: &[u32], plan: &Option<Plan>) -> Checked {
         answer.err().map_or(0, |refusal| refusal.number() as u8)
     };
     same("owned answers", &asked.answers, &owned.answers.into_iter().map(answer).collect())
-}
-
-/// A plan that was found replays clean under the same calls.
-fn check_replayed(rng: &mut Rng, asked: &Asked, plan: &Option<Plan>) -> Checked {
-    match plan {
-        Some(plan) => check_replay(rng, asked, plan),
-        None => Ok(()),
-    }
 }
 
 /// Each job's table by trying all completions, its plan by trying all plans;
@@ -487,8 +488,7 @@ fn tiny_group(seed: u64, asks: bool) -> Result<String, String> {
             same("dynamic program", &all.best, &dynamic(&asked.job, &asked.book))?;
             check_open(rng, &asked)?;
             check_plan(rng, &asked, &table, &all.best)?;
-            check_typed(&asked, &table, &all.best)?;
-            check_replayed(rng, &asked, &all.best)
+            check_typed(&asked, &table, &all.best)
         };
         check(&mut rng).map_err(|trouble| failed(seed, index, &trouble, &asked))?;
         plans += all.best.is_some() as usize;
@@ -524,8 +524,7 @@ fn larger_group(seed: u64, asks: bool) -> Result<String, String> {
         let check = |rng: &mut Rng| -> Checked {
             same("plan read off", &plan, &read_off(&asked.job, &asked.book, &table))?;
             check_open(rng, &asked)?;
-            check_plan(rng, &asked, &table, &plan)?;
-            check_replayed(rng, &asked, &plan)
+            check_plan(rng, &asked, &table, &plan)
         };
         check(&mut rng).map_err(|trouble| failed(seed, index, &trouble, &asked))?;
         plans += plan.is_some() as usize;
@@ -540,13 +539,15 @@ fn larger_group(seed: u64, asks: bool) -> Result<String, String> {
 // Replay and report.
 // ---------------------------------------------------------------------------
 
-/// Levels up to the first breach, and the five values due.
+/// Levels up to the first breach, and the values due.
 struct Followed {
     levels: Vec<u16>,
-    values: [u64; 5],
+    values: [u64; REPLAY_VALUES],
     /// What the decoder holds just before and just after the unit leaves, up to
     /// the first breach and in its interval too.
     decoder: Vec<(i64, i64)>,
+    /// The unused drain before the first breach.
+    unused: i64,
 }
 
 /// The numbers of violations. They are names, and the order of testing is
@@ -560,13 +561,14 @@ const NOT_HELD: u64 = 4;
 /// decoder has its start and all that was sent, less all that was taken, where
 /// the interval's own unit is still there at the peak. The bucket's level, cut at
 /// 0 after each interval, is the larger of its start and all rises, and all rises
-/// since some interval.
+/// since some interval. Its unused drain is the most by which its start and all
+/// rises up to some interval have fallen below 0: so much was never there.
 fn follow(job: &Job, book: &Book, plan: &Plan) -> Followed {
     let sent = |t: usize| job.rates[plan[t - 1].0];
     let unit = |t: usize| t.checked_sub(job.delay + 1);
     let choice = |t: usize| unit(t).map(|unit| &job.units[unit][plan[t - 1].1]);
     let taken = |t: usize| choice(t).map_or(0, |choice| choice.grains);
-    let (mut levels, mut decoder) = (Vec::new(), Vec::new());
+    let (mut levels, mut decoder, mut unused) = (Vec::new(), Vec::new(), 0);
     for t in 1..=job.intervals() {
         let come = job.start_decoder + (1..=t).map(sent).sum::<i64>();
         let gone = |upto: usize| (1..=upto).map(taken).sum::<i64>();
@@ -574,7 +576,8 @@ fn follow(job: &Job, book: &Book, plan: &Plan) -> Followed {
         decoder.push((peak, level));
         let since = |s: usize| (s + 1..=t).map(|r| sent(r) - job.drain).sum::<i64>();
         let risen = (1..=t).map(since).max().expect("an interval");
-        let bucket = risen.max(job.start_bucket + since(0));
+        let uncut = job.start_bucket + since(0);
+        let bucket = risen.max(uncut);
         let pinned = unit(t).and_then(|unit| book[unit]);
         let breaches = [
             (OVER, peak > job.decoder_size),
@@ -583,41 +586,53 @@ fn follow(job: &Job, book: &Book, plan: &Plan) -> Followed {
             (NOT_HELD, pinned.is_some_and(|pinned| pinned != plan[t - 1].1)),
         ];
         if let Some((first, _)) = breaches.into_iter().find(|(_, breach)| *breach) {
-            return Followed { levels, values: [first, t as u64, 0, 0, 0], decoder };
+            return Followed { levels, values: [first, t as u64, 0, 0, 0, 0], decoder, unused };
         }
         levels.extend([level as u16, bucket as u16]);
+        unused = unused.max(-uncut);
     }
-    let all = 1..=job.intervals();
     let distortion = |t: usize| choice(t).map_or(0, |choice| choice.distortion);
-    let totals: [i64; 3] =
-        [all.clone().map(distortion).sum(), all.clone().map(taken).sum(), all.map(sent).sum()];
-    let [distortion, source, channel] = totals.map(|total| total as u64);
-    Followed { levels, values: [0, 0, distortion, source, channel], decoder }
+    let all = |of: &dyn Fn(usize) -> i64| (1..=job.intervals()).map(of).sum::<i64>() as u64;
+    let values = [0, 0, all(&distortion), all(&taken), all(&sent), unused as u64];
+    Followed { levels, values, decoder, unused }
 }
 
 fn check_replay(rng: &mut Rng, asked: &Asked, plan: &Plan) -> Checked {
     let due = follow(&asked.job, &asked.book, plan);
-    let stepped = replay(&asked.job, &asked.book, plan, |_, _| ());
-    same("clean step by step", due.values[0] == 0, stepped.is_some())?;
+    let [violation, _, totals @ ..] = due.values;
+    same("step by step", (violation == 0).then_some(totals), totals_of(asked, plan))?;
     let entries = plan_bytes(plan);
-    let (room, more) = (2 * asked.intervals() + rng.from(0, 7), 5 + rng.from(0, 3));
+    let (room, more) = (2 * asked.intervals() + rng.from(0, 7), REPLAY_VALUES + rng.from(0, 3));
     let mut levels = Lent::new(rng, room);
     let mut values = Lent::new(rng, more);
     let found = numbers::replay(&asked.bytes, &asked.calls, &entries, levels.list(), values.list());
     same("replay", 0, found)?;
     values.wrote("values of replay", &due.values)?;
     levels.wrote("levels", &due.levels)?;
+    check_balance(&asked.job, values.list(), levels.list())?;
     let mut levels = vec![0; 2 * asked.intervals()];
     let typed = upload_planner::replay(&asked.bytes, &asked.typed_calls(), &entries, &mut levels);
     same("typed replay", Ok(typed_replay(due.values)), typed)
 }
 
-fn typed_replay([kind, interval, distortion, source_grains, channel_grains]: [u64; 5]) -> Replayed {
+/// Where there is no violation, what the bucket had and what was sent has left
+/// by the drain or is there still, and the rest of the drain is unused. From what
+/// the library answers and writes alone.
+fn check_balance(job: &Job, values: &[u64], levels: &[u16]) -> Checked {
+    let [0, 0, _, _, channel, unused] = values[..REPLAY_VALUES] else { return Ok(()) };
+    let last = levels[2 * job.intervals() - 1] as u64;
+    let drained = job.intervals() as u64 * job.drain as u64;
+    same("balance", drained + last, job.start_bucket as u64 + channel + unused)
+}
+
+fn typed_totals(totals: [u64; PLAN_VALUES]) -> Totals {
+    let [distortion, source_grains, channel_grains, unused_grains] = totals;
+    Totals { distortion, source_grains, channel_grains, unused_grains }
+}
+
+fn typed_replay([kind, interval, totals @ ..]: [u64; REPLAY_VALUES]) -> Replayed {
     let violation = match kind {
-        0 => {
-            let totals = upload_planner::Totals { distortion, source_grains, channel_grains };
-            return Replayed::Clean(totals);
-        }
+        0 => return Replayed::Clean(typed_totals(totals)),
         SHORT => Violation::DecoderShort,
         OVER => Violation::DecoderOver,
         BUCKET_OVER => Violation::BucketOver,
@@ -656,7 +671,7 @@ fn random_plan(rng: &mut Rng, job: &Job, book: &Book) -> Plan {
             let unit = t.checked_sub(job.delay + 1);
             let taken = unit.map_or(0, |unit| job.units[unit][entry.1].grains);
             let level = by_peak(job, decoder, sent, taken);
-            let filled = (bucket + sent - job.drain).max(0);
+            let (filled, _) = bucket_step(job, bucket, sent);
             let pinned = unit.and_then(|unit| book[unit]).unwrap_or(entry.1);
             let held = pinned == entry.1 || !regards_pins;
             if let (Some(level), true) = (level, held && filled <= job.bucket_size) {
@@ -710,7 +725,7 @@ fn replay_group(seed: u64, asks: bool) -> Result<String, String> {
 fn check_misshapen(rng: &mut Rng, asked: &Asked, plan: &Plan) -> Checked {
     let (entries, how) = misshapen(rng, &asked.job, plan_bytes(plan));
     let mut levels = Lent::new(rng, 2 * asked.intervals());
-    let mut values = Lent::new(rng, 5);
+    let mut values = Lent::new(rng, REPLAY_VALUES);
     let mut sums = Lent::new(rng, asked.job.units.len() + 1);
     let found = numbers::replay(&asked.bytes, &asked.calls, &entries, levels.list(), values.list());
     same(&format!("replay, {how}"), 14, found)?;
@@ -775,24 +790,24 @@ fn peaks_group() -> Result<String, String> {
     let mut rng = Rng(1);
     // One unit, a decoder of 2, rates 0 and 2. From level 0 the 2 grains sent are
     // the peak; from 1 and 2 nothing can be sent. The last two choices take more
-    // than the decoder ever holds.
+    // than the decoder ever holds. Of a drain of 9 all but what is sent goes by.
     let unit = vec![(2, 5), (1, 8), (3, 1), (4, 0)];
     let draft = Draft::new([0, 2, 0, 9, 0, 0], &[0, 2], &[unit]);
     let asked = Asked::new(&mut rng, &draft);
     check_plan(&mut rng, &asked, &[5, 8, 5, 0, 0, 0], &Some(vec![(1, 0)]))?;
     for (start, plan, due) in [
-        (0, (1, 0), [0, 0, 5, 2, 2]),
-        (0, (1, 1), [0, 0, 8, 1, 2]),
-        (0, (0, 1), [SHORT, 1, 0, 0, 0]),
-        (0, (1, 2), [SHORT, 1, 0, 0, 0]),
-        (0, (1, 3), [SHORT, 1, 0, 0, 0]),
-        (1, (0, 1), [0, 0, 8, 1, 0]),
-        (1, (1, 0), [OVER, 1, 0, 0, 0]),
-        (1, (1, 1), [OVER, 1, 0, 0, 0]),
-        (1, (1, 2), [OVER, 1, 0, 0, 0]),
-        (1, (1, 3), [OVER, 1, 0, 0, 0]),
-        (2, (0, 0), [0, 0, 5, 2, 0]),
-        (2, (1, 0), [OVER, 1, 0, 0, 0]),
+        (0, (1, 0), [0, 0, 5, 2, 2, 7]),
+        (0, (1, 1), [0, 0, 8, 1, 2, 7]),
+        (0, (0, 1), [SHORT, 1, 0, 0, 0, 0]),
+        (0, (1, 2), [SHORT, 1, 0, 0, 0, 0]),
+        (0, (1, 3), [SHORT, 1, 0, 0, 0, 0]),
+        (1, (0, 1), [0, 0, 8, 1, 0, 9]),
+        (1, (1, 0), [OVER, 1, 0, 0, 0, 0]),
+        (1, (1, 1), [OVER, 1, 0, 0, 0, 0]),
+        (1, (1, 2), [OVER, 1, 0, 0, 0, 0]),
+        (1, (1, 3), [OVER, 1, 0, 0, 0, 0]),
+        (2, (0, 0), [0, 0, 5, 2, 0, 9]),
+        (2, (1, 0), [OVER, 1, 0, 0, 0, 0]),
     ] {
         let asked = Asked::new(&mut rng, &draft.with(START_DECODER, start));
         let what = format!("from {start} with {plan:?}");
@@ -805,9 +820,9 @@ fn peaks_group() -> Result<String, String> {
     let units = vec![vec![(255, 1_000_000)]; 512];
     let asked = Asked::new(&mut rng, &Draft::new([0, 255, 0, 255, 0, 0], &[255], &units));
     let (table, plan) = (fast_table(&asked.job, &asked.book), vec![(0, 0); 512]);
-    same("512 full units", [512_000_000, 130_560, 130_560], totals_of(&asked, &plan))?;
-    check_plan(&mut rng, &asked, &table, &Some(plan.clone()))?;
-    check_replay(&mut rng, &asked, &plan)?;
+    let due = Some([512_000_000, 130_560, 130_560, 0]);
+    same("512 full units", due, totals_of(&asked, &plan))?;
+    check_plan(&mut rng, &asked, &table, &Some(plan))?;
     Ok("by hand".to_string())
 }
 
@@ -838,7 +853,8 @@ fn violations_group() -> Result<String, String> {
 /// Two units and a decoder of 9 that holds 3 up to interval t, which sends the
 /// first grains: 6, or 7 for a peak of 10. Its unit takes just the peak, or one
 /// grain more to be short; far from that, a single grain, or 4,095. The bucket
-/// just holds or is over by one.
+/// just holds or is over by one; until then it is empty, and its drain of 1 goes
+/// by, which no violation shows.
 fn check_violations(
     rng: &mut Rng,
     delay: usize,
@@ -852,11 +868,9 @@ fn check_violations(
         (true, false) => 3 + sent + 1,
         (true, true) => 4095,
     };
-    // The bucket falls by 1 in each interval, to 2 before interval t.
-    let start = 2 + (t as u16 - 1);
-    let size = 2 + sent - 1 - bucket as u16;
+    let size = sent - 1 - bucket as u16;
     let units = vec![vec![(0, 5), (taken, 6)]; 2];
-    let mut draft = Draft::new([delay as u16, 9, size, 1, 3, start], &[0, sent], &units);
+    let mut draft = Draft::new([delay as u16, 9, size, 1, 3, 0], &[0, sent], &units);
     if unheld {
         draft.commands.push(Pin((t - delay) as u16, 0));
     }
@@ -868,26 +882,72 @@ fn check_violations(
     let plan: Plan = (1..=delay + 2).map(entry).collect();
 
     let first = first_of(&[(over, 2), (short, 1), (bucket, 3), (unheld, 4)]);
+    // After interval t the bucket has 5 or 6, more than the last intervals drain.
+    let unused = t as u64 - 1;
     let due = match first {
-        0 if t > delay => [0, 0, 5 + 6, taken as u64, sent as u64],
-        0 => [0, 0, 5 + 5, 0, sent as u64],
-        _ => [first as u64, t as u64, 0, 0, 0],
+        0 if t > delay => [0, 0, 5 + 6, taken as u64, sent as u64, unused],
+        0 => [0, 0, 5 + 5, 0, sent as u64, unused],
+        _ => [first as u64, t as u64, 0, 0, 0, 0],
     };
     same("followed", due, follow(&asked.job, &asked.book, &plan).values)?;
     check_replay(rng, &asked, &plan)
 }
 
-/// Tight jobs: their tables and best plans, and plans that keep the decoder as
-/// full as it may be or a little fuller.
+/// Tight jobs: plans that keep the decoder as full as it may be or a little fuller.
 fn tight_group(seed: u64, asks: bool) -> Result<String, String> {
-    let mut rng = Rng(seed);
-    let (mut plans, mut told) = (0, [0; MISTAKEN.len()]);
     let mut sharp = Sharp::default();
+    let see = |asked: &Asked, plan: &Plan| sharp.count(asked, plan);
+    let telling = telling_jobs(seed, decoder_mistakes, &TIGHT, see)?;
+    let Sharp { full, within, both, waiting } = sharp;
+    let text = format!(
+        "{}: {full} units leave a full decoder, {within} over with a level within the size, \
+         {both} over and short, {waiting} over before the first unit",
+        telling.show()
+    );
+    let worthwhile = telling.worthwhile(&[full, within, both, waiting]);
+    ensure!(worthwhile || !asks, "too little in it: {text}");
+    Ok(text)
+}
+
+/// Jobs of three sizes that tell a rule from mistaken ones.
+struct Telling {
+    jobs: usize,
+    plans: usize,
+    told: Told,
+}
+
+impl Telling {
+    fn show(&self) -> String {
+        let Telling { jobs, plans, told } = self;
+        format!("{jobs} jobs, {plans} with a plan{}; {} plans", told.show(), PLANS_A_JOB * jobs)
+    }
+
+    /// Whether most jobs have a plan, each mistaken rule shows in many, and each of
+    /// the counts over plans is not small.
+    fn worthwhile(&self, counts: &[usize]) -> bool {
+        self.plans * 2 > self.jobs
+            && self.told.each(self.jobs.div_ceil(4))
+            && counts.iter().all(|count| count * 10 > self.jobs)
+    }
+}
+
+const PLANS_A_JOB: usize = 8;
+
+/// The jobs' tables and best plans, and plans that keep the decoder full, of which
+/// `see` is told.
+fn telling_jobs(
+    seed: u64,
+    mistakes: Mistakes,
+    shapes: &[Shape; 3],
+    mut see: impl FnMut(&Asked, &Plan),
+) -> Result<Telling, String> {
+    let mut rng = Rng(seed);
+    let (mut plans, mut told) = (0, Told::new(mistakes));
     let counts = [scaled(600), scaled(120), scaled(20)];
     let jobs: usize = counts.iter().sum();
     for index in 1..=jobs {
         let shape = (index > counts[0]) as usize + (index > counts[0] + counts[1]) as usize;
-        let draft = random_tight_job(&mut rng, &TIGHT[shape]);
+        let draft = random_tight_job(&mut rng, &shapes[shape]);
         let asked = Asked::new(&mut rng, &draft);
         let plan = dynamic(&asked.job, &asked.book);
         let mut check = || -> Checked {
@@ -898,37 +958,19 @@ fn tight_group(seed: u64, asks: bool) -> Result<String, String> {
             }
             same("plan read off", &plan, &read_off(&asked.job, &asked.book, &table))?;
             check_plan(&mut rng, &asked, &table, &plan)?;
-            check_replayed(&mut rng, &asked, &plan)?;
-            for _ in 0..8 {
+            for _ in 0..PLANS_A_JOB {
                 let tight = tight_plan(&mut rng, &asked.job, &asked.book);
                 check_replay(&mut rng, &asked, &tight)
                     .map_err(|trouble| format!("{trouble}\n  plan {tight:?}"))?;
-                sharp.count(&asked, &tight);
+                see(&asked, &tight);
             }
             Ok(())
         };
         check().map_err(|trouble| failed(seed, index, &trouble, &asked))?;
         plans += plan.is_some() as usize;
-        for (count, (_, rule)) in told.iter_mut().zip(MISTAKEN) {
-            *count += (dynamic_by(rule, &asked.job, &asked.book) != plan) as usize;
-        }
+        told.count(&asked.job, &asked.book, plan.as_ref());
     }
-    let Sharp { full, within, both, waiting } = sharp;
-    let apart: String = told
-        .iter()
-        .zip(MISTAKEN)
-        .map(|(count, (rule, _))| format!(", {count} tell the rule from {rule}"))
-        .collect();
-    let text = format!(
-        "{jobs} jobs, {plans} with a plan{apart}; {} plans: {full} units leave a full decoder, \
-         {within} over with a level within the size, {both} over and short, {waiting} over \
-         before the first unit",
-        8 * jobs
-    );
-    let often = told.iter().all(|count| count * 4 > jobs);
-    let each = [full, within, both, waiting].iter().all(|count| count * 10 > jobs);
-    ensure!((often && each && plans * 2 > jobs) || !asks, "too little in it: {text}");
-    Ok(text)
+    Ok(Telling { jobs, plans, told })
 }
 
 /// What tells the peak from the level, counted over plans.
@@ -968,7 +1010,7 @@ fn tight_plan(rng: &mut Rng, job: &Job, book: &Book) -> Plan {
     for t in 1..=job.intervals() {
         let mut going = Vec::new();
         for (rate, &sent) in job.rates.iter().enumerate() {
-            let filled = (bucket + sent - job.drain).max(0);
+            let (filled, _) = bucket_step(job, bucket, sent);
             for (choice, grains, _) in options(job, book, t) {
                 let level = by_peak(job, decoder, sent, grains);
                 if let (Some(level), true) = (level, filled <= job.bucket_size) {
@@ -989,6 +1031,51 @@ fn tight_plan(rng: &mut Rng, job: &Job, book: &Book) -> Plan {
         }
     }
     plan
+}
+
+// ---------------------------------------------------------------------------
+// Unused drain.
+// ---------------------------------------------------------------------------
+
+/// What goes by unused, by hand: what planning and replay answer.
+fn unused_group() -> Result<String, String> {
+    let mut rng = Rng(1);
+    let rows = unused_by_hand();
+    for (what, draft, unused) in &rows {
+        let asked = Asked::new(&mut rng, draft);
+        let table = fast_table(&asked.job, &asked.book);
+        let plan = read_off(&asked.job, &asked.book, &table);
+        // Every unit has a distortion of 1, and takes what its interval sends.
+        let sent: u64 = draft.units.iter().map(|unit| unit[0].0 as u64).sum();
+        let due = [asked.job.units.len() as u64, sent, sent, *unused as u64];
+        let found = plan.as_ref().and_then(|plan| totals_of(&asked, plan));
+        same(what, Some(due), found)?;
+        check_plan(&mut rng, &asked, &table, &plan)
+            .map_err(|trouble| format!("{what}: {trouble}"))?;
+    }
+    Ok(format!("{} jobs by hand", rows.len()))
+}
+
+/// Idle jobs: plans that leave some of the drain unused, and plans that do not.
+fn idle_group(seed: u64, asks: bool) -> Result<String, String> {
+    let (mut idle, mut busy, mut hidden) = (0, 0, 0);
+    let see = |asked: &Asked, plan: &Plan| {
+        let Followed { values, unused, .. } = follow(&asked.job, &asked.book, plan);
+        match (values[0], unused) {
+            (0, 0) => busy += 1,
+            (0, _) => idle += 1,
+            (_, 0) => (),
+            _ => hidden += 1,
+        }
+    };
+    let telling = telling_jobs(seed, unused_mistakes, &IDLE, see)?;
+    let text = format!(
+        "{}: {idle} clean with unused drain, {busy} clean without, {hidden} with some before a \
+         violation",
+        telling.show()
+    );
+    ensure!(telling.worthwhile(&[idle, busy, hidden]) || !asks, "too little in it: {text}");
+    Ok(text)
 }
 
 // ---------------------------------------------------------------------------
@@ -1098,7 +1185,6 @@ fn check_sitting(rng: &mut Rng, asked: &Asked) -> Result<bool, String> {
     let table = fast_table(&asked.job, &asked.book);
     let plan = read_off(&asked.job, &asked.book, &table);
     check_plan(rng, asked, &table, &plan)?;
-    check_replayed(rng, asked, &plan)?;
     let other = random_plan(rng, &asked.job, &asked.book);
     check_replay(rng, asked, &other)?;
 
@@ -1110,7 +1196,7 @@ fn check_sitting(rng: &mut Rng, asked: &Asked) -> Result<bool, String> {
     for i in (1..pins.len()).rev() {
         pins.swap(i, rng.from(0, i));
     }
-    let lengths = [asked.answers.len(), table.len(), 2 * asked.intervals(), 3];
+    let lengths = [asked.answers.len(), table.len(), 2 * asked.intervals(), PLAN_VALUES];
     let mut long = PlanLists::new(&mut Rng(1), lengths);
     let mut fresh = PlanLists::new(&mut Rng(1), lengths);
     let numbers = (long.plan(&asked.bytes, &asked.calls), fresh.plan(&asked.bytes, &pins.concat()));
@@ -1199,10 +1285,10 @@ fn check_bytes(rng: &mut Rng, bytes: &[u8]) -> Result<Refusal, String> {
     let number = *read.as_ref().err().unwrap_or(&0);
     let mut values: Lent<u64> = Lent::new(rng, 4);
     same("open", number as u32, numbers::open(bytes, values.list()))?;
-    let mut lent = PlanLists::new(rng, [2, 20, 12, 3]);
+    let mut lent = PlanLists::new(rng, [2, 20, 12, PLAN_VALUES]);
     let calls = [6, 1, 0, 7, 1, 0];
     let mut levels: Lent<u16> = Lent::new(rng, 12);
-    let mut more: Lent<u64> = Lent::new(rng, 5);
+    let mut more: Lent<u64> = Lent::new(rng, REPLAY_VALUES);
     let mut sums: Lent<u32> = Lent::new(rng, 4);
     let entries: Vec<u8> = (0..2 * rng.from(0, 4)).map(|_| rng.next() as u8).collect();
     match read {
@@ -1231,7 +1317,6 @@ fn check_bytes(rng: &mut Rng, bytes: &[u8]) -> Result<Refusal, String> {
                 let table = fast_table(&asked.job, &asked.book);
                 let plan = read_off(&asked.job, &asked.book, &table);
                 check_plan(rng, &asked, &table, &plan)?;
-                check_replayed(rng, &asked, &plan)?;
             }
         }
     }
@@ -1308,10 +1393,11 @@ fn limits_group() -> Result<String, String> {
 
 /// Job A's best plan, its levels and totals, by hand. Unit 2 has choice 1, as its
 /// choice 0 takes 5 grains and the decoder holds 4. Unit 1 at choice 0 takes 4,
-/// so the decoder is just full before it leaves.
+/// so the decoder is just full before it leaves. Interval 1 sends nothing, and its
+/// drain of 2 goes by.
 const BEST_A: [u8; 6] = [0, 255, 2, 0, 1, 1];
 const LEVELS_A: [u16; 6] = [0, 0, 0, 2, 0, 2];
-const TOTALS_A: [u64; 3] = [50, 6, 6];
+const TOTALS_A: [u64; PLAN_VALUES] = [50, 6, 6, 2];
 
 /// Job A's table by hand: a row for each decoder level, a word for each bucket
 /// level. Unit 1 at choice 0 needs a peak of just 4, which levels 0, 2 and 4 can
@@ -1325,18 +1411,13 @@ const TABLE_A: [[[u32; 4]; 5]; 4] = [
 
 /// The cases that the papers write out and their neighbours, worked out by hand.
 fn job_a_group() -> Result<String, String> {
-    use upload_planner::{best_plan, open, plan, replay, report, written, Refusal, Totals};
+    use upload_planner::{best_plan, open, plan, replay, report, written, Refusal};
     let job = job_a().bytes();
-    let totals = |distortion, source_grains, channel_grains| Totals {
-        distortion,
-        source_grains,
-        channel_grains,
-    };
     let (first, second) = (Call::Pin { unit: 1, choice: 0 }, Call::Pin { unit: 2, choice: 0 });
     let (other, lifted) = (Call::Pin { unit: 1, choice: 1 }, Call::Lift { unit: 1 });
     let best = |calls: &[Call]| best_plan(&job, calls).map(|best| (best.entries, best.totals));
-    let found = (BEST_A.to_vec(), totals(50, 6, 6));
-    let coarse = (vec![0, 255, 1, 1, 1, 1], totals(70, 4, 4));
+    let found = (BEST_A.to_vec(), typed_totals(TOTALS_A));
+    let coarse = (vec![0, 255, 1, 1, 1, 1], typed_totals([70, 4, 4, 2]));
 
     let opened = open(&job).map_err(|refusal| refusal.to_string())?;
     let opened = (opened.bytes, opened.units, opened.intervals, opened.table_words);
@@ -1496,7 +1577,7 @@ fn check_plan_order(
         cut_to(2, answers, by_all),
         cut_to(80, table, by_all),
         cut_to(6, entries, by_all),
-        cut_to(3, values, by_all),
+        cut_to(PLAN_VALUES, values, by_all),
     ];
     let mut lent = PlanLists::new(rng, lengths);
     let due = first_of(&[
@@ -1543,14 +1624,14 @@ fn check_other_orders(
     }
     entries.shrink_to_fit();
     let calls = faulty_calls(&[6, 2, 1], kind, cut, has(8));
-    let mut values = Lent::new(rng, cut_to(5, short, by_all));
+    let mut values = Lent::new(rng, cut_to(REPLAY_VALUES, short, by_all));
     let mut levels = Lent::new(rng, cut_to(6, list, by_all));
     let due =
         first_of(&[(short, 12), (wrong > 0, wrong), (kind, 2), (cut, 1), (shape, 14), (list, 12)]);
     let found = numbers::replay(job, &calls, &entries, levels.list(), values.list());
     same("replay", due, found)?;
     if due == 0 {
-        values.wrote("values of replay", &[0, 0, 50, 6, 6])?;
+        values.wrote("values of replay", &[&[0, 0], &TOTALS_A[..]].concat())?;
         levels.wrote("levels", &LEVELS_A)?;
     } else {
         values.kept("values of replay")?;
@@ -1573,7 +1654,7 @@ fn lengths_group() -> Result<String, String> {
     let mut rng = Rng(2);
     let job = job_a().bytes();
     let calls = [6, 1, 1, 7, 1, 0, 7, 1, 0, 6, 2, 1];
-    let needs = [4, 80, 6, 3];
+    let needs = [4, 80, 6, PLAN_VALUES];
     let mut lists = 0;
     for (which, need) in needs.into_iter().enumerate() {
         for length in 0..=need + 2 {
@@ -1596,21 +1677,25 @@ fn lengths_group() -> Result<String, String> {
         }
     }
     for length in 0..=8 {
-        let mut levels = Lent::new(&mut rng, length);
-        let mut values = Lent::new(&mut rng, 5);
         // The second interval breaks off, yet room is asked for all of them.
         let entries = [2, 255, 2, 1, 0, 0];
-        let found = numbers::replay(&job, &[], &entries, levels.list(), values.list());
-        same(&format!("levels of {length}"), if length < 6 { 12 } else { 0 }, found)?;
-        let breach: (&[u16], &[u64]) = (&[4, 2], &[OVER, 2, 0, 0, 0]);
-        let (due, valued) = if length < 6 { (&[][..], &[][..]) } else { breach };
-        levels.wrote("levels", due)?;
-        values.wrote("values of replay", valued)?;
+        for [room, more] in [[length, REPLAY_VALUES], [6, length]] {
+            let mut levels = Lent::new(&mut rng, room);
+            let mut values = Lent::new(&mut rng, more);
+            let found = numbers::replay(&job, &[], &entries, levels.list(), values.list());
+            let short = room < 6 || more < REPLAY_VALUES;
+            let what = format!("levels of {room}, values of {more}");
+            same(&what, if short { 12 } else { 0 }, found)?;
+            let breach: (&[u16], &[u64]) = (&[4, 2], &[OVER, 2, 0, 0, 0, 0]);
+            let (due, valued) = if short { (&[][..], &[][..]) } else { breach };
+            levels.wrote("levels", due)?;
+            values.wrote("values of replay", valued)?;
+        }
         let mut sums = Lent::new(&mut rng, length);
         let found = numbers::report(&job, &entries, sums.list());
         same(&format!("sums of {length}"), if length < 3 { 12 } else { 0 }, found)?;
         sums.wrote("sums", if length < 3 { &[] } else { &[4, 4, 0] })?;
-        lists += 2;
+        lists += 3;
     }
     Ok(format!("{lists} lists"))
 }
@@ -1632,10 +1717,10 @@ fn kinds_group() -> Result<String, String> {
                 calls.extend_from_slice(tail);
                 let known = kind == 6 || kind == 7;
                 let due = first_of(&[(!known, 2), (!tail.is_empty(), 1)]);
-                let mut lent = PlanLists::new(&mut rng, [4, 80, 6, 3]);
+                let mut lent = PlanLists::new(&mut rng, [4, 80, 6, PLAN_VALUES]);
                 let found = lent.plan(&job, &calls);
                 let mut levels = Lent::<u16>::new(&mut rng, 6);
-                let mut values = Lent::<u64>::new(&mut rng, 5);
+                let mut values = Lent::<u64>::new(&mut rng, REPLAY_VALUES);
                 let again = numbers::replay(&job, &calls, &BEST_A, levels.list(), values.list());
                 same(&format!("calls {calls:?}"), (due, due), (found, again))?;
                 if due > 0 {
@@ -1816,7 +1901,6 @@ fn check_changed(rng: &mut Rng, draft: &Draft) -> Result<Option<Plan>, String> {
     check_open(rng, &asked)?;
     check_plan(rng, &asked, &table, &plan)?;
     check_typed(&asked, &table, &plan)?;
-    check_replayed(rng, &asked, &plan)?;
     Ok(plan)
 }
 
@@ -2359,11 +2443,11 @@ fn check_large(rng: &mut Rng, size: &Size) -> Result<usize, String> {
     let plan = read_off(&asked.job, &asked.book, &table).ok_or("no plan".to_string())?;
     let start = asked.job.start_decoder * (asked.job.bucket_size + 1) + asked.job.start_bucket;
     let word = table[start as usize];
-    same("the table's word of the start", word as u64, totals_of(&asked, &plan)[0])?;
+    let distortion = totals_of(&asked, &plan).map(|totals| totals[0]);
+    same("the table's word of the start", Some(word as u64), distortion)?;
     check_open(rng, &asked)?;
-    check_plan(rng, &asked, &table, &Some(plan.clone()))?;
-    check_replay(rng, &asked, &plan)?;
     check_report(rng, &asked, &plan)?;
+    check_plan(rng, &asked, &table, &Some(plan))?;
     Ok(table.len())
 }
 
@@ -2388,6 +2472,7 @@ fn run_all(new_seed: u64, with_full: bool, examples: Option<&Path>) -> bool {
         print_group("kinds of calls", kinds_group()),
         print_group("decoder peaks", peaks_group()),
         print_group("every set of violations", violations_group()),
+        print_group("unused drain", unused_group()),
         print_group("limits", limits_group()),
         print_group("cuts at every byte", cuts_group()),
         print_group("limits of writing", write_limits_group()),
@@ -2410,6 +2495,7 @@ fn run_all(new_seed: u64, with_full: bool, examples: Option<&Path>) -> bool {
     seeded("replay and report", &[1, 2], replay_group);
     seeded("tiny jobs", &[1, 2, 3], tiny_group);
     seeded("tight jobs", &[1, 2], tight_group);
+    seeded("idle jobs", &[1, 2], idle_group);
     seeded("long sittings", &[1, 2], sittings_group);
     seeded("larger jobs", &[4], larger_group);
     if !small() {

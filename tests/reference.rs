@@ -232,19 +232,16 @@ pub fn by_peak(job: &Job, before: i64, sent: i64, taken: i64) -> Option<i64> {
     (peak <= job.decoder_size && level >= 0).then_some(level)
 }
 
-/// Rules that a program might follow by mistake. They are searched only to count
-/// the jobs that tell them from the rule.
-pub const MISTAKEN: [(&str, Decoder); 2] =
-    [("the size asked of the level alone", by_level), ("the peak cut down to the size", by_cut)];
+// ---------------------------------------------------------------------------
+// The bucket's step.
+// ---------------------------------------------------------------------------
 
-fn by_level(job: &Job, before: i64, sent: i64, taken: i64) -> Option<i64> {
-    let level = before + sent - taken;
-    (0..=job.decoder_size).contains(&level).then_some(level)
-}
-
-fn by_cut(job: &Job, before: i64, sent: i64, taken: i64) -> Option<i64> {
-    let level = (before + sent).min(job.decoder_size) - taken;
-    (level >= 0).then_some(level)
+/// The bucket's level after an interval and what this leaves unused of the drain,
+/// from the level before and what is sent. Its size is left to the caller.
+pub fn bucket_step(job: &Job, before: i64, sent: i64) -> (i64, i64) {
+    let level = (before + sent - job.drain).max(0);
+    let unused = (job.drain - before - sent).max(0);
+    (level, unused)
 }
 
 // ---------------------------------------------------------------------------
@@ -261,6 +258,14 @@ pub struct Totals {
     pub distortion: i64,
     pub source: i64,
     pub channel: i64,
+    pub unused: i64,
+}
+
+impl Totals {
+    /// In the order in which they are answered and printed.
+    pub fn numbers(&self) -> [i64; 4] {
+        [self.distortion, self.source, self.channel, self.unused]
+    }
 }
 
 /// Replays a plan; `None` at a breach. `see` is told both levels after each
@@ -286,12 +291,14 @@ pub fn replay(
             totals.distortion += job.units[unit - 1][choice].distortion;
         }
         decoder = by_peak(job, decoder, sent, taken)?;
-        bucket = (bucket + sent - job.drain).max(0);
-        if bucket > job.bucket_size {
+        let (filled, unused) = bucket_step(job, bucket, sent);
+        if filled > job.bucket_size {
             return None;
         }
+        bucket = filled;
         totals.source += taken;
         totals.channel += sent;
+        totals.unused += unused;
         see(decoder, bucket);
     }
     Some(totals)
@@ -366,7 +373,7 @@ pub fn dynamic_by(decoder_rule: Decoder, job: &Job, book: &Book) -> Option<Plan>
         let mut next: BTreeMap<(i64, i64), Branch> = BTreeMap::new();
         for ((decoder, bucket), branch) in &layer {
             for (rate, sent) in job.rates.iter().enumerate() {
-                let filled = (bucket + sent - job.drain).max(0);
+                let (filled, _) = bucket_step(job, *bucket, *sent);
                 if filled > job.bucket_size {
                     continue;
                 }
@@ -421,6 +428,87 @@ pub fn best_plan(job: &Job, book: &Book) -> Option<Plan> {
         enumerate(job, book).best
     } else {
         dynamic(job, book)
+    }
+}
+
+// ---------------------------------------------------------------------------
+// Rules that a program might follow by mistake.
+// ---------------------------------------------------------------------------
+
+/// Says of each mistaken rule, by its name, whether a job has another answer under
+/// it, only to count the jobs that tell it from the right one. The plan is the
+/// job's best, if there is one.
+pub type Mistakes = fn(&Job, &Book, Option<&Plan>) -> Vec<(&'static str, bool)>;
+
+/// The decoder's: another plan is best, or there is one where there is none.
+pub fn decoder_mistakes(job: &Job, book: &Book, plan: Option<&Plan>) -> Vec<(&'static str, bool)> {
+    let rules: [(&str, Decoder); 2] = [
+        ("the size asked of the level alone", by_level),
+        ("the peak cut down to the size", by_cut),
+    ];
+    rules.map(|(name, rule)| (name, dynamic_by(rule, job, book).as_ref() != plan)).to_vec()
+}
+
+fn by_level(job: &Job, before: i64, sent: i64, taken: i64) -> Option<i64> {
+    let level = before + sent - taken;
+    (0..=job.decoder_size).contains(&level).then_some(level)
+}
+
+fn by_cut(job: &Job, before: i64, sent: i64, taken: i64) -> Option<i64> {
+    let level = (before + sent).min(job.decoder_size) - taken;
+    (level >= 0).then_some(level)
+}
+
+/// The bucket's: the best plan has another sum of unused drain.
+pub fn unused_mistakes(job: &Job, book: &Book, plan: Option<&Plan>) -> Vec<(&'static str, bool)> {
+    // Of each interval the level before, what is sent, and the level after.
+    let mut steps = Vec::new();
+    let mut before = job.start_bucket;
+    let totals = plan.and_then(|plan| {
+        replay(job, book, plan, |_, after| {
+            steps.push((before, job.rates[plan[steps.len()].0], after));
+            before = after;
+        })
+    });
+    let unused = |before: i64, sent: i64| bucket_step(job, before, sent).1;
+    let due = || steps.iter().map(|&(before, sent, _)| unused(before, sent));
+    let but_last = steps.len().saturating_sub(1);
+    let sums: [(&str, i64); 6] = [
+        ("nothing counted", 0),
+        ("the first interval left out", due().skip(1).sum()),
+        ("the last interval left out", due().take(but_last).sum()),
+        ("draining before adding", steps.iter().map(|step| unused(step.0, 0)).sum()),
+        ("the level left out", steps.iter().map(|step| unused(0, step.1)).sum()),
+        ("the level after the interval", steps.iter().map(|step| unused(step.2, step.1)).sum()),
+    ];
+    sums.map(|(name, sum)| (name, totals.is_some_and(|totals| totals.unused != sum))).to_vec()
+}
+
+/// How many jobs tell the rule from each of the mistaken ones.
+pub struct Told {
+    mistakes: Mistakes,
+    counts: BTreeMap<&'static str, usize>,
+}
+
+impl Told {
+    pub fn new(mistakes: Mistakes) -> Told {
+        Told { mistakes, counts: BTreeMap::new() }
+    }
+
+    pub fn count(&mut self, job: &Job, book: &Book, plan: Option<&Plan>) {
+        for (name, told) in (self.mistakes)(job, book, plan) {
+            *self.counts.entry(name).or_default() += told as usize;
+        }
+    }
+
+    /// Whether each mistaken rule shows `times` times or more.
+    pub fn each(&self, times: usize) -> bool {
+        self.counts.values().all(|count| *count >= times)
+    }
+
+    pub fn show(&self) -> String {
+        let each = self.counts.iter().map(|(name, count)| format!("{name} {count}"));
+        format!("; told from {}", each.collect::<Vec<_>>().join(", "))
     }
 }
 
@@ -656,6 +744,75 @@ pub fn even_job(units: usize, levels: [u16; 6]) -> Draft {
     Draft::new(levels, &[1], &vec![vec![(1, 1)]; units])
 }
 
+/// A job that is sent as it is decoded: each unit takes just what its interval is
+/// to send, and nothing is to be sent in the delay. `levels`: delay, bucket size,
+/// drain, the bucket's starting level.
+pub fn sent_as_decoded(levels: [u16; 4], taken: &[u16]) -> Draft {
+    let [delay, bucket, drain, start] = levels;
+    let mut rates = [&[0][..], taken].concat();
+    rates.sort();
+    rates.dedup();
+    let units: Vec<_> = taken.iter().map(|&grains| vec![(grains, 1)]).collect();
+    let decoder = rates[rates.len() - 1];
+    Draft::new([delay, decoder, bucket, drain, 0, start], &rates, &units)
+}
+
+/// Jobs with the sum of their unused drain, worked out by hand.
+pub fn unused_by_hand() -> Vec<(String, Draft, i64)> {
+    // Each line: delay, bucket size, drain, the bucket's starting level; what is
+    // sent after the delay; how many times this is sent; what goes by unused.
+    let rows: [([u16; 4], &[u16], usize, i64); 28] = [
+        // No drain; the level is 5, 5, 9, or 0.
+        ([0, 9, 0, 3], &[2, 0, 4], 1, 0),
+        ([0, 0, 0, 0], &[0], 3, 0),
+        // A drain of just what is there and what is sent, of one more and of one
+        // less: both, only what is sent, only what is there, neither.
+        ([0, 9, 5, 3], &[2], 1, 0),
+        ([0, 9, 6, 3], &[2], 1, 1),
+        ([0, 9, 4, 3], &[2], 1, 0),
+        ([0, 9, 5, 0], &[5], 1, 0),
+        ([0, 9, 6, 0], &[5], 1, 1),
+        ([0, 9, 4, 0], &[5], 1, 0),
+        ([0, 9, 5, 5], &[0], 1, 0),
+        ([0, 9, 6, 5], &[0], 1, 1),
+        ([0, 9, 4, 5], &[0], 1, 0),
+        ([0, 9, 1, 0], &[0], 1, 1),
+        // It goes by in the first, the second or the last interval alone.
+        ([0, 2, 3, 0], &[0, 3, 3], 1, 3),
+        ([0, 2, 3, 0], &[3, 0, 3], 1, 3),
+        ([0, 2, 3, 0], &[3, 3, 0], 1, 3),
+        // All 4 go by, then 5 are left; or 2, then 1 are left, and 3 go by last.
+        ([0, 9, 4, 0], &[0, 9], 1, 4),
+        ([0, 9, 4, 0], &[6, 3, 0], 1, 3),
+        // The level is 5, 1, 0, 4, 0: the third interval drains 1 + 1, the last 4.
+        ([0, 9, 4, 0], &[9, 0, 1, 8, 0], 1, 2),
+        // The delay counts: 4, then 1 are there; then 3 are sent, then none.
+        ([2, 9, 3, 4], &[3, 0], 1, 2 + 3),
+        // A bucket that starts filled: 255, 155, 55 and 0 are there.
+        ([0, 255, 100, 255], &[0], 4, 45 + 100),
+        ([0, 255, 100, 255], &[0], 2, 0),
+        // The largest drain: all of it; all but what was there; all but that and
+        // what is sent.
+        ([0, 0, 4095, 0], &[0], 1, 4095),
+        ([64, 0, 4095, 0], &[0], 512, 576 * 4095),
+        ([0, 255, 4095, 255], &[0], 63, 63 * 4095 - 255),
+        ([0, 3, 4095, 3], &[255], 9, 9 * (4095 - 255) - 3),
+        // 512 units: 300 drain 5 or none; 4 drain 5, of which 1 is left, then 1; 4
+        // drain 4 of 5, again and again.
+        ([0, 0, 300, 0], &[5, 0], 256, 256 * (295 + 300)),
+        ([0, 4, 4, 0], &[5, 0], 256, 256 * 3),
+        ([0, 1, 4, 1], &[4], 512, 0),
+    ];
+    let case = |(levels, taken, times, unused): ([u16; 4], &[u16], usize, i64)| {
+        let [delay, bucket, drain, start] = levels;
+        let label = format!(
+            "delay {delay}, bucket {bucket} from {start}, drain {drain}, {times} times {taken:?}"
+        );
+        (label, sent_as_decoded(levels, &taken.repeat(times)), unused)
+    };
+    rows.map(case).to_vec()
+}
+
 /// Job A or an easy job, with one field set and the records to go with it.
 pub fn sized_draft(field: usize, value: u16) -> Draft {
     let count = value as usize;
@@ -813,6 +970,15 @@ pub const TIGHT: [Shape; 3] = [
         heavy: &[1000],
         commands: 3,
     },
+];
+
+/// The shapes of idle jobs, which are drawn as tight ones are: with decoders that
+/// hold every rate and most units, so that most jobs have a plan, and in its
+/// quieter intervals some of the drain goes by.
+pub const IDLE: [Shape; 3] = [
+    Shape { units: (2, 3), grains: 0, heavy: &[1000], commands: 1, ..TIGHT[0] },
+    Shape { choices: 4, grains: 0, commands: 1, ..TIGHT[1] },
+    Shape { decoder: 7, bucket: 5, choices: 3, grains: 0, commands: 1, ..TIGHT[2] },
 ];
 
 pub fn random_job(rng: &mut Rng, shape: &Shape) -> Draft {

@@ -13,6 +13,9 @@
 //! before the interval and what it sends, is at most the decoder's size and at
 //! least what the unit takes. A level is what is left after the unit.
 //!
+//! What an interval sends goes to the bucket too, which then loses the drain, or
+//! all that it has. Grains of the drain that find nothing there go by unused.
+//!
 //! [`write()`] makes the bytes of a job from its header and lists; [`open`],
 //! [`plan`], [`replay`] and [`report`] take these bytes and read them again.
 //! They fill lists that the caller lends; [`written`] and [`best_plan`] make
@@ -42,6 +45,9 @@
 //! let best = best_plan(&job, &[])?;
 //! assert_eq!(best.totals.distortion, 50);
 //! assert_eq!(best.entries, [0, 255, 2, 0, 1, 1]);
+//!
+//! // Interval 1 sends nothing, the bucket is empty, and the drain is 2.
+//! assert_eq!(best.totals.unused_grains, 2);
 //!
 //! let coarse = Call::Pin { unit: 1, choice: 1 };
 //! let best = best_plan(&job, &[coarse])?;
@@ -270,11 +276,17 @@ pub struct Totals {
     pub source_grains: u64,
     /// What the intervals send, in grains.
     pub channel_grains: u64,
+    /// What they leave of the drain, in grains: in each interval the larger of 0
+    /// and the drain less the bucket's level before it less what it sends. The
+    /// bucket's starting level + channel grains + unused grains = T × drain + its
+    /// last level.
+    pub unused_grains: u64,
 }
 
 impl Totals {
-    fn of(values: [u64; 3]) -> Totals {
-        Totals { distortion: values[0], source_grains: values[1], channel_grains: values[2] }
+    fn of(values: [u64; numbers::PLAN_VALUES]) -> Totals {
+        let [distortion, source_grains, channel_grains, unused_grains] = values;
+        Totals { distortion, source_grains, channel_grains, unused_grains }
     }
 }
 

@@ -15,13 +15,14 @@ pub const LIFT: u16 = 7;
 /// How many values [`open`] writes: the bytes that the job took, N, T, and the
 /// words of the table.
 pub const OPEN_VALUES: usize = 4;
-/// How many values [`plan`] writes: distortion, source grains, channel grains.
-pub const PLAN_VALUES: usize = 3;
+/// How many values [`plan`] writes: distortion, source grains, channel grains,
+/// unused grains.
+pub const PLAN_VALUES: usize = 4;
 /// How many values [`replay`] writes: 0 or the violation's number; its interval or
-/// 0; then distortion, source grains and channel grains, each 0 where there is a
-/// violation. The numbers are 1 for decoder short, 2 for decoder over, 3 for
-/// bucket over and 4 for a pin not held; decoder over is tested first.
-pub const REPLAY_VALUES: usize = 5;
+/// 0; then those of [`plan`], each 0 where there is a violation. The numbers are 1
+/// for decoder short, 2 for decoder over, 3 for bucket over and 4 for a pin not
+/// held; decoder over is tested first.
+pub const REPLAY_VALUES: usize = 6;
 /// How many values [`write()`] writes: the bytes that the job took.
 pub const WRITE_VALUES: usize = 1;
 
