@@ -1,4 +1,4 @@
--- The decoder's level is the effective buffer size less what the encoder holds: `EffectiveBuffers`.
+-- The decoder's level is the effective buffer size less what the encoder holds: `EffectiveBuffers`. One size from the one before it: `RunningBuffers`.
 -- Assumes nothing.
 use Prim.Native.Nat.{ℕ, zero, suc, _+_, _≤_}
 use mathlib.Core.Path.{_≡_, refl, sym, _∙_, ap}
@@ -8,7 +8,8 @@ use native.Mathlib.Omega.{arith}
 use lib.IntN.{ℤ, pos, _+ℤ_, _-ℤ_, +ℤ-assoc, +ℤ-comm, -ℤ-+ℤ-cancel, pos-+ℤ-pos}
 use Rattle.model.specs.Job.{Job, Entry, coding, takes, ChoiceFits, waits, decodes, PlanFits, ends, goes}
 use Rattle.model.specs.Levels.{sum, entryOf, sent, taken, decoderLevel, sentAfter, effectiveBuffer, unitsTaken}
-use Rattle.model.specs.Claims.{EffectiveBuffers}
+use Rattle.model.specs.Claims.{EffectiveBuffers, RunningBuffers}
+use Rattle.model.proofs.Sums.{sum-first}
 
 -- no unit is decoded up to the delay
 choice-waits : {j : Job} {t : ℕ} {c : Option ℕ} → t ≤ j .delay → ChoiceFits j t c → coding j t c .size ≡ 0
@@ -79,3 +80,14 @@ effective-buffers j p b i fits =
     ap (λ (n : ℕ). decoderLevel j 0 p b (i + j .delay) +ℤ pos n) (sym (units-to j p fits i))
     ∙ level-sum j p b (i + j .delay)
     ∙ ap pos (ap (λ (n : ℕ). b + n) (sent-split j p i (j .delay)) ∙ omega arith)
+
+-- a window and the number behind it, or the number before it and the next window
+window-next : (j : Job) (p : List Entry) (i n : ℕ) → sentAfter j p i n + sent j p (i + n + 1) ≡ sent j p (i + 1) + sentAfter j p (i + 1) n
+unfolding sum sentAfter
+window-next j p i n =
+    let e : i + n + 1 ≡ i + suc n = omega arith in
+    rw e (sum-first (λ k. sent j p (i + k)) (λ k. sent j p (i + 1 + k)) (λ k. ap (sent j p) (omega arith)) n)
+
+pub running-buffers : RunningBuffers
+unfolding effectiveBuffer
+running-buffers j p i = let e = window-next j p i (j .delay) in record { leaves = omega arith; next = omega arith }

@@ -21,14 +21,18 @@ codes g d = record { size = g; distortion = d }
 abbrev filled : ℕ → ℕ → Levels
 filled b l = record { decoder = b; buckets = l ∷ [] }
 
-abbrev job-a : Job
-job-a = record {
-  delay = 1;
+-- Job A with another delay
+abbrev delayed : ℕ → Job
+delayed d = record {
+  delay = d;
   line = record { decoder = 4; buckets = record { size = 3; drain = 2 } ∷ []; rates = 0 ∷ 2 ∷ 4 ∷ [] };
   start = filled 0 0;
   choices = 2;
   units = (codes 4 10 ∷ codes 2 30 ∷ []) ∷ (codes 5 12 ∷ codes 2 40 ∷ []) ∷ [];
 }
+
+abbrev job-a : Job
+job-a = delayed 1
 
 -- three entries, of which the first decodes nothing
 abbrev plan : ℕ → ℕ → ℕ → ℕ → ℕ → List Entry
@@ -72,6 +76,18 @@ former-levels = refl
 former-buffers : effectiveBuffers job-a (plan 1 1 1 2 0) ≡ 2 ∷ 2 ∷ 4 ∷ []
 unfolding evaluate
 former-buffers = refl
+
+-- with delay 2, of a plan that sends 2, 4, 0, 2; with delay 0, whatever is sent
+abbrev sends-at : ℕ → Entry
+sends-at y = record { rate = y; choice = none }
+
+long-buffers : effectiveBuffers (delayed 2) (sends-at 1 ∷ sends-at 2 ∷ sends-at 0 ∷ sends-at 1 ∷ []) ≡ 6 ∷ 4 ∷ 2 ∷ []
+unfolding evaluate
+long-buffers = refl
+
+no-buffers : effectiveBuffers (delayed 0) (sends-at 1 ∷ sends-at 2 ∷ []) ≡ 0 ∷ 0 ∷ 0 ∷ []
+unfolding evaluate
+no-buffers = refl
 
 printed-words : words job-a ≡ 80
 unfolding evaluate

@@ -1,7 +1,7 @@
 -- What is claimed of the definitions: each claim is a type, which a theorem of proofs/ inhabits. `Admissible` knows neither replay nor search.
 -- A plan here is the entries of the intervals after interval s, from the levels `start` there; s is 0 for a whole job.
 -- Assumes nothing.
-use Prim.Native.Nat.{ℕ, suc, _+_, _*_, _<_, _≤_}
+use Prim.Native.Nat.{ℕ, suc, _+_, _*_, _-_, _<_, _≤_}
 use mathlib.Core.Path.{_≡_}
 use mathlib.Core.Logic.{_↔_, _⊎_}
 use mathlib.Core.Option.{none, some}
@@ -38,6 +38,11 @@ pub record BucketClaim (drain l c : ℕ) : Type 0 where
   pub balance : l + c + bucket-step drain l c .unused ≡ drain + bucket-step drain l c .level
   -- drain goes unused only where the bucket is left empty
   pub either : (bucket-step drain l c .level ≡ 0) ⊎ (bucket-step drain l c .unused ≡ 0)
+
+-- from one effective buffer size to the next: C(i + d + 1) arrives and C(i + 1), which is in the sum, leaves
+pub record RunningClaim (j : Job) (p : List Entry) (i : ℕ) : Type 0 where
+  pub leaves : sent j p (i + 1) ≤ effectiveBuffer j p i + sent j p (i + j .delay + 1)
+  pub next : effectiveBuffer j p (i + 1) ≡ (effectiveBuffer j p i + sent j p (i + j .delay + 1)) - sent j p (i + 1)
 
 module _ (j : Job) (m : PinMap) (s : ℕ) (start : Levels) where
   -- r is the replay of p: the levels that it writes are those of (16) and (17)
@@ -106,6 +111,10 @@ ReplayBalance = (j : Job) (m : PinMap) (s : ℕ) (start : Levels) (p : List Entr
 -- Written as sums, from a starting level b: B(i + d) + R(1) + ... + R(i) = b + C(1) + ... + C(i) + the effective buffer size
 abbrev pub EffectiveBuffers : Type 0
 EffectiveBuffers = (j : Job) (p : List Entry) (b i : ℕ) → PlanFits j 0 p → decoderLevel j 0 p b (i + j .delay) +ℤ pos (unitsTaken j p i) ≡ pos (b + sentAfter j p 0 i + effectiveBuffer j p i)
+
+-- E4, for every delay, 0 included
+abbrev pub RunningBuffers : Type 0
+RunningBuffers = (j : Job) (p : List Entry) (i : ℕ) → RunningClaim j p i
 
 -- demand 3, of the definitions
 abbrev pub Planning : Type 0

@@ -1,16 +1,19 @@
 -- The sums of the effective buffer report, one rate and one sum after another.
 -- Assumes nothing.
-use Prim.Native.Nat.{ℕ, zero, suc, _+_, _<_}
-use mathlib.Core.Path.{_≡_}
+use Prim.Native.Nat.{ℕ, zero, suc, _+_, _*_, _-_, _<_, _≤_}
+use mathlib.Core.Path.{_≡_, sym, _∙_, ap}
 use mathlib.Core.List.{List, _++_}
+use native.Mathlib.Decide.{decLt}
 use native.Mathlib.Numerals.{add-one}
 use native.Mathlib.Omega.{arith}
-use lib.ListN.{length, getD, drop}
-use Rattle.model.specs.Job.{Job, Entry, intervals}
+use lib.ListN.{length, getD, drop, List·getD-eq-default}
+use Rattle.model.specs.Job.{Job, Entry, intervals, sends}
 use Rattle.model.specs.Levels.{sum, no-entry, entryOf, sent, sentAfter, effectiveBuffer, build, effectiveBuffers}
 use Rattle.model.proofs.Builds.{build-length}
+use Rattle.model.proofs.Buffers.{running-buffers}
 use Rattle.format.specs.JobBytes.{Header, job-in}
 use Rattle.format.specs.Places.{rate-at}
+use Rattle.format.specs.Claims.{InLimits}
 use Rattle.format.proofs.Opened.{intervals-are}
 use Rattle.replaying.specs.Entries.{rate-byte, entry-at, plan-from, plan-of}
 use Rattle.model.specs.Lent.{over}
@@ -23,14 +26,54 @@ plan-at entries i zero k h = absurd (omega arith)
 plan-at entries i (suc n) zero h = let e : i + 0 ≡ i = omega arith in rw e
 plan-at entries i (suc n) (suc k) h = let e : i + suc k ≡ suc i + k = omega arith in rw e (plan-at entries (suc i) n k (omega arith))
 
-module _ (b : List ℕ) (h : Header) (entries : List ℕ) (s : Shaped b h entries) where
-  -- one rate more
-  pub sum-more : (i n : ℕ) → i + n < h .units + h .delay → (x : ℕ) → x ≡ sentAfter (job-in b) (plan-of (job-in b) entries) i n → x + rate-at b (rate-byte entries (i + n)) ≡ sentAfter (job-in b) (plan-of (job-in b) entries) i (n + 1)
-  unfolding sum sentAfter sent entryOf plan-of
-  sum-more i n l x e =
-      let k : i + suc n ≡ suc (i + n) = omega arith in
-      let z : 0 + (i + n) ≡ i + n = omega arith in
-      rw (add-one n, k, plan-at entries 0 (intervals (job-in b)) (i + n) (omega (arith, intervals-are b h (s .opens))), z, ← sent-is b h entries s (i + n) l, e)
+-- the rate that was read is what the interval sends
+pub sent-read : (b : List ℕ) (h : Header) (entries : List ℕ) (s : Shaped b h entries) (i : ℕ) → i < h .units + h .delay → rate-at b (rate-byte entries i) ≡ sent (job-in b) (plan-of (job-in b) entries) (i + 1)
+unfolding sent entryOf plan-of
+sent-read b h entries s i l =
+    let z : 0 + i ≡ i = omega arith in
+    rw (add-one i, plan-at entries 0 (intervals (job-in b)) i (omega (arith, intervals-are b h (s .opens))), z) (sent-is b h entries s i l)
+
+-- a rate, and a window of rates, within document 01's limits
+module _ (j : Job) (limits : InLimits j) (p : List Entry) where
+  sends-most : (e : Entry) → sends j e ≤ 4095
+  unfolding sends
+  sends-most e = go (decLt (e .rate) (length (j .line .rates)))
+    where
+      go : Dec (e .rate < length (j .line .rates)) → getD (j .line .rates) (e .rate) 0 ≤ 4095
+      go (yes h) = limits .rate (e .rate) h
+      go (no h) = let k : length (j .line .rates) ≤ e .rate = omega arith in rw (List·getD-eq-default (j .line .rates) 0 k) (omega arith)
+
+  pub sent-most : (n : ℕ) → sent j p n ≤ 4095
+  unfolding sent
+  sent-most n = sends-most (entryOf p n)
+
+  pub window-most : (i n : ℕ) → sentAfter j p i n ≤ n * 4095
+  unfolding sum sentAfter
+  window-most i zero = omega arith
+  window-most i (suc n) = omega (arith, window-most i n, sent-most (i + suc n))
+
+-- one rate more
+pub window-more : (j : Job) (p : List Entry) (n : ℕ) → sentAfter j p 0 n + sent j p (n + 1) ≡ sentAfter j p 0 (n + 1)
+unfolding sum sentAfter
+window-more j p n = let z : 0 + suc n ≡ suc n = omega arith in rw (add-one n, z)
+
+-- one sum from the one before it: x is the sum for i, a the rate that arrives and l the one that leaves
+module _ (j : Job) (p : List Entry) (i d x a l : ℕ) (delay : j .delay ≡ d) (sum-is : x ≡ effectiveBuffer j p i) (arrives : a ≡ sent j p (i + d + 1)) (leaves : l ≡ sent j p (i + 1)) where
+  here : (l ≤ x + a) × ((x + a) - l ≡ effectiveBuffer j p (i + 1))
+  here =
+      let r = running-buffers j p i in
+      let e : sent j p (i + j .delay + 1) ≡ a = ap (λ (n : ℕ). sent j p (i + n + 1)) delay ∙ sym arrives in
+      (omega (arith, r .leaves), omega (arith, r .next))
+
+  pub next-sum : (x + a) - l ≡ effectiveBuffer j p (i + 1)
+  next-sum = here .1
+
+  pub leaves-less : l ≤ x + a
+  leaves-less = here .0
+
+  pub sum-small : InLimits j → d ≤ 576 → x + a ≤ 2400000
+  unfolding effectiveBuffer
+  sum-small k few = omega (arith, window-most j k p i (j .delay), sent-most j k p (i + d + 1))
 
 -- all sums
 pub sums-end : (j : Job) (p : List Entry) (l : List ℕ) (i : ℕ) → i ≡ suc (length (j .units)) → build i (effectiveBuffer j p) ++ drop i l ≡ over (effectiveBuffers j p) l

@@ -7,7 +7,7 @@ ghost use mathlib.Core.List.{[], _∷_};
 ghost use Prim.Native.Nat.{_+_, _*_, _<_, _≤_};
 ghost use lib.ListN.{length, set};
 ghost use Rattle.model.specs.Step.{decoder-step, bucket-step, pin-held, outcome-of};
-ghost use Rattle.model.specs.Levels.{sentAfter, effectiveBuffers};
+ghost use Rattle.model.specs.Levels.{sent, effectiveBuffer, effectiveBuffers};
 ghost use Rattle.format.specs.Choices.{choice-of};
 ghost use Rattle.format.specs.JobBytes.{job-in};
 ghost use Rattle.job.specs.Answers.{plain};
@@ -110,6 +110,7 @@ pub fn decoder_step(size: u16, level: u16, sent: u16, taken: u16) -> Decoded
 pub fn bucket_step(drain: u16, level: u16, sent: u16) -> Drained
     ensures { λ r. ⌜ drained r ≡ bucket-step drain level sent ⌝ }
 {
+    // what it held, what came, and the most that leaves
     let held = level as u32;
     let came = sent as u32;
     let most = drain as u32;
@@ -337,30 +338,45 @@ pub fn replay(job: &[u8], set: PinSet, entries: &[u8], levels: &mut [u16]) -> Re
     }
 }
 
-// What the intervals in `count` places from this one on send.
-fn sent_after(job: &[u8], header: Header, entries: &[u8], place: usize, count: usize) -> u32
-    requires { ⌜ Shaped (now job) (plain header) (now entries) × (place + count ≤ header .units + header .delay) ⌝ }
-    ensures { λ r. ⌜ r ≡ sentAfter (job-in (now (job .entry))) (plan-of (job-in (now (job .entry))) (now (entries .entry))) place count ⌝ }
+// What a plan in shape sends in the interval of this place.
+fn sent_at(job: &[u8], header: Header, entries: &[u8], place: usize) -> u32
+    requires { ⌜ Shaped (now job) (plain header) (now entries) × (place < header .units + header .delay) ⌝ }
+    ensures { λ r. ⌜ r ≡ sent (job-in (now (job .entry))) (plan-of (job-in (now (job .entry))) (now (entries .entry))) (place + 1) ⌝ }
 {
+    let at = ENTRY * place;
+    job::rate_at(job, entries[at] as u16) as u32
+}
+
+// What the first intervals send, so many as the delay has: (6) for i = 0.
+fn first_sum(job: &[u8], header: Header, entries: &[u8]) -> u32
+    requires { ⌜ Shaped (now job) (plain header) (now entries) ⌝ }
+    ensures { λ r. ⌜ r ≡ effectiveBuffer (job-in (now (job .entry))) (plan-of (job-in (now (job .entry))) (now (entries .entry))) 0 ⌝ }
+{
+    let delay = header.delay as usize;
     let mut sum = 0;
-    for k in 0..count {
-        let at = ENTRY * (place + k);
-        sum += job::rate_at(job, entries[at] as u16) as u32;
+    for place in 0..delay {
+        sum += sent_at(job, header, entries, place);
     }
     sum
 }
 
-// Writes the sums of (6) for i from 0 to N.
+// Writes the sums of (6) for i from 0 to N. Each follows from the one before it, so that a long delay costs no more than a short one: the rate that arrives is added, and the rate that leaves is taken off.
 fn put_sums(job: &[u8], header: Header, entries: &[u8], sums: &mut [u32])
     requires { ⌜ Sums (now job) (plain header) (now entries) (now sums) ⌝ }
     ensures { λ _. ⌜ now (sums .exit) ≡ over (effectiveBuffers (job-in (now (job .entry))) (plan-of (job-in (now (job .entry))) (now (entries .entry)))) (now (sums .entry)) ⌝ }
 {
     let units = header.units as usize;
     let delay = header.delay as usize;
-    let count = units + 1;
-    for i in 0..count {
-        sums[i] = sent_after(job, header, entries, i, delay);
+    let mut sum = first_sum(job, header, entries);
+    for i in 0..units {
+        sums[i] = sum;
+        let next = i + delay;
+        let arrives = sent_at(job, header, entries, next);
+        let leaves = sent_at(job, header, entries, i);
+        // added first, so that the sum does not fall below 0 between the two
+        sum = sum + arrives - leaves;
     }
+    sums[units] = sum;
 }
 
 // The effective buffer sizes of a plan, document 004 (6): to `sums` go, for i from 0 to N, what the d intervals after interval i send.
