@@ -271,9 +271,11 @@ fn plain_report(job: &[u8], entries: &[u8], sums: &mut [u32]) -> Option<()> {
     if !plain_shape(&read, entries) {
         return None;
     }
-    for (i, sum) in sums[..=read.header[0]].iter_mut().enumerate() {
-        let sent = |t: usize| read.rate(entries[2 * t] as usize) as u32;
-        *sum = (i..i + read.header[1]).map(sent).sum();
+    let [units, delay, ..] = read.header;
+    let sent = |t: usize| read.rate(entries[2 * t] as usize) as u32;
+    sums[0] = (0..delay).map(sent).sum();
+    for i in 0..units {
+        sums[i + 1] = sums[i] + sent(i + delay) - sent(i);
     }
     Some(())
 }
@@ -631,30 +633,31 @@ fn other_tables() {
         table.add(line(format!("{} intervals", size.intervals()), job.len() as f64, times));
     }
 
-    let mut table = Table::new("report, the job's reading included", "step");
+    let mut table = Table::new("report, the job's reading included", "byte");
     for part in [64, 8, 1] {
         let size = FULL.part(part);
-        table.add(time_report(&size));
+        let job = job_of(&size);
+        let name = format!("{} units, delay {}", size.units, size.delay);
+        table.add(line(name, job.len() as f64, time_report(&size, &job)));
     }
-    let mut table = Table::new("report by delay: 512 units, one rate, one choice", "step");
-    for delay in [0, 1, 16, 64] {
-        table.add(time_report(&Size { delay, rates: 1, choices: 1, ..FULL }));
+    let mut table = Table::new("report, by delay: 512 units, four rates, one choice", "unit");
+    for delay in [0, 1, 8, 64] {
+        let size = Size { delay, rates: 4, choices: 1, ..FULL };
+        let times = time_report(&size, &job_of(&size));
+        table.add(line(format!("delay {delay}"), size.units as f64, times));
     }
 }
 
-fn time_report(size: &Size) -> Line {
-    let job = job_of(size);
+fn time_report(size: &Size, job: &[u8]) -> [f64; 2] {
     let entries = some_entries(size);
     let mut sums = [vec![0; size.units + 1], vec![0; size.units + 1]];
     let [our_sums, plain_sums] = &mut sums;
     let times = short_in_turn(
-        || upload_planner::report(&job, &entries, our_sums).unwrap(),
-        || plain_report(&job, black_box(&entries), plain_sums).unwrap(),
+        || upload_planner::report(job, &entries, our_sums).unwrap(),
+        || plain_report(job, black_box(&entries), plain_sums).unwrap(),
     );
     assert!(sums[0] == sums[1], "the sums differ");
-    // Choices to read and rates to add up.
-    let steps = size.units * size.choices + (size.units + 1) * size.delay;
-    line(format!("{} units, delay {}", size.units, size.delay), steps as f64, times)
+    times
 }
 
 fn main() {

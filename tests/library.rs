@@ -1,7 +1,8 @@
 //! Checks the library through the crate `upload_planner`: what each function
 //! answers, every number it writes, and that it writes no other. What is due is
 //! worked out here and in `reference.rs`, straight from the product's paper. Of
-//! every clean replay the bucket's balance is asked besides.
+//! every clean replay the bucket's balance is asked besides, and of the report
+//! that a long delay takes little more time than a short one.
 //!
 //! Build and run, where DIR holds libupload.a:
 //!
@@ -15,16 +16,17 @@
 //!
 //! SEED repeats the run whose new seed was SEED; without it the clock gives
 //! one. `--no-full` leaves out the one job of the largest size, which takes most
-//! of the time. `--small` keeps to few and small jobs and lends every list as a
-//! piece of memory of its own, for runs that watch each access to memory.
-//! `--examples` adds a group: the job of each X.bin in DIR is written again, and
-//! planned with one distortion changed.
+//! of the time. `--small` keeps to few and small jobs, takes no times and lends
+//! every list as a piece of memory of its own, for runs that watch each access to
+//! memory. `--examples` adds a group: the job of each X.bin in DIR is written
+//! again, and planned with one distortion changed.
 
 use std::collections::BTreeMap;
 use std::fmt::Debug;
 use std::path::{Path, PathBuf};
 use std::process::ExitCode;
 use std::sync::atomic::{AtomicBool, Ordering};
+use std::time::{Duration, Instant};
 
 use upload_planner::{numbers, Call, Header, Replayed, Totals, Violation};
 
@@ -641,10 +643,14 @@ fn typed_replay([kind, interval, totals @ ..]: [u64; REPLAY_VALUES]) -> Replayed
     Replayed::Breach { violation, interval: interval as usize }
 }
 
-fn check_report(rng: &mut Rng, asked: &Asked, plan: &Plan) -> Checked {
-    let job = &asked.job;
+/// For i from 0 to N what intervals i + 1 to i + d send, each sum added anew.
+fn effective_buffers(job: &Job, plan: &Plan) -> Vec<u32> {
     let sum = |i: usize| (i + 1..=i + job.delay).map(|t| job.rates[plan[t - 1].0] as u32).sum();
-    let due: Vec<u32> = (0..=job.units.len()).map(sum).collect();
+    (0..=job.units.len()).map(sum).collect()
+}
+
+fn check_report(rng: &mut Rng, asked: &Asked, plan: &Plan) -> Checked {
+    let due = effective_buffers(&asked.job, plan);
     let room = due.len() + rng.from(0, 4);
     let mut sums = Lent::new(rng, room);
     same("report", 0, numbers::report(&asked.bytes, &plan_bytes(plan), sums.list()))?;
@@ -779,6 +785,143 @@ fn misshapen(rng: &mut Rng, job: &Job, mut entries: Vec<u8>) -> (Vec<u8>, &'stat
     };
     entries.shrink_to_fit();
     (entries, how)
+}
+
+// ---------------------------------------------------------------------------
+// The report's delay.
+// ---------------------------------------------------------------------------
+
+/// A job and a plan for it that sends these grains, interval by interval.
+fn sending(delay: usize, sent: &[u16]) -> (Draft, Plan) {
+    let mut rates = sent.to_vec();
+    rates.sort();
+    rates.dedup();
+    let units = vec![vec![(0, 0)]; sent.len() - delay];
+    let entry = |(t, rate): (usize, &u16)| {
+        let index = rates.iter().position(|listed| listed == rate).expect("a rate");
+        (index, if t < delay { NO_CHOICE } else { 0 })
+    };
+    let plan = sent.iter().enumerate().map(entry).collect();
+    (Draft::new([delay as u16, 0, 0, 0, 0, 0], &rates, &units), plan)
+}
+
+/// Effective buffers by hand.
+fn report_group() -> Result<String, String> {
+    let mut rng = Rng(1);
+    // Each line: the delay, what each interval sends, the sums.
+    let rows: [(usize, Vec<u16>, Vec<u32>); 16] = [
+        // Sums of no interval, and of one.
+        (0, vec![4095], vec![0; 2]),
+        (0, vec![7, 0, 4095], vec![0; 4]),
+        (0, vec![4095; 512], vec![0; 513]),
+        (1, vec![3, 8], vec![3, 8]),
+        (1, vec![5, 0, 4095, 2], vec![5, 0, 4095, 2]),
+        // Each interval in a digit of its own; rates that rise and fall.
+        (2, vec![1, 10, 100, 1000, 4000], vec![11, 110, 1100, 5000]),
+        (3, vec![1, 20, 300, 20, 1, 300, 4000, 0], vec![321, 340, 321, 321, 4301, 4300]),
+        // More intervals in the delay than units.
+        (4, vec![1, 2, 4, 8, 16], vec![15, 30]),
+        (8, (1..=10).collect(), vec![36, 44, 52]),
+        (64, [vec![4095], vec![0; 64]].concat(), vec![4095, 0]),
+        (64, [vec![0; 64], vec![4095]].concat(), vec![0, 4095]),
+        // 15, 16 and 17 times 4,095: past sixteen bits, and back.
+        (17, [vec![0; 2], vec![4095; 17]].concat(), vec![61_425, 65_520, 69_615]),
+        (17, [vec![4095; 17], vec![0; 2]].concat(), vec![69_615, 65_520, 61_425]),
+        // 512 units. The first interval and the last send, or interval 100 alone,
+        // which counts for i from 36 to 99; or all do, and the sums are the largest.
+        (8, [vec![9], vec![0; 518], vec![7]].concat(), [vec![9], vec![0; 511], vec![7]].concat()),
+        (
+            64,
+            [vec![0; 99], vec![4095], vec![0; 476]].concat(),
+            [vec![0; 36], vec![4095; 64], vec![0; 413]].concat(),
+        ),
+        (64, vec![4095; 576], vec![262_080; 513]),
+    ];
+    for (row, (delay, sent, due)) in (1..).zip(&rows) {
+        let (draft, plan) = sending(*delay, sent);
+        let asked = Asked::new(&mut rng, &draft);
+        let what = format!("line {row}, delay {delay}, {} units", asked.job.units.len());
+        same(&what, due, &effective_buffers(&asked.job, &plan))?;
+        check_report(&mut rng, &asked, &plan).map_err(|trouble| format!("{what}: {trouble}"))?;
+    }
+    Ok(format!("{} jobs by hand", rows.len()))
+}
+
+/// Every delay, with few units, with about as many as it has intervals, and with
+/// as many as a job may have. The rates jump between 0 and 4,095.
+fn delays_group() -> Result<String, String> {
+    let mut rng = Rng(1);
+    let (mut jobs, mut wide, mut more, mut less) = (0, 0, 0, 0);
+    for delay in (0..=64).step_by(if small() { 8 } else { 1 }) {
+        for units in [1, 2, delay.max(2) - 1, delay.max(1), delay + 1, 512] {
+            let (count, choices) = (rng.from(2, 16), rng.from(1, 3));
+            let mut rates = rng.rising(count, 4095);
+            (rates[0], rates[count - 1]) = (0, 4095);
+            let units = vec![vec![(0, 0); choices]; units];
+            let draft = Draft::new([delay as u16, 0, 0, 0, 0, 0], &rates, &units);
+            let asked = Asked::new(&mut rng, &draft);
+            let entry = |t| random_entry(&mut rng, &asked.job, t);
+            let plan: Plan = (1..=asked.intervals()).map(entry).collect();
+            check_report(&mut rng, &asked, &plan).map_err(|trouble| {
+                format!("delay {delay}: {trouble}\n  plan {plan:?}\n  {}", asked.show())
+            })?;
+            let sums = effective_buffers(&asked.job, &plan);
+            jobs += 1;
+            wide += sums.iter().filter(|sum| **sum > 65_535).count();
+            more += sums.windows(2).filter(|two| two[0] < two[1]).count();
+            less += sums.windows(2).filter(|two| two[0] > two[1]).count();
+        }
+    }
+    let counts = format!(
+        "{jobs} jobs, {wide} sums over 65,535, {more} more than the one before, {less} less"
+    );
+    ensure!([wide, more, less].iter().all(|count| *count > jobs), "too little in it: {counts}");
+    Ok(counts)
+}
+
+/// With 512 units, one rate and one choice, a delay of 64 takes at most twice the
+/// time of a delay of 1.
+fn long_delays_group() -> Result<String, String> {
+    // What else runs on the machine only adds time, so the least of many rounds is
+    // close to the time of the calls alone. Rounds are short, so that most of them
+    // are not broken into; the delays take turns, so that a slower clock slows both
+    // alike. If the first rounds do not show it, more of them may.
+    const CALLS: u32 = 20;
+    const ROUNDS: usize = 2000;
+    const MOST_ROUNDS: usize = 10_000;
+
+    let mut rng = Rng(1);
+    let mut jobs = Vec::new();
+    for delay in [1, 64] {
+        let (draft, plan) = sending(delay, &vec![4095; 512 + delay]);
+        let asked = Asked::new(&mut rng, &draft);
+        check_report(&mut rng, &asked, &plan)
+            .map_err(|trouble| format!("delay {delay}: {trouble}"))?;
+        jobs.push((asked.bytes, plan_bytes(&plan)));
+    }
+    if small() {
+        return Ok("2 jobs, no times".to_string());
+    }
+    let mut sums = vec![0; 513];
+    let mut least = [Duration::MAX; 2];
+    let mut rounds = 0;
+    while rounds < ROUNDS || (rounds < MOST_ROUNDS && least[1] > 2 * least[0]) {
+        for ((job, entries), best) in jobs.iter().zip(&mut least) {
+            let start = Instant::now();
+            for _ in 0..CALLS {
+                same("report", 0, numbers::report(job, entries, &mut sums))?;
+            }
+            *best = start.elapsed().min(*best);
+        }
+        rounds += 1;
+    }
+    let [short, long] = least.map(|time| time.as_secs_f64() * 1e6 / CALLS as f64);
+    let times = format!(
+        "delay 1 takes {short:.2} us, delay 64 {long:.2} us, {:.2} times as long; {rounds} rounds",
+        long / short
+    );
+    ensure!(least[1] <= 2 * least[0], "more than twice as long: {times}");
+    Ok(times)
 }
 
 // ---------------------------------------------------------------------------
@@ -2473,6 +2616,9 @@ fn run_all(new_seed: u64, with_full: bool, examples: Option<&Path>) -> bool {
         print_group("decoder peaks", peaks_group()),
         print_group("every set of violations", violations_group()),
         print_group("unused drain", unused_group()),
+        print_group("report by hand", report_group()),
+        print_group("every delay in the report", delays_group()),
+        print_group("long delays in the report", long_delays_group()),
         print_group("limits", limits_group()),
         print_group("cuts at every byte", cuts_group()),
         print_group("limits of writing", write_limits_group()),
