@@ -44,6 +44,10 @@ pub record RunningClaim (j : Job) (p : List Entry) (i : ℕ) : Type 0 where
   pub leaves : sent j p (i + 1) ≤ effectiveBuffer j p i + sent j p (i + j .delay + 1)
   pub next : effectiveBuffer j p (i + 1) ≡ (effectiveBuffer j p i + sent j p (i + j .delay + 1)) - sent j p (i + 1)
 
+-- of each bucket, and a replay r of the plan p without a violation: starting level + channel total + unused total = intervals × drain + last level
+pub record BalanceClaim (j : Job) (s : ℕ) (start : Levels) (p : List Entry) (r : Replay) : Type 0 where
+  pub balance : (i : ℕ) → i < length (j .line .buckets) → getD (start .buckets) i 0 + totals j s start p .channel + getD (totals j s start p .unused) i 0 ≡ length p * bucketAt (j .line .buckets) i .drain + getD (last-levels start (r .levels) .buckets) i 0
+
 module _ (j : Job) (m : PinMap) (s : ℕ) (start : Levels) where
   -- r is the replay of p: the levels that it writes are those of (16) and (17)
   pub record ReplayClaim (p : List Entry) (r : Replay) : Type 0 where
@@ -56,10 +60,6 @@ module _ (j : Job) (m : PinMap) (s : ℕ) (start : Levels) where
     -- it stops and names an interval and a violation exactly where these are the first, and has written the levels of the intervals before
     pub stopped-iff : (n : ℕ) (v : Violation) → (r .result ≡ stopped (s + suc n) v) ↔ FirstViolation j m s start p n v
     pub stopped-after : (t : ℕ) (v : Violation) → r .result ≡ stopped t v → t ≡ s + suc (length (r .levels))
-
-  -- E3, of each bucket and a replay r of p without a violation: starting level + channel total + unused total = intervals × drain + last level
-  pub record BalanceClaim (p : List Entry) (r : Replay) : Type 0 where
-    pub balance : (i : ℕ) → i < length (j .line .buckets) → getD (start .buckets) i 0 + totals j s start p .channel + getD (totals j s start p .unused) i 0 ≡ length p * bucketAt (j .line .buckets) i .drain + getD (last-levels start (r .levels) .buckets) i 0
 
   -- the least total is none exactly where no plan is admissible; else it is the distortion of `best-plan`, which is the best of the admissible plans
   pub record PlanningClaim (o : Order) : Type 0 where
@@ -105,7 +105,7 @@ DrainBalance = (j : Job) (s : ℕ) (p : List Entry) (k : Bucket) (l n : ℕ) →
 
 -- E3, of a replay
 abbrev pub ReplayBalance : Type 0
-ReplayBalance = (j : Job) (m : PinMap) (s : ℕ) (start : Levels) (p : List Entry) → length (start .buckets) ≡ length (j .line .buckets) → replay j m s start p .result ≡ clean → BalanceClaim j m s start p (replay j m s start p)
+ReplayBalance = (j : Job) (m : PinMap) (s : ℕ) (start : Levels) (p : List Entry) → length (start .buckets) ≡ length (j .line .buckets) → replay j m s start p .result ≡ clean → BalanceClaim j s start p (replay j m s start p)
 
 -- (5): B(i + d) is the effective buffer size less what the encoder holds, which by (3) is what the first i units take less what the first i intervals send.
 -- Written as sums, from a starting level b: B(i + d) + R(1) + ... + R(i) = b + C(1) + ... + C(i) + the effective buffer size

@@ -16,11 +16,11 @@ pub record Totals : Type 0 where
   pub channel : ℕ
   pub unused : List ℕ
 
--- of the entries of the intervals after s
+-- the total distortion of a plan for the intervals after s
 unfoldable pub total-distortion : Job → ℕ → List Entry → ℕ
 total-distortion j s p = sum (distorted j s p) (length p)
 
--- and from the levels there
+-- its totals, from the levels `start` after interval s
 unfoldable pub totals : Job → ℕ → Levels → List Entry → Totals
 totals j s start p = record {
   distortion = total-distortion j s p;
