@@ -1,17 +1,20 @@
--- What a well-formed job's values keep to, index by index: `Limited`.
+-- What a well-formed job's values keep to, index by index, and that a job which keeps to it is well formed: `Limited` and `OpensExactly`.
 -- Assumes nothing.
 use Prim.Native.Nat.{ℕ, zero, suc, _+_, _-_, _≤_, _<_}
+use mathlib.Core.Path.{_≡_, sym, _∙_, ap}
 use mathlib.Core.Option.{Option, none, some}
-use mathlib.Core.List.{List, [], _∷_}
+use mathlib.Core.List.{List, [], _∷_, _++_}
 use native.Mathlib.Omega.{arith}
-use lib.ListN.{length, getD}
+use lib.ListN.{length, getD, drop, take-append-drop}
+use lib.Seq.{length-take-le}
 use Rattle.model.specs.Job.{Coding, Job, intervals, nothing, codingAt, coding, ChoiceFits, waits, decodes}
 use Rattle.model.specs.Table.{Bounded}
 use Rattle.format.specs.Limits.{AllKept}
-use Rattle.format.specs.Parser.{Each}
+use Rattle.format.specs.Parser.{took, Each}
 use Rattle.format.specs.Parser as P
-use Rattle.format.specs.JobBytes.{rate-limits, coding-limits, header-in, UnitKept, WellFormed}
-use Rattle.format.specs.Claims.{InLimits, Limited}
+use Rattle.format.specs.JobBytes.{rate-limits, coding-limits, header-in, parse, encode, UnitKept, WellFormed}
+use Rattle.format.specs.Claims.{InLimits, Limited, OpensExactly}
+use Rattle.format.proofs.RoundTrip.{parse-encode, encode-parse, sized}
 
 module _ (low : ℕ) where
   rate-low : (rs : List ℕ) → AllKept (rate-limits low rs) → 0 < length rs → low ≤ getD rs 0 0
@@ -21,12 +24,12 @@ module _ (low : ℕ) where
 rate-most-from : (low : ℕ) (rs : List ℕ) → AllKept (rate-limits low rs) → (y : ℕ) → y < length rs → getD rs y 0 ≤ 4095
 rate-most-from low [] k y h = absurd (omega arith)
 rate-most-from low (r ∷ rs) k zero h = omega arith
-rate-most-from low (r ∷ rs) k (suc y) h = rate-most-from (suc r) rs (k .1) y (omega arith)
+rate-most-from low (r ∷ rs) k (suc y) h = rate-most-from _ rs (k .1) y (omega arith)
 
 rising-from : (low : ℕ) (rs : List ℕ) → AllKept (rate-limits low rs) → (y : ℕ) → y + 1 < length rs → getD rs y 0 < getD rs (suc y) 0
 rising-from low [] k y h = absurd (omega arith)
-rising-from low (r ∷ rs) k zero h = rate-low (suc r) rs (k .1) (omega arith)
-rising-from low (r ∷ rs) k (suc y) h = rising-from (suc r) rs (k .1) y (omega arith)
+rising-from low (r ∷ rs) k zero h = rate-low _ rs (k .1) (omega arith)
+rising-from low (r ∷ rs) k (suc y) h = rising-from _ rs (k .1) y (omega arith)
 
 pub record CodingKept (c : Coding) : Type 0 where
   pub size : c .size ≤ 4095
@@ -42,7 +45,7 @@ each-at [] d t i h = absurd (omega arith)
 each-at (a ∷ l) d (P.one-more q t) zero h = q
 each-at (a ∷ l) d (P.one-more q t) (suc i) h = each-at l d t i (omega arith)
 
-pub limited : Limited
+pub limited : (j : Job) → WellFormed j → InLimits j
 unfolding header-in codingAt
 limited j w =
     let k = w .header in
@@ -52,6 +55,7 @@ limited j w =
       units = (omega arith, omega arith);
       delay = omega arith;
       decoder = omega arith;
+      one-bucket = (w .one-bucket, w .one-fill);
       bucket = omega arith;
       drain = omega arith;
       start = (omega arith, omega arith);
@@ -63,6 +67,48 @@ limited j w =
       sizes = λ i x h l. kept i x h l .size;
       distortions = λ i x h l. kept i x h l .distortion;
     }
+
+-- and the other way: limits index by index are limits of the lists
+rates-within : (low : ℕ) (rs : List ℕ) → (0 < length rs → low ≤ getD rs 0 0) → ((y : ℕ) → y < length rs → getD rs y 0 ≤ 4095) → ((y : ℕ) → y + 1 < length rs → getD rs y 0 < getD rs (suc y) 0) → AllKept (rate-limits low rs)
+rates-within low [] l f g = tt
+rates-within low (r ∷ rs) l f g =
+    ((l (omega arith), f 0 (omega arith)), rates-within _ rs (λ h. g 0 (omega arith)) (λ y h. f (suc y) (omega arith)) (λ y h. g (suc y) (omega arith)))
+
+codings-within : (u : List Coding) → ((x : ℕ) → x < length u → CodingKept (getD u x nothing)) → AllKept (coding-limits u)
+codings-within [] f = tt
+codings-within (c ∷ u) f = let k = f 0 (omega arith) in ((omega arith, k .size), ((omega arith, k .distortion), codings-within u (λ x h. f (suc x) (omega arith))))
+
+each-from : {A : Type 0} {Q : A → Type 0} (l : List A) (d : A) → ((i : ℕ) → i < length l → Q (getD l i d)) → Each Q l
+each-from [] d f = P.no-more
+each-from (a ∷ l) d f = P.one-more (f 0 (omega arith)) (each-from l d (λ i h. f (suc i) (omega arith)))
+
+pub within : (j : Job) → InLimits j → WellFormed j
+unfolding header-in codingAt
+within j l = record {
+  one-bucket = l .one-bucket .0;
+  one-fill = l .one-bucket .1;
+  header = omega arith;
+  rates = rates-within 0 (j .line .rates) (λ h. omega arith) (l .rate) (l .rise);
+  units = each-from (j .units) [] (λ i h. record {
+    count = l .codings i h;
+    limits = codings-within (getD (j .units) i []) (λ x k.
+        let m : x < j .choices = omega (arith, l .codings i h) in
+        record { size = l .sizes i x h m; distortion = l .distortions i x h m });
+  });
+}
+
+pub limits : Limited
+limits j = (limited j, within j)
+
+pub opens-exactly : OpensExactly
+opens-exactly b B j n = (
+  λ e. let r = encode-parse b B j n e in (limited j (r .well-formed), sym (length-take-le n b (r .size)) ∙ ap length (r .same) ∙ sized j (r .well-formed), r .same),
+  λ h.
+      let w = within j (h .0) in
+      let s : length (encode j) ≡ n = sized j w ∙ sym (h .1) in
+      let whole : encode j ++ drop n b ≡ b = ap (λ (l : List ℕ). l ++ drop n b) (sym (h .2)) ∙ take-append-drop n b in
+      ap parse (sym whole) ∙ parse-encode j w (drop n b) ∙ ap (took j) s,
+)
 
 -- what the table law asks of a job
 pub bounded : (j : Job) → WellFormed j → Bounded j

@@ -10,6 +10,7 @@ pub mod Spelling
 pub mod Exact
 pub mod RoundTrip
 pub mod Bounds
+pub mod Orders
 pub mod Places
 pub mod Opened
 pub mod Examples

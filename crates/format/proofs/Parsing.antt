@@ -48,6 +48,10 @@ module _ {A B : Type 0} (p : Parser A) (f : A → Parser B) (b : List ℕ) where
   unfolding further
   bind-took a k c m e g = bind-on a k e ∙ rw g
 
+  pub bind-later : (a : A) (k n : ℕ) → p b ≡ took a k → f a (drop k b) ≡ refused n → (p >>= f) b ≡ refused n
+  unfolding further
+  bind-later a k n e g = bind-on a k e ∙ rw g
+
   pub record Bound (c : B) (n : ℕ) : Type 0 where
     pub value : A
     pub size : ℕ

@@ -2,7 +2,7 @@
 -- Assumes nothing.
 use Prim.Native.Nat.{ℕ, zero, suc, _*_, _≤_, _<_}
 use mathlib.Core.Path.{_≡_, refl, sym, _∙_}
-use mathlib.Core.Option.{none}
+use mathlib.Core.Option.{none, some}
 use mathlib.Core.List.{List}
 use native.Mathlib.Omega.{arith}
 use native.Mathlib.Nat.{mul-zero, mul-suc}
@@ -37,3 +37,7 @@ module _ (ws : List ℕ) (limits : List ℕ → List Limit) (b : List ℕ) where
   pub block-took : total ws ≤ length b → broken (limits (fields ws b)) ≡ none → block ws limits b ≡ took (fields ws b) (total ws)
   unfolding unless-refused
   block-took h e = block-there h ∙ rw e
+
+  pub block-broken : (n : ℕ) → total ws ≤ length b → broken (limits (fields ws b)) ≡ some n → block ws limits b ≡ refused n
+  unfolding unless-refused
+  block-broken n h e = block-there h ∙ rw e

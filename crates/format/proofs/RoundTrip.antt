@@ -30,14 +30,18 @@ head-fit : (f : Form) → total (f .widths) < 65534 → f .kind < 65536 → Fit 
 unfolding head-values
 head-fit f h k = small ((2 + total (f .widths)) ∷ f .kind ∷ []) (P.one-more {a = 2 + total (f .widths)} (omega arith) (P.one-more k P.no-more))
 
+abbrev Small : List ℕ → Type 0
+Small [] = Unit {0}
+Small (v ∷ vs) = (v < 65536) × Small vs
+
+each-small : (vs : List ℕ) → Small vs → Each (λ v. v < 65536) vs
+each-small [] h = P.no-more
+each-small (v ∷ vs) h = P.one-more (h .0) (each-small vs (h .1))
+
 -- the header: nine values within their limits
 header-small : (h : Header) → AllKept (header-limits h) → Each (λ v. v < 65536) (header-values h)
 unfolding header-values
-header-small h k =
-    let o : Header = h in
-    P.one-more {a = h .units} (omega arith) (P.one-more {a = h .delay} (omega arith) (P.one-more {a = h .decoder} (omega arith)
-    (P.one-more {a = h .bucket} (omega arith) (P.one-more {a = h .drain} (omega arith) (P.one-more {a = h .level} (omega arith)
-    (P.one-more {a = h .fill} (omega arith) (P.one-more {a = h .rates} (omega arith) (P.one-more {a = h .choices} (omega arith) P.no-more))))))))
+header-small h k = each-small (header-values h) (omega arith)
 
 nine-back : {vs : List ℕ} → Fit (2 ∷ 2 ∷ 2 ∷ 2 ∷ 2 ∷ 2 ∷ 2 ∷ 2 ∷ 2 ∷ []) vs → header-values (header-of vs) ≡ vs
 unfolding header-values header-of
@@ -60,7 +64,7 @@ exact-header =
 -- the rates
 rates-small : (low : ℕ) (rs : List ℕ) → AllKept (rate-limits low rs) → Each (λ v. v < 65536) rs
 rates-small low [] k = P.no-more
-rates-small low (r ∷ rs) k = P.one-more {a = r} (omega arith) (rates-small (suc r) rs (k .1))
+rates-small low (r ∷ rs) k = P.one-more {a = r} (omega arith) (rates-small _ rs (k .1))
 
 fit-count : {ws vs : List ℕ} → Fit ws vs → length vs ≡ length ws
 fit-count F.no-more = refl

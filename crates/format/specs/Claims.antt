@@ -1,13 +1,16 @@
 -- What is claimed of a job's bytes: each claim is a type, which a theorem of proofs/ inhabits.
 -- Assumes nothing.
-use Prim.Native.Nat.{ℕ, suc, _+_, _-_, _≤_, _<_}
+use Prim.Native.Nat.{ℕ, suc, _+_, _*_, _-_, _≤_, _<_}
 use mathlib.Core.Path.{_≡_}
-use mathlib.Core.List.{List, [], _++_}
-use lib.ListN.{length, getD, take}
-use Rattle.model.specs.Job.{bucketAt, Job, codingAt}
-use Rattle.format.specs.Fields.{Bytes}
-use Rattle.format.specs.Parser.{took}
-use Rattle.format.specs.JobBytes.{header-in, parse, encode, WellFormed}
+use mathlib.Core.Logic.{_↔_}
+use mathlib.Core.List.{List, [], _∷_, _++_}
+use lib.ListN.{length, getD, take, drop, replicate}
+use Rattle.model.specs.Job.{bucketAt, Coding, Job, codingAt}
+use Rattle.format.specs.Fields.{fields, Bytes}
+use Rattle.format.specs.Limits.{AllKept}
+use Rattle.format.specs.Parser.{refused, took, Parser}
+use Rattle.format.specs.Records.{record-due}
+use Rattle.format.specs.JobBytes.{Header, header-limits, rate-limits, codings, coding-limits, entry-widths, rates-form, job-of, header-in, header-parser, unit-parser, parse, encode, WellFormed}
 use Rattle.format.specs.Places.{job-size, rate-at, coding-at}
 
 -- what is written is read back, whatever stands behind it
@@ -39,11 +42,13 @@ pub record LookedUp (b : List ℕ) (j : Job) : Type 0 where
 abbrev pub LooksUp : Type 0
 LooksUp = (b : List ℕ) (j : Job) (n : ℕ) → parse b ≡ took j n → LookedUp b j
 
--- document 01's limits, index by index, of a well-formed job
+-- document 01's limits, index by index: what a job keeps to
 pub record InLimits (j : Job) : Type 0 where
   pub units : (1 ≤ length (j .units)) × (length (j .units) ≤ 512)
   pub delay : j .delay ≤ 64
   pub decoder : j .line .decoder ≤ 255
+  -- one bucket, with one starting level
+  pub one-bucket : (length (j .line .buckets) ≡ 1) × (length (j .start .buckets) ≡ 1)
   pub bucket : bucketAt (j .line .buckets) 0 .size ≤ 255
   pub drain : bucketAt (j .line .buckets) 0 .drain ≤ 4095
   pub start : (j .start .decoder ≤ j .line .decoder) × (getD (j .start .buckets) 0 0 ≤ bucketAt (j .line .buckets) 0 .size)
@@ -55,5 +60,64 @@ pub record InLimits (j : Job) : Type 0 where
   pub sizes : (i x : ℕ) → i < length (j .units) → x < j .choices → codingAt j i x .size ≤ 4095
   pub distortions : (i x : ℕ) → i < length (j .units) → x < j .choices → codingAt j i x .distortion ≤ 1000000
 
+-- the well-formed jobs are exactly those within the limits
 abbrev pub Limited : Type 0
-Limited = (j : Job) → WellFormed j → InLimits j
+Limited = (j : Job) → WellFormed j ↔ InLimits j
+
+-- every job within the limits opens, and nothing else does: bytes open as a job exactly where it is within the limits and they begin with the bytes written of it
+abbrev pub OpensExactly : Type 0
+OpensExactly = (b : List ℕ) → Bytes b → (j : Job) (n : ℕ) → (parse b ≡ took j n) ↔ (InLimits j × (n ≡ job-size (header-in j)) × (take n b ≡ encode j))
+
+-- a u16 at a place, the lower byte first
+abbrev pub u16-at : List ℕ → ℕ → ℕ
+u16-at b at = getD b at 0 + 256 * getD b (at + 1) 0
+
+-- a record's length, which counts kind and body, and its kind are those due
+abbrev pub Due : ℕ → ℕ → List ℕ → Type 0
+Due kind body b = (u16-at b 0 ≡ 2 + body) × (u16-at b 2 ≡ kind)
+
+-- in which order a record of this kind and with a body of so many bytes is looked at, whose fields are refused by `number` where they are not kept to their limits. One of the five holds of any bytes
+pub record RecordOrder {A : Type 0} (read : Parser A) (kind body number : ℕ) (value : List ℕ → A) (Kept : A → Type 0) (b : List ℕ) : Type 0 where
+  pub head-there : length b < 4 → read b ≡ refused 1
+  pub then-due : 4 ≤ length b → (Due kind body b → ⊥) → read b ≡ refused 2
+  pub then-body : 4 ≤ length b → Due kind body b → length b < 4 + body → read b ≡ refused 1
+  pub then-fields : 4 + body ≤ length b → Due kind body b → (Kept (value b) → ⊥) → read b ≡ refused number
+  pub else-read : 4 + body ≤ length b → Due kind body b → Kept (value b) → read b ≡ took (value b) (4 + body)
+
+-- kind 1's nine fields, each by its place in the record
+abbrev pub header-at : List ℕ → Header
+header-at b = record {
+  units = u16-at b 4;
+  delay = u16-at b 6;
+  decoder = u16-at b 8;
+  bucket = u16-at b 10;
+  drain = u16-at b 12;
+  level = u16-at b 14;
+  fill = u16-at b 16;
+  rates = u16-at b 18;
+  choices = u16-at b 20;
+}
+
+-- the records of document 01: kind 1 with nine u16, kind 2 with P of them, kind 3 with M entries of 6 bytes
+pub record RecordOrders (b : List ℕ) : Type 0 where
+  pub header : RecordOrder header-parser 1 18 3 header-at (λ h. AllKept (header-limits h)) b
+  pub rates : (p : ℕ) → RecordOrder (record-due (rates-form p)) 2 (2 * p) 4 (λ l. fields (replicate p 2) (drop 4 l)) (λ rs. AllKept (rate-limits 0 rs)) b
+  pub unit : (m : ℕ) → RecordOrder (unit-parser m) 3 (6 * m) 5 (λ l. codings (fields (entry-widths m) (drop 4 l))) (λ u. AllKept (coding-limits u)) b
+
+-- units of m choices that are read one after another, and how many bytes they take
+pub data Units (m : ℕ) : List ℕ → List (List Coding) → ℕ → Type 0 where
+  no-more : {b : List ℕ} → Units m b [] 0
+  one-more : {b : List ℕ} {u : List Coding} {k : ℕ} {us : List (List Coding)} {s : ℕ} → unit-parser m b ≡ took u k → Units m (drop k b) us s → Units m b (u ∷ us) (k + s)
+
+-- a record is looked at whole before the next: the header, then its P rates, then each of its N units
+pub record OpeningOrder (b : List ℕ) : Type 0 where
+  pub header-first : (n : ℕ) → header-parser b ≡ refused n → parse b ≡ refused n
+  -- the header takes k bytes
+  pub then-rates : (h : Header) (k n : ℕ) → header-parser b ≡ took h k → record-due (rates-form (h .rates)) (drop k b) ≡ refused n → parse b ≡ refused n
+  -- and the rates take r, and fewer than N units before one that is refused take s
+  pub then-units : (h : Header) (k : ℕ) (rs : List ℕ) (r : ℕ) (us : List (List Coding)) (s n : ℕ) → header-parser b ≡ took h k → record-due (rates-form (h .rates)) (drop k b) ≡ took rs r → Units (h .choices) (drop r (drop k b)) us s → length us < h .units → unit-parser (h .choices) (drop s (drop r (drop k b))) ≡ refused n → parse b ≡ refused n
+  pub else-opens : (h : Header) (k : ℕ) (rs : List ℕ) (r : ℕ) (us : List (List Coding)) (s : ℕ) → header-parser b ≡ took h k → record-due (rates-form (h .rates)) (drop k b) ≡ took rs r → Units (h .choices) (drop r (drop k b)) us s → length us ≡ h .units → parse b ≡ took (job-of h rs us) (k + (r + s))
+
+-- demand 1, of opening
+abbrev pub Refusals : Type 0
+Refusals = (b : List ℕ) → RecordOrders b × OpeningOrder b

@@ -6,6 +6,7 @@ use mathlib.Core.Bool.{Bool, true, false}
 use native.Mathlib.Decide.{decLt}
 use native.Mathlib.Numerals.{add-one}
 use native.Mathlib.Omega.{arith}
+use Rattle.model.specs.If.{if_then_else_}
 use Rattle.model.specs.All.{all-below}
 use Rattle.model.proofs.Tests.{both-true, true-both}
 
@@ -25,6 +26,16 @@ module _ (test : ℕ → Bool) where
   unfolding all-below
   each-all zero f = refl
   each-all (suc n) f = true-both (all-below test n) (test n) (each-all n (λ i k. f i (omega arith))) (f n (omega arith))
+
+  -- where not all pass, one fails
+  pub all-fails : (n : ℕ) → all-below test n ≡ false → (i : ℕ) × (i < n) × (test i ≡ false)
+  unfolding all-below if_then_else_
+  all-fails zero e = let z : _≡_ {A = ℕ} 0 1 = cc in absurd (omega arith)
+  all-fails (suc n) e = go (all-below test n) refl (λ q. all-fails n q) e
+    where
+      go : (t : Bool) → all-below test n ≡ t → (all-below test n ≡ false → (i : ℕ) × (i < n) × (test i ≡ false)) → (if t then test n else false) ≡ false → (i : ℕ) × (i < suc n) × (test i ≡ false)
+      go true q ih r = (n, omega arith, r)
+      go false q ih r = let k = ih q in (k .0, omega arith, k .2)
 
   -- as a loop goes: at its start, after a number that passes, and at one that fails
   pub all-none : all-below test 0 ≡ true

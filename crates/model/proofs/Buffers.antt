@@ -2,28 +2,14 @@
 -- Assumes nothing.
 use Prim.Native.Nat.{ℕ, zero, suc, _+_, _≤_}
 use mathlib.Core.Path.{_≡_, refl, sym, _∙_, ap}
-use mathlib.Core.Option.{Option}
 use mathlib.Core.List.{List}
 use native.Mathlib.Omega.{arith}
 use lib.IntN.{ℤ, pos, _+ℤ_, _-ℤ_, +ℤ-assoc, +ℤ-comm, -ℤ-+ℤ-cancel, pos-+ℤ-pos}
-use Rattle.model.specs.Job.{Job, Entry, coding, takes, ChoiceFits, waits, decodes, PlanFits, ends, goes}
-use Rattle.model.specs.Levels.{sum, entryOf, sent, taken, decoderLevel, sentAfter, effectiveBuffer, unitsTaken}
+use Rattle.model.specs.Job.{Job, Entry, waits, PlanFits}
+use Rattle.model.specs.Levels.{sum, sent, taken, decoderLevel, sentAfter, effectiveBuffer, unitsTaken}
 use Rattle.model.specs.Claims.{EffectiveBuffers, RunningBuffers}
 use Rattle.model.proofs.Sums.{sum-first}
-
--- no unit is decoded up to the delay
-choice-waits : {j : Job} {t : ℕ} {c : Option ℕ} → t ≤ j .delay → ChoiceFits j t c → coding j t c .size ≡ 0
-unfolding coding
-choice-waits h (waits k) = refl
-choice-waits h (decodes k x) = absurd (omega arith)
-
-waits-taken : (j : Job) (s : ℕ) (p : List Entry) (n : ℕ) → PlanFits j s p → s + suc n ≤ j .delay → taken j s p (suc n) ≡ 0
-unfolding taken entryOf takes coding
-waits-taken j s p n (ends e) h = refl
-waits-taken j s p zero (goes {t} {e} {p = q} f r) h = let i : s + suc zero ≡ suc s = omega arith in rw i (choice-waits (omega arith) (f .choice))
-waits-taken j s p (suc n) (goes {t} {e} {p = q} f r) h =
-    let i : s + suc (suc n) ≡ suc s + suc n = omega arith in
-    rw i (waits-taken j (suc s) q n r (omega arith))
+use Rattle.model.proofs.Units.{units}
 
 module _ (j : Job) (p : List Entry) where
   -- what the first n intervals take
@@ -64,7 +50,7 @@ module _ (j : Job) (p : List Entry) where
     waits-to : (n : ℕ) → n ≤ j .delay → takenTo n ≡ 0
     unfolding sum
     waits-to zero h = refl
-    waits-to (suc n) h = let ih = waits-to n (omega arith) in let e = waits-taken j 0 p n fits (omega arith) in omega arith
+    waits-to (suc n) h = let ih = waits-to n (omega arith) in let e = units j p .waits fits (suc n) h .0 in omega arith
 
     units-to : (i : ℕ) → takenTo (i + j .delay) ≡ unitsTaken j p i
     unfolding sum unitsTaken

@@ -2,7 +2,7 @@
 -- Assumes nothing.
 use Prim.Native.Nat.{ℕ, _<_}
 use mathlib.Core.Path.{_≡_, refl}
-use mathlib.Core.Logic.{inl, inr}
+use mathlib.Core.Logic.{_⊎_, inl, inr}
 use mathlib.Core.Bool.{Bool, true, false}
 use mathlib.Core.Option.{Option, none, some}
 use mathlib.Core.List.{List·Memᴰ, Memᴰ·map, Memᴰ·of-map, Memᴰ·cast}
@@ -11,20 +11,44 @@ use lib.Dec.{leb}
 use lib.ListN.{length}
 use borrow.Author.Tests.{leb-true, leb-false, le-leb, lt-leb}
 use Rattle.trellis.specs.Minimum.{Sorted}
-use Rattle.trellis.specs.Pairs.{Pair, pair, Rising, rising}
+use Rattle.trellis.specs.Pairs.{Pair, pair}
 use Rattle.trellis.proofs.Sorted.{sorted-map}
-use Rattle.trellis.proofs.Pairs.{rising-member, member-rising, rising-sorted}
+use Rattle.trellis.proofs.Pairs.{rows-member, member-rows, rows-sorted}
 use Rattle.model.specs.If.{if_then_else_}
 use Rattle.model.specs.Job.{Job, Entry, ChoiceFits, waits, decodes, EntryFits}
-use Rattle.model.specs.Best.{Order, late, ChoiceBefore, smaller, Before, pairs, entry, width, entries}
+use Rattle.model.specs.Best.{Order, late, early, RateBefore, ChoiceBefore, smaller, Before, turn, pairs, entry, width, entries}
+
+-- the places of an order: each index has one, and they go as the order does
+pub turn-below : (o : Order) (n i : ℕ) → i < n → turn o n i < n
+unfolding turn
+turn-below late n i h = h
+turn-below early n i h = omega arith
+
+turn-back : (o : Order) (n x : ℕ) → x < n → turn o n (turn o n x) ≡ x
+unfolding turn
+turn-back late n x h = refl
+turn-back early n x h = omega arith
+
+turn-before : (o : Order) (n x y : ℕ) → x < y → y < n → RateBefore o (turn o n x) (turn o n y)
+unfolding turn
+turn-before late n x y h k = h
+turn-before early n x y h k = omega arith
 
 pub pairs-member : (o : Order) (m k : ℕ) (a : Pair) → List·Memᴰ a (pairs o m k) → (a .outer < m) × (a .inner < k)
 unfolding pairs
-pairs-member late = rising-member
+pairs-member o m k a n = let r = rows-member (turn o m) m k a n in (rw (r .2) (turn-below o m (r .0) (r .1)), r .3)
 
 member-pairs : (o : Order) (m k x y : ℕ) → x < m → y < k → List·Memᴰ (pair x y) (pairs o m k)
 unfolding pairs
-member-pairs late = member-rising
+member-pairs o m k x y h q = rw (turn-back o m x h) at (member-rows (turn o m) m k (turn o m x) y (turn-below o m x h) q)
+
+-- a pair is before another as its entry is
+abbrev PairBefore : Order → Pair → Pair → Type 0
+PairBefore o a b = RateBefore o (a .outer) (b .outer) ⊎ ((a .outer ≡ b .outer) × (a .inner < b .inner))
+
+pairs-sorted : (o : Order) (m k : ℕ) → Sorted (PairBefore o) (pairs o m k)
+unfolding pairs
+pairs-sorted o m k = rows-sorted (PairBefore o) (turn o m) m k (λ a b x y l h p q. inl (rw (p, q) (turn-before o m x y l h))) (λ a b p q. inr (p, q))
 
 choice-before : (k x y : ℕ) (b : Bool) → y < (if b then 1 else k) → x < y → ChoiceBefore (if b then none else some x) (if b then none else some y)
 unfolding if_then_else_
@@ -32,17 +56,17 @@ choice-before k x y true h q = absurd (omega arith)
 choice-before k x y false h q = smaller q
 
 module _ (j : Job) (t : ℕ) where
-  rising-before : (a b : Pair) → b .inner < width j t → Rising a b → Before late (entry j t a) (entry j t b)
+  pair-before : (o : Order) (a b : Pair) → b .inner < width j t → PairBefore o a b → Before o (entry j t a) (entry j t b)
   unfolding entry width
-  rising-before a b h (inl k) = inl k
-  rising-before a b h (inr k) = inr (k .0, choice-before _ (a .inner) (b .inner) (leb t (j .delay)) h (k .1))
+  pair-before o a b h (inl k) = inl k
+  pair-before o a b h (inr k) = inr (k .0, choice-before _ (a .inner) (b .inner) (leb t (j .delay)) h (k .1))
 
   pub entries-sorted : (o : Order) → Sorted (Before o) (entries o j t)
-  unfolding entries pairs
-  entries-sorted late =
+  unfolding entries
+  entries-sorted o =
       let P = length (j .line .rates) in
       let W = width j t in
-      sorted-map Rising (Before late) (entry j t) (rising P W) (λ a b m n r. rising-before a b (rising-member P W b n .1) r) (rising-sorted P W)
+      sorted-map (PairBefore o) (Before o) (entry j t) (pairs o P W) (λ a b m n r. pair-before o a b (pairs-member o P W b n .1) r) (pairs-sorted o P W)
 
   pub listed-fits : (o : Order) {e : Entry} → List·Memᴰ e (entries o j t) → EntryFits j t e
   unfolding entries entry width if_then_else_

@@ -14,6 +14,7 @@ pub mod Drains
 pub mod Buffers
 pub mod Entries
 pub mod Walks
+pub mod Units
 pub mod Planning
 pub mod OneBest
 pub mod PinTotals
@@ -23,4 +24,5 @@ pub mod Steps
 pub mod Layers
 pub mod Tables
 pub mod ReadOff
+pub mod Lines
 pub mod Examples

@@ -10,7 +10,7 @@ use Rattle.trellis.specs.Claims.{Strict}
 use Rattle.trellis.proofs.TieOrder.{no-later-antisym}
 use Rattle.model.specs.Job.{Entry}
 use Rattle.model.specs.Replay.{total-distortion}
-use Rattle.model.specs.Best.{Order, late, ChoiceBefore, smaller, Before}
+use Rattle.model.specs.Best.{Order, late, early, ChoiceBefore, smaller, Before}
 use Rattle.model.specs.Claims.{OneBest}
 
 choice-asym : {x y : Option ℕ} → ChoiceBefore x y → ChoiceBefore y x → ⊥
@@ -21,6 +21,9 @@ before-asym o a b (inr h) (inr k) = choice-asym (h .1) (k .1)
 before-asym late a b (inl h) (inl k) = omega arith
 before-asym late a b (inl h) (inr k) = omega arith
 before-asym late a b (inr h) (inl k) = omega arith
+before-asym early a b (inl h) (inl k) = omega arith
+before-asym early a b (inl h) (inr k) = omega arith
+before-asym early a b (inr h) (inl k) = omega arith
 
 before-strict : (o : Order) → Strict (Before o)
 before-strict o = record {

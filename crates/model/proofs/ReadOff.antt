@@ -20,7 +20,7 @@ use Rattle.model.proofs.Walks.{reached-some, least-order}
 use Rattle.model.proofs.Steps.{layer-closed}
 use Rattle.model.proofs.Tables.{distortions-small}
 
-module _ (j : Job) (m : PinMap) (o : Order) (table : List ℕ) (t : ℕ) (s : Levels) (v : ℕ) (bounded : Bounded j) (tab : IsTable j m table) (counted : t < intervals j) (inside : InLayer (j .line) s) (value : least-total j m t s ≡ some v) where
+module _ (j : Job) (m : PinMap) (o : Order) (table : List ℕ) (t : ℕ) (s : Levels) (v : ℕ) (bounded : Bounded j) (tab : IsTable j m t table) (counted : t < intervals j) (inside : InLayer (j .line) s) (value : least-total j m t s ≡ some v) where
   n : ℕ
   n = intervals j - suc t
 
@@ -44,7 +44,7 @@ module _ (j : Job) (m : PinMap) (o : Order) (table : List ℕ) (t : ℕ) (s : Le
     fits = λ e w. small .fits (suc t) e w;
     row = λ e u l k.
         let q = layer-closed j m o t s u e counted inside l k in
-        (tab .holds (suc t) u counted q ∙ ap (encode mark) (sym (later u)), λ x r. small .values n (suc t) u x (omega arith) q r);
+        (tab .holds (suc t) u (omega arith) counted q ∙ ap (encode mark) (sym (later u)), λ x r. small .values n (suc t) u x (omega arith) q r);
   }
 
   opens : Opens (trellis-of j m o) _+_ (Before o) n t s v

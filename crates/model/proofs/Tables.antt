@@ -57,7 +57,7 @@ pub table-law : TableLaw
 unfolding least-total
 table-law j m table bounded follows = record {
   enough = follows .enough;
-  holds = λ t s h a.
+  holds = λ t s l h a.
       marked-least (trellis-of j m late) _+_ mark bound (intervals j) (λ t s. InLayer (j .line) s) (wordAt j table)
       (layer-closed j m late) (distortions-small j m late bounded (λ t s. InLayer (j .line) s)) (follows-marked j m table follows) (intervals j - t) t s (omega arith) a;
 }

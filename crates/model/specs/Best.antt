@@ -1,6 +1,6 @@
 -- The best plan: the trellis of a job with its pins, for the theory of the crate `trellis` (document 01, "The best plan").
 -- Assumes nothing.
-use Prim.Native.Nat.{ℕ, _+_, _-_, _<_}
+use Prim.Native.Nat.{ℕ, suc, _+_, _-_, _<_}
 use mathlib.Core.Path.{_≡_}
 use mathlib.Core.Logic.{_⊎_}
 use mathlib.Core.Option.{Option, none, some}
@@ -8,18 +8,20 @@ use mathlib.Core.List.{List, map}
 use lib.Dec.{leb}
 use lib.ListN.{length}
 use Rattle.trellis.specs.Trellis.{Trellis, least, best}
-use Rattle.trellis.specs.Pairs.{Pair, rising}
+use Rattle.trellis.specs.Pairs.{Pair, rows}
 use Rattle.model.specs.If.{if_then_else_}
 use Rattle.model.specs.Job.{Levels, Job, Entry, distorts, intervals}
 use Rattle.model.specs.Pins.{PinMap}
 use Rattle.model.specs.Step.{Outcome, violates, reaches, outcome}
 
--- which of two plans of equal distortion is preferred at their first difference. `late` is document 01's: the smaller rate index, so that grains go out late
+-- which of two plans of equal distortion is preferred at their first difference. `late` is document 01's: the smaller rate index, so that grains go out late; `early` takes the larger (document 02, E10)
 pub data Order : Type 0 where
   late : Order
+  early : Order
 
 abbrev pub RateBefore : Order → ℕ → ℕ → Type 0
 RateBefore late a b = a < b
+RateBefore early a b = b < a
 
 pub data ChoiceBefore : Option ℕ → Option ℕ → Type 0 where
   smaller : {x y : ℕ} → x < y → ChoiceBefore (some x) (some y)
@@ -28,9 +30,14 @@ pub data ChoiceBefore : Option ℕ → Option ℕ → Type 0 where
 abbrev pub Before : Order → Entry → Entry → Type 0
 Before o a b = RateBefore o (a .rate) (b .rate) ⊎ ((a .rate ≡ b .rate) × ChoiceBefore (a .choice) (b .choice))
 
+-- of n rate indices, the one in place i of the order
+unfoldable pub turn : Order → ℕ → ℕ → ℕ
+turn late n i = i
+turn early n i = n - suc i
+
 -- the pairs of a rate index and a choice index, in the order
 unfoldable pub pairs : Order → ℕ → ℕ → List Pair
-pairs late rates choices = rising rates choices
+pairs o rates choices = rows (turn o rates) rates choices
 
 -- the entry of a pair in interval t
 unfoldable pub entry : Job → ℕ → Pair → Entry

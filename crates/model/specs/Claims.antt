@@ -11,10 +11,10 @@ use lib.IntN.{pos, _+ℤ_}
 use lib.Signed.{_≤ℤ_}
 use Rattle.trellis.specs.Table.{first-at, marked-offer}
 use Rattle.trellis.specs.Trellis.{NoLater}
-use Rattle.model.specs.Job.{Bucket, bucketAt, Levels, Job, Entry, distorts, intervals, PlanFits}
-use Rattle.model.specs.Levels.{sum, sent, decoderLevel, bucketLevel, unusedDrain, sentAfter, effectiveBuffer, unitsTaken}
+use Rattle.model.specs.Job.{Bucket, bucketAt, nothing, Levels, Job, Entry, distorts, intervals, PlanFits}
+use Rattle.model.specs.Levels.{sum, entryOf, sent, taken, distorted, decoderLevel, bucketLevel, unusedDrain, sentAfter, effectiveBuffer, unitsTaken}
 use Rattle.model.specs.Pins.{PinMap}
-use Rattle.model.specs.Admissible.{Violation, decoder-overflow, decoder-underflow, breaks, holds, Verified, ending, SoundFor, Admissible, FirstViolation, LevelsOf}
+use Rattle.model.specs.Admissible.{Violation, decoder-overflow, decoder-underflow, breaks, holds, AllWithin, Verified, ending, SoundFor, Admissible, FirstViolation, LevelsOf}
 use Rattle.model.specs.Step.{decoder-step, bucket-step, reaches, outcome}
 use Rattle.model.specs.Replay.{total-distortion, totals, Replay, clean, stopped, replay, last-levels}
 use Rattle.model.specs.Best.{Order, Before, entries, trellis-of, least-total, best-plan}
@@ -67,6 +67,23 @@ module _ (j : Job) (m : PinMap) (s : ℕ) (start : Levels) where
     pub best-is : (v : ℕ) → least-total j m s start ≡ some v → BestOf j s o (Admissible j m s start) (best-plan j m s start o)
     pub its-distortion : (v : ℕ) → least-total j m s start ≡ some v → total-distortion j s (best-plan j m s start o) ≡ v
 
+-- which unit an interval decodes, of a plan p for a whole job: interval u + d decodes unit u, units counted from 1
+pub record UnitsClaim (j : Job) (p : List Entry) : Type 0 where
+  -- in shape, it makes a choice for every unit
+  pub decodes : PlanFits j 0 p → (u : ℕ) → 1 ≤ u → u ≤ length (j .units) → (c : ℕ) × (c < j .choices) × (entryOf p (u + j .delay) .choice ≡ some c)
+  -- R and the distortion are those of unit u as the choice codes it
+  pub takes : (u c : ℕ) → 1 ≤ u → entryOf p (u + j .delay) .choice ≡ some c → taken j 0 p (u + j .delay) ≡ getD (getD (j .units) (u - 1) []) c nothing .size
+  pub distorts : (u c : ℕ) → 1 ≤ u → entryOf p (u + j .delay) .choice ≡ some c → distorted j 0 p (u + j .delay) ≡ getD (getD (j .units) (u - 1) []) c nothing .distortion
+  -- and both are 0 up to interval d
+  pub waits : PlanFits j 0 p → (t : ℕ) → t ≤ j .delay → (taken j 0 p t ≡ 0) × (distorted j 0 p t ≡ 0)
+
+-- what makes a plan for a whole job admissible, by unit: it is in shape, no interval violates a limit of decoder or bucket, and every pinned unit u has its pinned choice, in the entry of interval u + d
+pub record PinnedClaim (j : Job) (m : PinMap) (start : Levels) (p : List Entry) : Type 0 where
+  pub shaped : PlanFits j 0 p
+  pub decoder : (n : ℕ) → n < length p → Verified (j .line) (ending j m 0 start p (suc n))
+  pub buckets : (n : ℕ) → n < length p → AllWithin (j .line .buckets) (ending j m 0 start p (suc n) .buckets)
+  pub pins : (u c : ℕ) → 1 ≤ u → u ≤ length (j .units) → getD m (u - 1) none ≡ some c → entryOf p (u + j .delay) .choice ≡ some c
+
 -- a plan is read off the table: its first entry is the first that offers the state's word v by way of the next layer, and the rest is the best plan from the levels which that entry reaches
 pub record ReadOffClaim (j : Job) (m : PinMap) (o : Order) (table : List ℕ) (t : ℕ) (s : Levels) (v : ℕ) : Type 0 where
   pub entry : Entry
@@ -86,6 +103,13 @@ pub record OneBucket (j : Job) (k : Bucket) : Type 0 where
 -- demand 2
 abbrev pub DemandTwo : Type 0
 DemandTwo = (j : Job) (m : PinMap) (s : ℕ) (start : Levels) (p : List Entry) → ReplayClaim j m s start p (replay j m s start p)
+
+-- which unit an interval decodes, and which pin bears on it
+abbrev pub Units : Type 0
+Units = (j : Job) (p : List Entry) → UnitsClaim j p
+
+abbrev pub PinnedUnits : Type 0
+PinnedUnits = (j : Job) (m : PinMap) (start : Levels) (p : List Entry) → Admissible j m 0 start p ↔ PinnedClaim j m start p
 
 -- E2, of a plan: in an interval the decoder keeps its limits exactly where B(n) + C(n + 1) is at most D and B(n + 1) at least 0
 abbrev pub DecoderRange : Type 0
@@ -126,10 +150,10 @@ OneBest Among = (j : Job) (s : ℕ) (o : Order) (p q : List Entry) → BestOf j 
 
 -- a table that follows the rule of a layer holds the least distortion of every state
 abbrev pub TableLaw : Type 0
-TableLaw = (j : Job) (m : PinMap) (table : List ℕ) → Bounded j → FollowsRule j m table → IsTable j m table
+TableLaw = (j : Job) (m : PinMap) (table : List ℕ) → Bounded j → FollowsRule j m table → IsTable j m 0 table
 
 abbrev pub ReadOff : Type 0
-ReadOff = (j : Job) (m : PinMap) (o : Order) (table : List ℕ) (t : ℕ) (s : Levels) (v : ℕ) → Bounded j → IsTable j m table → t < intervals j → InLayer (j .line) s → least-total j m t s ≡ some v → ReadOffClaim j m o table t s v
+ReadOff = (j : Job) (m : PinMap) (o : Order) (table : List ℕ) (t : ℕ) (s : Levels) (v : ℕ) → Bounded j → IsTable j m t table → t < intervals j → InLayer (j .line) s → least-total j m t s ≡ some v → ReadOffClaim j m o table t s v
 
 abbrev pub WordsOfOne : Type 0
 WordsOfOne = (j : Job) (k : Bucket) → j .line .buckets ≡ k ∷ [] → OneBucket j k

@@ -46,6 +46,10 @@ pub record Job : Type 0 where
   pub choices : ℕ
   pub units : List (List Coding)
 
+-- the same units and delay over another line
+unfoldable pub on-line : Job → Line → Job
+on-line j l = record { delay = j .delay; line = l; start = j .start; choices = j .choices; units = j .units }
+
 -- T = N + d, the number of intervals
 unfoldable pub intervals : Job → ℕ
 intervals j = length (j .units) + j .delay

@@ -6,40 +6,44 @@ use mathlib.Core.Bool.{Bool, false}
 use mathlib.Core.List.{List, [], _∷_}
 use native.Mathlib.Omega.{arith}
 use lib.ListN.{length, getD, take}
+use lib.Seq.{getD-take}
 use borrow.Author.Tests.{le-leb, lt-leb}
 use Rattle.model.specs.If.{if_then_else_}
 use Rattle.model.specs.Job as model
-use Rattle.model.specs.Job.{codingAt, coding}
+use Rattle.model.specs.Job.{on-line, codingAt, coding}
 use Rattle.model.specs.Pins.{PinMap, pinOf, pinAt}
 use Rattle.model.specs.Step.{violates, reaches, pin-held}
 use Rattle.model.specs.Admissible.{Violation}
 use Rattle.model.specs.Best.{entry, width}
+use Rattle.model.proofs.Lines.{coding-on}
 use Rattle.format.specs.Choices.{choice-of}
 use Rattle.format.specs.Places.{rate-at, coding-at}
 use Rattle.format.specs.JobBytes.{Header, job-in, Opens}
 use Rattle.format.proofs.Choices.{of-choice}
-use Rattle.format.proofs.Opened.{job-limits, looked-up, units-are, delay-is, rates-are, choices-are, decoder-is, bucket-is, buckets-are}
+use Rattle.format.proofs.Opened.{job-limits, looked-up, units-are, delay-is, rates-are, choices-are, decoder-is, bucket-is, buckets-are, drain-most}
 use Rattle.job.specs.declared.Header as job
 use Rattle.job.specs.Answers.{plain}
 use Rattle.pinning.specs.State.{lines}
 use Rattle.pinning.proofs.Lines.{lines-at}
 use Rattle.planning.specs.Rule.{choice-in, allowed-in}
+use Rattle.replay.specs.declared.Buffers.{Buffers}
+use Rattle.replay.specs.Answers.{line-of, buffers-of}
+use Rattle.planner.specs.declared.Line.{Line}
 use Rattle.planner.specs.declared.Choices.{Choices}
-use Rattle.planner.specs.Answers.{line-is, coding-if, allowed-is, LineOf, NoChoices, UnitChoices, ChoicesOf}
+use Rattle.planner.specs.Answers.{line-is, job-on, coding-if, allowed-is, LineOf, NoChoices, UnitChoices, ChoicesOf}
 use Rattle.planner.proofs.Arrays.{Filled, filled-list}
 
 pub not-reached : (v : Violation) (s : model.Levels) → violates v ≡ reaches s → ⊥
 not-reached v s e = let z : _≡_ {A = ℕ} 0 1 = cc in omega arith
 
 -- the line, where the job's rates fill an array
-pub line-read : (b : List ℕ) (h : job.Header) (rates : List ℕ) → Opens b (plain h) → Filled 0 (rate-at b) 16 (h .rates) rates → LineOf b (plain h) (record { header = h; rates = rates })
-unfolding plain line-is
-line-read b h rates o f =
+pub line-read : (b : List ℕ) (h : job.Header) (k : Buffers) (rates : List ℕ) → Opens b (plain h) → k ≡ buffers-of (plain h) → Filled 0 (rate-at b) 16 (h .rates) rates → LineOf b (record { buffers = k; count = h .rates; rates = rates })
+unfolding plain line-is line-of buffers-of
+line-read b h k rates o e f =
     let n = rates-are b (plain h) o in
     let most : h .rates ≤ 16 = omega (arith, n, job-limits b (plain h) o .rates) in
     let r : take (h .rates) rates ≡ job-in b .line .rates = filled-list 0 (rate-at b) 16 (h .rates) rates (job-in b .line .rates) most f n (λ i l. looked-up b (plain h) o .rate i (omega (arith, n))) in
-    record {
-      header = refl;
+    rw e (record {
       is =
           ap (λ (d : ℕ). record { decoder = d; buckets = record { size = h .bucket; drain = h .drain } ∷ []; rates = take (h .rates) rates }) (sym (decoder-is b (plain h) o))
           ∙ ap (λ (ks : List model.Bucket). record { decoder = job-in b .line .decoder; buckets = ks; rates = take (h .rates) rates }) (sym (buckets-are b (plain h) o))
@@ -47,10 +51,13 @@ line-read b h rates o f =
       fits = record {
         decoder = omega (arith, decoder-is b (plain h) o, job-limits b (plain h) o .decoder);
         bucket = omega (arith, bucket-is b (plain h) o, job-limits b (plain h) o .bucket);
+        drain = drain-most b (plain h) o;
         rates = most;
+        rate = λ y l. rw (← getD-take (h .rates) rates y 0 l, r) (job-limits b (plain h) o .rate y (omega (arith, n)));
         size = f .size-is;
+        small = λ y k. rw r (job-limits b (plain h) o .rate y (rw r at k));
       };
-    }
+    })
 
 -- a unit's choices, where they fill three arrays
 pub unit-read : (b : List ℕ) (h : Header) (unit pin : ℕ) (allowed : List Bool) (sizes distortions : List ℕ) → Filled false (λ x. pin-held (choice-of pin) (choice-of x)) 31 (h .choices) allowed → Filled 0 (λ x. coding-at b h unit x .size) 31 (h .choices) sizes → Filled 0 (λ x. coding-at b h unit x .distortion) 31 (h .choices) distortions → UnitChoices b h unit pin (record { count = h .choices; allowed = allowed; sizes = sizes; distortions = distortions })
@@ -103,3 +110,16 @@ unit-chosen b h pins place c o n l k u =
             rw (u .distortion x z, coded x z) (g .distortions (at + 1 - 1) x (omega arith) (omega arith));
       };
     }
+
+-- over another line the same
+pub chosen-on : (j : model.Job) (line : model.Line) (m : PinMap) (place : ℕ) (c : Choices) → ChoicesOf j m place c → ChoicesOf (on-line j line) m place c
+unfolding on-line width
+chosen-on j line m place c d = record { count = d .count; each = λ x k. d .each x k ∙ sym (same x); fits = d .fits }
+  where
+    same : (x : ℕ) → allowed-in (on-line j line) m (suc place) x ≡ allowed-in j m (suc place) x
+    same x = unfold on-line allowed-in choice-in entry pinAt in rw (coding-on j line (suc place) (choice-in j (suc place) x)) refl
+
+-- a line has one bucket
+pub one-bucket : (b : List ℕ) (l : Line) → job-on b l .line .buckets ≡ record { size = l .buffers .bucket; drain = l .buffers .drain } ∷ []
+unfolding on-line line-is line-of
+one-bucket b l = refl

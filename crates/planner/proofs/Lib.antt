@@ -1,8 +1,7 @@
 -- Laws that belong to no one function.
 pub mod Sizes
 pub mod Offers
-pub mod Least
-pub mod Layers
+pub mod Lines
 pub mod Searching
 pub mod Arrays
 pub mod Jobs

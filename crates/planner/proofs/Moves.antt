@@ -4,7 +4,7 @@ use Prim.Native.Nat.{ℕ, suc, _+_, _<_, _≤_}
 use mathlib.Core.Path.{_≡_, refl, sym, _∙_, ap}
 use mathlib.Core.Bool.{Bool, true, false}
 use mathlib.Core.Option.{none, some, Option·some-injective, Option·none-ne-some}
-use mathlib.Core.List.{List, [], _∷_}
+use mathlib.Core.List.{List}
 use native.Mathlib.Nat.{mul-le-mul-right}
 use native.Mathlib.Omega.{arith}
 use lib.ListN.{length, getD}
@@ -13,14 +13,15 @@ use Rattle.trellis.specs.Pairs.{Pair, pair}
 use Rattle.trellis.specs.Table.{first-at}
 use Rattle.model.specs.If.{if_then_else_}
 use Rattle.model.specs.Job as model
-use Rattle.model.specs.Job.{Coding, intervals, coding, sends, takes, distorts}
-use Rattle.model.specs.Step.{reaches, outcome-of}
-use Rattle.model.specs.Best.{late, pairs, entry, reached}
-use Rattle.model.specs.Table.{layerWords, words, layerOf, wordIn, IsTable}
+use Rattle.model.specs.Job.{Coding, on-line, intervals, coding, sends, takes, distorts}
+use Rattle.model.specs.Step.{reaches}
+use Rattle.model.specs.Pins.{PinMap}
+use Rattle.model.specs.Best.{Order, pairs, entry, reached}
+use Rattle.model.specs.Table.{layerWords, words, layerOf, wordIn, IsTable, Bounded}
 use Rattle.model.proofs.Steps.{reaches-poured}
+use Rattle.model.proofs.Lines.{intervals-on, bounded-on, choice-on, coding-on}
 use Rattle.format.specs.Choices.{choice-of}
 use Rattle.format.specs.JobBytes.{job-in}
-use Rattle.format.specs.JobBytes as format
 use Rattle.format.proofs.Bounds.{CodingKept, coding-within, bounded}
 use Rattle.format.proofs.Opened.{job-formed, job-limits, delay-is, intervals-are, few-intervals}
 use Rattle.job.specs.declared.Header.{Header}
@@ -35,8 +36,9 @@ use Rattle.planning.proofs.Layers.{layers-table}
 use Rattle.planning.proofs.Reading.{FirstPair, first-pair, here-is}
 use Rattle.planner.specs.declared.Line.{Line}
 use Rattle.planner.specs.declared.Choices.{Choices}
-use Rattle.planner.specs.Answers.{line-is, coding-if, allowed-is, ChoicesOf, Starts, Layered, IntervalOf, step-of, Reached, chosen, Tabled, Standing, BestMove}
+use Rattle.planner.specs.Answers.{line-is, job-on, coding-if, allowed-is, ChoicesOf, Starts, Layered, IntervalOf, step-of, Reached, chosen, Standing, Moves, BestMove}
 use Rattle.planner.proofs.Sizes.{rates-count}
+use Rattle.planner.proofs.Jobs.{chosen-on}
 use Rattle.planner.proofs.Offers.{line-steps}
 
 -- a choice that is left open has its coding's size and distortion
@@ -49,51 +51,73 @@ open-coding c x k e = go (getD (c .allowed) x false) e
     go false r = absurd (Option·none-ne-some k r)
 
 -- a rate of a line
-rate-is : (l : Line) (y : ℕ) → y < l .header .rates → getD (l .rates) y 0 ≡ getD (line-is l .rates) y 0
-unfolding line-is
-rate-is l y h = sym (getD-take (l .header .rates) (l .rates) y 0 h)
+rate-is : (l : Line) (y : ℕ) → y < l .count → getD (l .rates) y 0 ≡ getD (line-is l .rates) y 0
+unfolding line-is line-of
+rate-is l y h = sym (getD-take (l .count) (l .rates) y 0 h)
 
 -- steps that reach levels reach one
 one-end : (s u : model.Levels) → reaches s ≡ reaches u → s ≡ u
 unfolding reached
 one-end s u e = Option·some-injective s u (ap reached e)
 
-module _ (b : List ℕ) (h : Header) (l : Line) (pins table : List ℕ) (place : ℕ) (at : Levels) (st : Starts b (plain h) l pins) (tab : Tabled (job-in b) (lines (h .units) pins) table) (k : place < h .units + h .delay) (s : Standing (job-in b) (lines (h .units) pins) place (levels-of at)) where
-  before-end : place < intervals (job-in b)
-  unfolding plain
-  before-end = omega (arith, intervals-are b (plain h) (st .opens))
+module _ (o : Order) (b : List ℕ) (h : Header) (l : Line) (pins table : List ℕ) (place : ℕ) (at : Levels) (asks : Moves b (plain h) l pins table place (levels-of at)) where
+  abbrev J : model.Job
+  J = job-on b l
 
-  is-table : IsTable (job-in b) (lines (h .units) pins) table
-  is-table = layers-table (job-in b) (lines (h .units) pins) table (tab .enough) (tab .layers)
+  abbrev M : PinMap
+  M = lines (h .units) pins
+
+  st : Starts b (plain h) l pins
+  st = asks .starts
+
+  s : Standing J M place (levels-of at)
+  unfolding plain
+  s = asks .stands
+
+  before-end : place < intervals J
+  unfolding plain
+  before-end = omega (arith, asks .before, intervals-are b (plain h) (asks .starts .opens), intervals-on (job-in b) (line-is l))
+
+  is-table : IsTable J M place table
+  unfolding plain
+  is-table = layers-table J M place table (asks .table-is .enough) (asks .table-is .layers)
+
+  small : Bounded J
+  small = bounded-on (job-in b) (line-is l) (bounded (job-in b) (job-formed b (plain h) (asks .starts .opens)))
 
   -- the first pair that attains the word of the levels, in the job's own terms
-  first : FirstPair (job-in b) (lines (h .units) pins) table place (levels-of at) (s .value)
-  first = first-pair (job-in b) (lines (h .units) pins) table place (levels-of at) (s .value) (bounded (job-in b) (job-formed b (plain h) (st .opens))) is-table before-end (s .inside) (s .least-is)
+  first : FirstPair J M o table place (levels-of at) (s .value)
+  first = first-pair J M o table place (levels-of at) (s .value) small is-table before-end (s .inside) (s .least-is)
 
-  word-here : wordIn (job-in b .line) (layerOf (job-in b .line) table place) (levels-of at) ≡ s .value
-  word-here = here-is (job-in b) (lines (h .units) pins) table place (levels-of at) (s .value) (bounded (job-in b) (job-formed b (plain h) (st .opens))) is-table before-end (s .inside) (s .least-is)
+  word-here : wordIn (line-is l) (layerOf (line-is l) table place) (levels-of at) ≡ s .value
+  unfolding on-line
+  word-here = here-is J M o table place (levels-of at) (s .value) small is-table before-end (s .inside) (s .least-is)
 
   -- with the choices of the interval
-  module _ (c : Choices) (ch : ChoicesOf (job-in b) (lines (h .units) pins) place c) where
+  module _ (c : Choices) (own : ChoicesOf (job-in b) M place c) where
+    ch : ChoicesOf J M place c
+    ch = chosen-on (job-in b) (line-is l) M place c own
+
     -- the same, in the terms of the code
     abbrev First : Pair → Type 0
-    First a = first-at (pair-offer (line-is l) (allowed-is c) (wordIn (line-is l) (layerOf (line-is l) table (suc place))) (levels-of at)) (wordIn (line-is l) (layerOf (line-is l) table place) (levels-of at)) (pairs late (length (line-is l .rates)) (c .count)) ≡ some a
+    First a = first-at (pair-offer (line-is l) (allowed-is c) (wordIn (line-is l) (layerOf (line-is l) table (suc place))) (levels-of at)) (wordIn (line-is l) (layerOf (line-is l) table place) (levels-of at)) (pairs o (length (line-is l .rates)) (c .count)) ≡ some a
 
     move-first : First (first .pick)
+    unfolding on-line
     move-first =
-        rw (st .line .is, word-here)
-        (first-offer-cong (job-in b .line) (c .count) (allowed-is c) (allowed-in (job-in b) (lines (h .units) pins) (suc place)) (wordIn (job-in b .line) (layerOf (job-in b .line) table (suc place))) (wordIn (job-in b .line) (layerOf (job-in b .line) table (suc place))) (levels-of at) (s .inside) (ch .each) (λ u i. refl) (s .value)
+        rw word-here
+        (first-offer-cong (line-is l) (c .count) (allowed-is c) (allowed-in J M (suc place)) (wordIn (line-is l) (layerOf (line-is l) table (suc place))) (wordIn (line-is l) (layerOf (line-is l) table (suc place))) (levels-of at) (s .inside) (ch .each) (λ u i. refl) o (s .value)
         ∙ rw (ch .count) (first .first))
 
     -- what is asked of a search for it
-    pub layered : Layered table l c place (levels-of at)
-    unfolding plain words
+    pub layered : Layered o table l c place (levels-of at)
+    unfolding plain words on-line
     layered = record {
-      line = st .line .fits;
+      line = st .line;
       choices = ch .fits;
-      few = omega (arith, few-intervals b (plain h) (st .opens));
-      room = rw (st .line .is) (omega (arith, tab .enough, mul-le-mul-right {m = place + 2} {n = intervals (job-in b) + 1} (layerWords (job-in b .line)) (omega (arith, before-end))));
-      inside = rw (st .line .is) (s .inside);
+      few = omega (arith, asks .before, few-intervals b (plain h) (st .opens));
+      room = omega (arith, asks .table-is .enough, mul-le-mul-right {m = place + 2} {n = intervals J + 1} (layerWords (line-is l)) (omega (arith, before-end)));
+      inside = s .inside;
       attained = record { pick = first .pick; first = move-first };
     }
 
@@ -108,51 +132,47 @@ module _ (b : List ℕ) (h : Header) (l : Line) (pins table : List ℕ) (place :
       inner-is : first .pick .inner ≡ choice
       inner-is = ap (λ (p : Pair). p .inner) is-pick
 
-      pub rate-below : rate < l .header .rates
-      unfolding entry
-      rate-below = rw (← rates-count l (st .line .fits), st .line .is, ← outer-is) (first .fits .rate)
+      pub rate-below : rate < l .count
+      unfolding entry on-line
+      rate-below = rw (← rates-count l (st .line), ← outer-is) (first .fits .rate)
 
       pub choice-below : choice < 31
       choice-below = omega (arith, inner-is, first .inner, ch .count, ch .fits .count)
 
       abbrev e : model.Entry
-      e = entry (job-in b) (suc place) (first .pick)
+      e = entry J (suc place) (first .pick)
 
-      sent-is : getD (l .rates) rate 0 ≡ sends (job-in b) e
-      unfolding sends entry
-      sent-is = rate-is l rate rate-below ∙ rw (st .line .is, outer-is)
+      sent-is : getD (l .rates) rate 0 ≡ sends J e
+      unfolding sends entry on-line
+      sent-is = rate-is l rate rate-below ∙ rw outer-is refl
 
-      coding-is : (getD (c .sizes) choice 0 ≡ takes (job-in b) (suc place) e) × (getD (c .distortions) choice 0 ≡ distorts (job-in b) (suc place) e)
+      coding-is : (getD (c .sizes) choice 0 ≡ takes J (suc place) e) × (getD (c .distortions) choice 0 ≡ distorts J (suc place) e)
       unfolding takes distorts
       coding-is = rw (← inner-is) (open-coding c (first .pick .inner) _ (ch .each (first .pick .inner) (omega (arith, first .inner, ch .count)) ∙ first .allowed))
 
-      sent-most : sends (job-in b) e ≤ 4095
-      unfolding sends
-      sent-most = job-limits b (plain h) (st .opens) .rate (e .rate) (first .fits .rate)
+      sent-most : sends J e ≤ 4095
+      sent-most = rw (← sent-is) (st .line .rate rate rate-below)
 
-      coding-most : (takes (job-in b) (suc place) e ≤ 4095) × (distorts (job-in b) (suc place) e ≤ 1000000)
+      coding-most : (takes J (suc place) e ≤ 4095) × (distorts J (suc place) e ≤ 1000000)
       unfolding takes distorts
       coding-most =
-          let w : CodingKept (coding (job-in b) (suc place) (e .choice)) = coding-within (job-in b) (job-limits b (plain h) (st .opens)) (suc place) (omega (arith, before-end)) (e .choice) (first .fits .choice) in
-          (w .size, w .distortion)
+          let w : CodingKept (coding (job-in b) (suc place) (e .choice)) = coding-within (job-in b) (job-limits b (plain h) (st .opens)) (suc place) (omega (arith, before-end, intervals-on (job-in b) (line-is l))) (e .choice) (choice-on (job-in b) (line-is l) (first .fits .choice)) in
+          let q = coding-on (job-in b) (line-is l) (suc place) (e .choice) in
+          (omega (arith, w .size, ap (λ (k : Coding). k .size) q), omega (arith, w .distortion, ap (λ (k : Coding). k .distortion) q))
 
       choice-is : (byte : ℕ) → choice-of byte ≡ chosen (plain h) place choice → e .choice ≡ choice-of byte
-      unfolding entry chosen
+      unfolding entry chosen on-line
       choice-is byte q = rw (delay-is b (plain h) (st .opens), inner-is) (sym q)
 
       module _ (x : Interval) (is : IntervalOf (getD (l .rates) rate 0) (getD (c .sizes) choice 0) (getD (c .distortions) choice 0) x) where
-        -- the step of the job's header is that of its line
-        header-steps : step-of h at x ≡ step-of (l .header) at x
-        unfolding step-of
-        header-steps = ap (λ (g : format.Header). outcome-of (line-of g) (choice-of (x .pin)) (choice-of (x .choice)) (at .decoder) (at .bucket ∷ []) (x .sent) (x .size)) (sym (st .line .header))
+        lands : step-of (l .buffers) at x ≡ reaches (first .end)
+        unfolding on-line
+        lands = line-steps l at (getD (l .rates) rate 0) (getD (c .sizes) choice 0) (getD (c .distortions) choice 0) x is ∙ rw (sent-is, coding-is .0) (first .step)
 
-        lands : step-of h at x ≡ reaches (first .end)
-        lands = header-steps ∙ line-steps l at (getD (l .rates) rate 0) (getD (c .sizes) choice 0) (getD (c .distortions) choice 0) x is ∙ rw (st .line .is, sent-is, coding-is .0) (first .step)
-
-        pub reached-end : Reached h at x
+        pub reached-end : Reached (l .buffers) at x
         reached-end = record { end = first .end; is = lands }
 
-        pub best-move : (byte : ℕ) (to : Levels) → choice-of byte ≡ chosen (plain h) place choice → step-of h at x ≡ reaches (levels-of to) → BestMove (job-in b) (lines (h .units) pins) place (levels-of at) (record { rate = rate; choice = byte; interval = x; to = to })
+        pub best-move : (byte : ℕ) (to : Levels) → choice-of byte ≡ chosen (plain h) place choice → step-of (l .buffers) at x ≡ reaches (levels-of to) → BestMove J M o place (levels-of at) (record { rate = rate; choice = byte; interval = x; to = to })
         best-move byte to q r =
             let to-is : levels-of to ≡ first .end = one-end (levels-of to) (first .end) (sym r ∙ lands) in
             record {
@@ -165,7 +185,7 @@ module _ (b : List ℕ) (h : Header) (l : Line) (pins table : List ℕ) (place :
                 distortion = is .distortion-is ∙ coding-is .1;
                 limits = (omega (arith, is .sent-is, sent-is, sent-most), omega (arith, is .size-is, coding-is, coding-most), omega (arith, is .distortion-is, coding-is, coding-most));
               };
-              buckets = rw to-is (reaches-poured (job-in b .line) _ _ _ _ (levels-of at) (first .end) (first .step));
+              buckets = rw to-is (reaches-poured (J .line) _ _ _ _ (levels-of at) (first .end) (first .step));
               ends = rw to-is (record { inside = first .inside; value = first .value; least-is = first .least-is });
               rest = rw to-is (first .rest);
             }

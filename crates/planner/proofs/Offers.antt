@@ -1,35 +1,34 @@
 -- What a choice and a pair offer, from what the interval does.
 -- Assumes nothing.
-use Prim.Native.Nat.{ℕ, _+_, _<_}
+use Prim.Native.Nat.{ℕ, _<_}
 use mathlib.Core.Path.{_≡_, refl, sym, _∙_}
 use mathlib.Core.Bool.{Bool, true, false}
 use mathlib.Core.Option.{none}
-use lib.Dec.{leb}
 use lib.ListN.{getD}
 use lib.Seq.{getD-take}
 use Rattle.trellis.specs.Pairs.{pair}
-use Rattle.trellis.specs.Table.{charge, fare}
+use Rattle.trellis.specs.Table.{fare}
 use Rattle.model.specs.If.{if_then_else_}
 use Rattle.model.specs.Job as model
 use Rattle.model.specs.Admissible.{Violation}
 use Rattle.model.specs.Step.{violates, reaches, outcome-of}
 use Rattle.model.specs.Best.{reached}
-use Rattle.model.specs.Table.{mark, bound, layerWords, tops, flat, place}
+use Rattle.model.specs.Table.{mark, layerWords, tops, flat, place}
 use Rattle.model.proofs.Places.{layer-each, place-below}
 use Rattle.model.proofs.Steps.{reaches-in-layer}
 use Rattle.format.proofs.Choices.{of-mark}
-use Rattle.job.specs.Answers.{plain}
 use Rattle.replay.specs.declared.Levels.{Levels}
 use Rattle.replay.specs.declared.Interval.{Interval}
 use Rattle.replay.specs.Answers.{levels-of, line-of}
 use Rattle.planning.specs.Rule.{Allowed, coding-offer, pair-offer}
+use Rattle.planning.specs.Passes.{charged}
 use Rattle.planner.specs.declared.Line.{Line}
 use Rattle.planner.specs.Answers.{line-is, coding-if, IntervalOf, step-of}
 
 -- a pair offers what its choice does with what its rate sends
-pub pair-offers : (l : Line) (c : Allowed) (W : model.Levels → ℕ) (s : model.Levels) (rate choice : ℕ) → rate < l .header .rates → coding-offer (line-is l) W s (getD (l .rates) rate 0) (c choice) ≡ pair-offer (line-is l) c W s (pair rate choice)
-unfolding pair-offer line-is
-pair-offers l c W s rate choice h = rw (getD-take (l .header .rates) (l .rates) rate 0 h)
+pub pair-offers : (l : Line) (c : Allowed) (W : model.Levels → ℕ) (s : model.Levels) (rate choice : ℕ) → rate < l .count → coding-offer (line-is l) W s (getD (l .rates) rate 0) (c choice) ≡ pair-offer (line-is l) c W s (pair rate choice)
+unfolding pair-offer line-is line-of
+pair-offers l c W s rate choice h = rw (getD-take (l .count) (l .rates) rate 0 h)
 
 -- a choice that the pin rules out
 pub barred-offers : (line : model.Line) (W : model.Levels → ℕ) (s : model.Levels) (sent : ℕ) (free : Bool) (size distortion : ℕ) → free ≡ false → mark ≡ coding-offer line W s sent (coding-if free size distortion)
@@ -38,20 +37,20 @@ barred-offers line W s sent free size distortion e = rw e
 
 module _ (l : Line) (from : Levels) (sent size distortion : ℕ) (x : Interval) (is : IntervalOf sent size distortion x) where
   -- no step looks at the rates
-  pub line-steps : step-of (l .header) from x ≡ outcome-of (line-is l) none none (levels-of from .decoder) (levels-of from .buckets) sent size
-  unfolding step-of outcome-of line-of line-is plain levels-of
+  pub line-steps : step-of (l .buffers) from x ≡ outcome-of (line-is l) none none (levels-of from .decoder) (levels-of from .buckets) sent size
+  unfolding step-of outcome-of line-of line-is levels-of
   line-steps = rw (is .sent-is, is .size-is, is .no-pin, is .no-unit, of-mark)
 
-  pub reached-below : (to : Levels) → step-of (l .header) from x ≡ reaches (levels-of to) → place (tops (line-is l)) (flat (levels-of to)) < layerWords (line-is l)
-  unfolding line-is levels-of
+  pub reached-below : (to : Levels) → step-of (l .buffers) from x ≡ reaches (levels-of to) → place (tops (line-is l)) (flat (levels-of to)) < layerWords (line-is l)
+  unfolding line-is line-of levels-of
   reached-below to h = place-below (layer-each (reaches-in-layer (line-is l) none none sent size (levels-of from) (levels-of to) refl (sym line-steps ∙ h)))
 
   -- a choice that it leaves open
   module _ (W : model.Levels → ℕ) (free : Bool) (e : free ≡ true) where
-    pub violation-offers : (v : Violation) → step-of (l .header) from x ≡ violates v → mark ≡ coding-offer (line-is l) W (levels-of from) sent (coding-if free size distortion)
+    pub violation-offers : (v : Violation) → step-of (l .buffers) from x ≡ violates v → mark ≡ coding-offer (line-is l) W (levels-of from) sent (coding-if free size distortion)
     unfolding coding-offer coding-if if_then_else_ fare reached
     violation-offers v h = rw (e, sym line-steps ∙ h)
 
-    pub reached-offers : (to : Levels) → step-of (l .header) from x ≡ reaches (levels-of to) → charge mark bound _+_ (leb (W (levels-of to)) bound) distortion (W (levels-of to)) ≡ coding-offer (line-is l) W (levels-of from) sent (coding-if free size distortion)
-    unfolding coding-offer coding-if if_then_else_ fare reached
+    pub reached-offers : (to : Levels) → step-of (l .buffers) from x ≡ reaches (levels-of to) → charged distortion (W (levels-of to)) ≡ coding-offer (line-is l) W (levels-of from) sent (coding-if free size distortion)
+    unfolding coding-offer coding-if if_then_else_ fare reached charged
     reached-offers to h = rw (e, sym line-steps ∙ h)

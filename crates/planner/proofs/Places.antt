@@ -12,6 +12,7 @@ use lib.Seq.{length-take-le}
 use Rattle.trellis.specs.Pairs.{Pair}
 use Rattle.trellis.specs.Table.{first-at}
 use Rattle.model.specs.Job.{Levels}
+use Rattle.model.specs.Best.{Order}
 use Rattle.model.specs.Table.{layerWords, tops, flat, layerOf, wordIn}
 use Rattle.model.specs.Table as table
 use Rattle.model.proofs.Layers.{word-is}
@@ -35,7 +36,7 @@ abbrev pub next-part : List ℕ → ℕ → ℕ → List ℕ
 next-part words place size = take ((place + 1) * size + size - (place + 1) * size) (drop ((place + 1) * size) words)
 
 -- the layers on both sides of an interval, with their size and the place of a state as they were computed
-module _ (words : List ℕ) (l : Line) (c : Choices) (place : ℕ) (s : Levels) (a : Layered words l c place s) (size i : ℕ) (e : size ≡ layerWords (line-is l)) (q : i ≡ table.place (tops (line-is l)) (flat s)) where
+module _ (o : Order) (words : List ℕ) (l : Line) (c : Choices) (place : ℕ) (s : Levels) (a : Layered o words l c place s) (size i : ℕ) (e : size ≡ layerWords (line-is l)) (q : i ≡ table.place (tops (line-is l)) (flat s)) where
   pub spans : Spans words place size i
   spans = record {
     next = omega (arith, add-mul place 1 size, one-mul size);
@@ -60,7 +61,7 @@ module _ (words : List ℕ) (l : Line) (c : Choices) (place : ℕ) (s : Levels) 
       length-take-le n (drop (suc place * n) words) (omega (arith, length-drop (suc place * n) words))
 
   -- what the first entry is asked, and what it says of the layers
-  pub offered : Offers (next-part words place size) l c × Attained (line-is l) (c .count) (allowed-is c) (next-part words place size) s (getD words (place * size + i) 0)
+  pub offered : Offers (next-part words place size) l c × Attained o (line-is l) (c .count) (allowed-is c) (next-part words place size) s (getD words (place * size + i) 0)
   offered = rw (part-layer, here-word) (record { line = a .line; choices = a .choices; whole = next-size }, a .attained)
 
   pub first-found : (pairs : List Pair) (p : Pair) → first-at (pair-offer (line-is l) (allowed-is c) (wordIn (line-is l) (next-part words place size)) s) (getD words (place * size + i) 0) pairs ≡ some p → first-at (pair-offer (line-is l) (allowed-is c) (wordIn (line-is l) (layerOf (line-is l) words (suc place))) s) (wordIn (line-is l) (layerOf (line-is l) words place) s) pairs ≡ some p

@@ -1,18 +1,18 @@
 -- The sizes of a line's layer, its places and its rates, as the code computes them.
 -- Assumes nothing.
-use Prim.Native.Nat.{ℕ, _+_, _*_, _/_, _%_, _<_, _≤_}
+use Prim.Native.Nat.{ℕ, _+_, _*_, _/_, _%_, _≤_}
 use mathlib.Core.Path.{_≡_}
 use mathlib.Core.List.{[], _∷_}
-use native.Mathlib.Nat.{mul-one, div-one, mul-le-mul, div-lt-iff-lt-mul, mod-lt}
+use native.Mathlib.Nat.{mul-one, div-one, mul-le-mul}
 use native.Mathlib.Omega.{arith}
 use mir.Syntax.{w64}
 use mir.Val.{Fits}
 use lib.ListN.{length}
 use lib.Seq.{length-take-le}
 use Rattle.model.specs.Job as model
-use Rattle.model.specs.Table.{layerWords, tops, flat, span, place, levelsAt, stateAt}
+use Rattle.model.specs.Table.{layerWords, sizes, tops, flat, span, place, levelsAt, stateAt}
 use Rattle.replay.specs.declared.Levels.{Levels}
-use Rattle.replay.specs.Answers.{levels-of}
+use Rattle.replay.specs.Answers.{levels-of, line-of}
 use Rattle.planner.specs.declared.Line.{Line}
 use Rattle.planner.specs.Answers.{line-is, LineFits}
 
@@ -24,28 +24,25 @@ pub product-fits : (a b : ℕ) → a ≤ 8589934592 → b ≤ 65536 → Fits w64
 product-fits a b h k = let small : a * b ≤ 562949953421312 = mul-le-mul {n₂ = 8589934592} {m₂ = 65536} h k in record { fits = omega arith }
 
 module _ (l : Line) where
-  pub layer-size : (l .header .decoder + 1) * (l .header .bucket + 1) ≡ layerWords (line-is l)
-  unfolding line-is tops span
-  layer-size = rw (mul-one (l .header .bucket + 1))
+  pub row-size : l .buffers .bucket + 1 ≡ span (sizes (line-is l))
+  unfolding line-is line-of span
+  row-size = rw (mul-one (l .buffers .bucket + 1))
+
+  pub layer-size : (l .buffers .decoder + 1) * (l .buffers .bucket + 1) ≡ layerWords (line-is l)
+  unfolding line-is line-of tops span
+  layer-size = rw (mul-one (l .buffers .bucket + 1))
 
   pub layer-small : LineFits l → layerWords (line-is l) ≤ 65536
   layer-small f = rw (← layer-size) (mul-le-mul {n₂ = 256} {m₂ = 256} (omega (arith, f .decoder)) (omega (arith, f .bucket)))
 
-  pub place-is : (at : Levels) → at .decoder * (l .header .bucket + 1) + at .bucket ≡ place (tops (line-is l)) (flat (levels-of at))
-  unfolding line-is tops span flat levels-of place
-  place-is at = rw (mul-one (l .header .bucket + 1), mul-one (at .bucket)) (omega arith)
+  pub place-is : (at : Levels) → at .decoder * (l .buffers .bucket + 1) + at .bucket ≡ place (tops (line-is l)) (flat (levels-of at))
+  unfolding line-is line-of tops span flat levels-of place
+  place-is at = rw (mul-one (l .buffers .bucket + 1), mul-one (at .bucket)) (omega arith)
 
-  pub state-is : (i : ℕ) → _≡_ {A = model.Levels} (record { decoder = i / (l .header .bucket + 1); buckets = (i % (l .header .bucket + 1)) ∷ [] }) (stateAt (line-is l) i)
-  unfolding line-is stateAt span levelsAt
-  state-is i = rw (mul-one (l .header .bucket + 1), div-one (i % (l .header .bucket + 1)))
+  pub state-is : (i : ℕ) → _≡_ {A = model.Levels} (record { decoder = i / (l .buffers .bucket + 1); buckets = (i % (l .buffers .bucket + 1)) ∷ [] }) (stateAt (line-is l) i)
+  unfolding line-is line-of stateAt span levelsAt
+  state-is i = rw (mul-one (l .buffers .bucket + 1), div-one (i % (l .buffers .bucket + 1)))
 
-  -- the levels at a place are small
-  pub decoder-small : (i : ℕ) → LineFits l → i < layerWords (line-is l) → i / (l .header .bucket + 1) < 256
-  decoder-small i f h = let q = div-lt-iff-lt-mul {k = l .header .bucket + 1} {x = i} {y = l .header .decoder + 1} (omega arith) .1 (rw (← layer-size) at h) in omega (arith, f .decoder)
-
-  pub bucket-small : (i : ℕ) → LineFits l → i % (l .header .bucket + 1) < 256
-  bucket-small i f = let q = mod-lt i {m = l .header .bucket + 1} (omega arith) in omega (arith, f .bucket)
-
-  pub rates-count : LineFits l → length (line-is l .rates) ≡ l .header .rates
-  unfolding line-is
-  rates-count f = length-take-le (l .header .rates) (l .rates) (rw (f .size) (f .rates))
+  pub rates-count : LineFits l → length (line-is l .rates) ≡ l .count
+  unfolding line-is line-of
+  rates-count f = length-take-le (l .count) (l .rates) (rw (f .size) (f .rates))

@@ -1,6 +1,6 @@
 -- What the structs and answers of this crate mean in the terms of `model` and `planning`, case by case, and what its private functions say and ask.
 -- Assumes nothing.
-use Prim.Native.Nat.{ℕ, suc, _+_, _*_, _<_, _≤_}
+use Prim.Native.Nat.{ℕ, suc, _+_, _-_, _*_, _<_, _≤_}
 use mathlib.Core.Path.{_≡_}
 use mathlib.Core.Bool.{Bool, false}
 use mathlib.Core.Option.{Option, none, some}
@@ -15,26 +15,32 @@ use Rattle.model.specs.Job as model
 use Rattle.model.specs.Pins.{PinMap}
 use Rattle.model.specs.Step.{Outcome, reaches, poured, pin-held, outcome-of}
 use Rattle.model.specs.Replay as model-replay
-use Rattle.model.specs.Best.{late, pairs, width, least-total, best-plan}
+use Rattle.model.specs.Best as model-best
+use Rattle.model.specs.Best.{late, early, pairs, width, least-total, best-plan}
 use Rattle.model.specs.Table.{InLayer, layerWords, words, layerOf, wordIn}
 use Rattle.format.specs.Choices.{no-choice, choice-of}
 use Rattle.format.specs.Places.{coding-at}
 use Rattle.format.specs.JobBytes.{job-in, Opens}
 use Rattle.format.specs.JobBytes as format
-use Rattle.job.specs.declared.Header.{Header}
-use Rattle.job.specs.Answers.{plain}
+use Rattle.pinning.specs.State.{lines}
+use Rattle.replay.specs.declared.Buffers.{Buffers}
 use Rattle.replay.specs.declared.Totals.{Totals}
 use Rattle.replay.specs.declared.Levels.{Levels}
 use Rattle.replay.specs.declared.Interval.{Interval}
 use Rattle.replay.specs.Answers.{levels-of, totals-of, line-of, Does}
-use Rattle.replaying.specs.Entries.{entry-bytes}
+use Rattle.replaying.specs.Entries.{entry-size, entry-bytes}
 use Rattle.model.specs.Lent.{over}
 use Rattle.planning.specs.Rule.{Allowed, pair-offer, allowed-in}
 use Rattle.planning.specs.Words.{layer}
 use Rattle.planning.specs.Calls as calls
+use Rattle.layer.specs.declared.Line as layer-line
+use Rattle.layer.specs.Answers as layer-answers
+use Rattle.layer.specs.Neutral.{fronted}
 use Rattle.planner.specs.declared.Planned.{Planned}
 use Rattle.planner.specs.declared.Planned.the-variants as p
 use Rattle.planner.specs.declared.Line.{Line}
+use Rattle.planner.specs.declared.Order.{Order}
+use Rattle.planner.specs.declared.Order.the-variants as o
 use Rattle.planner.specs.declared.Choices.{Choices}
 use Rattle.planner.specs.declared.Move.{Move}
 
@@ -46,13 +52,17 @@ answered (p.Refused n) = refused n
 unfoldable pub planned : Planned → List ℕ → List ℕ → calls.Planned
 planned x table entries = record { answer = answered x; table = table; entries = entries }
 
--- a line of one bucket
+-- the line of the model: the first of the array are its rates
 unfoldable pub line-is : Line → model.Line
-line-is l = record {
-  decoder = l .header .decoder;
-  buckets = record { size = l .header .bucket; drain = l .header .drain } ∷ [];
-  rates = take (l .header .rates) (l .rates);
-}
+line-is l = line-of (l .buffers) (take (l .count) (l .rates))
+
+-- the job that stands in bytes, over this line
+abbrev pub job-on : List ℕ → Line → model.Job
+job-on b l = model.on-line (job-in b) (line-is l)
+
+unfoldable pub order-is : Order → model-best.Order
+order-is o.Late = late
+order-is o.Early = early
 
 -- a coding, where its choice is open
 unfoldable pub coding-if : Bool → ℕ → ℕ → Option model.Coding
@@ -70,10 +80,18 @@ table-words h = (h .units + h .delay + 1) * (h .decoder + 1) * (h .bucket + 1)
 
 -- document 01's limits of a line, and its array of rates
 pub record LineFits (l : Line) : Type 0 where
-  pub decoder : l .header .decoder ≤ 255
-  pub bucket : l .header .bucket ≤ 255
-  pub rates : l .header .rates ≤ 16
+  pub decoder : l .buffers .decoder ≤ 255
+  pub bucket : l .buffers .bucket ≤ 255
+  pub drain : l .buffers .drain ≤ 4095
+  pub rates : l .count ≤ 16
+  pub rate : (y : ℕ) → y < l .count → getD (l .rates) y 0 ≤ 4095
   pub size : length (l .rates) ≡ 16
+  pub small : (y : ℕ) → y < length (line-is l .rates) → getD (line-is l .rates) y 0 ≤ 4095
+
+-- the line with a bucket in front that drains every rate
+pub record LayerLine (l : Line) (r : layer-line.Line) : Type 0 where
+  pub is : layer-answers.line-is r ≡ fronted 4095 (line-is l)
+  pub fits : layer-answers.LineFits r
 
 -- and of an interval's choices
 pub record ChoicesFit (c : Choices) : Type 0 where
@@ -90,13 +108,12 @@ pub record Offers (next : List ℕ) (l : Line) (c : Choices) : Type 0 where
   pub whole : length next ≡ layerWords (line-is l)
 
 -- some pair attains the word
-pub record Attained (line : model.Line) (n : ℕ) (allowed : Allowed) (next : List ℕ) (s : model.Levels) (word : ℕ) : Type 0 where
+pub record Attained (o : model-best.Order) (line : model.Line) (n : ℕ) (allowed : Allowed) (next : List ℕ) (s : model.Levels) (word : ℕ) : Type 0 where
   pub pick : Pair
-  pub first : first-at (pair-offer line allowed (wordIn line next) s) word (pairs late (length (line .rates)) n) ≡ some pick
+  pub first : first-at (pair-offer line allowed (wordIn line next) s) word (pairs o (length (line .rates)) n) ≡ some pick
 
--- the line of the job that stands in bytes with this header
-pub record LineOf (b : List ℕ) (h : format.Header) (l : Line) : Type 0 where
-  pub header : plain (l .header) ≡ h
+-- the line of the job that stands in bytes
+pub record LineOf (b : List ℕ) (l : Line) : Type 0 where
   pub is : line-is l ≡ job-in b .line
   pub fits : LineFits l
 
@@ -121,20 +138,27 @@ pub record ChoicesOf (j : model.Job) (m : PinMap) (place : ℕ) (c : Choices) : 
   pub each : (x : ℕ) → x < c .count → allowed-is c x ≡ allowed-in j m (suc place) x
   pub fits : ChoicesFit c
 
--- the bytes of a job, its line and the pins of a set
+-- the bytes of a job, any line within the limits and the pins of a set
 pub record Starts (b : List ℕ) (h : format.Header) (l : Line) (pins : List ℕ) : Type 0 where
   pub opens : Opens b h
-  pub line : LineOf b h l
+  pub line : LineFits l
   pub pins-size : length pins ≡ 512
 
+-- layers to be filled, and room for them and the next
+pub record Fills (b : List ℕ) (h : format.Header) (l : Line) (pins : List ℕ) (first last : ℕ) (table : List ℕ) : Type 0 where
+  pub starts : Starts b h l pins
+  pub ends : first ≤ last
+  pub few : last ≤ h .units + h .delay
+  pub room : (last + 1) * layerWords (line-is l) ≤ length table
+
 -- the layers on both sides of an interval, and levels whose word an entry attains
-pub record Layered (table : List ℕ) (l : Line) (c : Choices) (place : ℕ) (s : model.Levels) : Type 0 where
+pub record Layered (o : model-best.Order) (table : List ℕ) (l : Line) (c : Choices) (place : ℕ) (s : model.Levels) : Type 0 where
   pub line : LineFits l
   pub choices : ChoicesFit c
   pub few : place < 600
   pub room : (place + 2) * layerWords (line-is l) ≤ length table
   pub inside : InLayer (line-is l) s
-  pub attained : Attained (line-is l) (c .count) (allowed-is c) (layerOf (line-is l) table (suc place)) s (wordIn (line-is l) (layerOf (line-is l) table place) s)
+  pub attained : Attained o (line-is l) (c .count) (allowed-is c) (layerOf (line-is l) table (suc place)) s (wordIn (line-is l) (layerOf (line-is l) table place) s)
 
 -- what an interval does that sends so much and decodes a coding of this size and distortion
 pub record IntervalOf (sent size distortion : ℕ) (x : Interval) : Type 0 where
@@ -145,21 +169,21 @@ pub record IntervalOf (sent size distortion : ℕ) (x : Interval) : Type 0 where
   pub no-unit : x .choice ≡ no-choice
 
 -- where an interval leads
-unfoldable pub step-of : Header → Levels → Interval → Outcome
-step-of h at x = outcome-of (line-of (plain h)) (choice-of (x .pin)) (choice-of (x .choice)) (at .decoder) (at .bucket ∷ []) (x .sent) (x .size)
+unfoldable pub step-of : Buffers → Levels → Interval → Outcome
+step-of k at x = outcome-of (line-of k []) (choice-of (x .pin)) (choice-of (x .choice)) (at .decoder) (at .bucket ∷ []) (x .sent) (x .size)
 
-pub record Reached (h : Header) (at : Levels) (x : Interval) : Type 0 where
+pub record Reached (k : Buffers) (at : Levels) (x : Interval) : Type 0 where
   pub end : model.Levels
-  pub is : step-of h at x ≡ reaches end
+  pub is : step-of k at x ≡ reaches end
 
 -- the choice of an entry in a place
 unfoldable pub chosen : format.Header → ℕ → ℕ → Option ℕ
 chosen h place x = if ltb place (h .delay) then none else some x
 
--- the table is filled
-pub record Tabled (j : model.Job) (m : PinMap) (table : List ℕ) : Type 0 where
+-- the table is filled from this layer on
+pub record Tabled (j : model.Job) (m : PinMap) (first : ℕ) (table : List ℕ) : Type 0 where
   pub enough : words j ≤ length table
-  pub layers : (t : ℕ) → t ≤ model.intervals j → layerOf (j .line) table t ≡ layer j m t
+  pub layers : (t : ℕ) → first ≤ t → t ≤ model.intervals j → layerOf (j .line) table t ≡ layer j m t
 
 -- levels in a layer from which the rest can be completed
 pub record Standing (j : model.Job) (m : PinMap) (t : ℕ) (s : model.Levels) : Type 0 where
@@ -167,17 +191,40 @@ pub record Standing (j : model.Job) (m : PinMap) (t : ℕ) (s : model.Levels) : 
   pub value : ℕ
   pub least-is : least-total j m t s ≡ some value
 
+-- a place of a plan, its levels, and the table from there on
+pub record Moves (b : List ℕ) (h : format.Header) (l : Line) (pins table : List ℕ) (place : ℕ) (s : model.Levels) : Type 0 where
+  pub starts : Starts b h l pins
+  pub before : place < h .units + h .delay
+  pub table-is : Tabled (job-on b l) (lines (h .units) pins) place table
+  pub stands : Standing (job-on b l) (lines (h .units) pins) place s
+
 -- the first entry of the best plan from these levels, with what it does and where it leads
-pub record BestMove (j : model.Job) (m : PinMap) (place : ℕ) (s : model.Levels) (x : Move) : Type 0 where
+pub record BestMove (j : model.Job) (m : PinMap) (o : model-best.Order) (place : ℕ) (s : model.Levels) (x : Move) : Type 0 where
   pub entry : model.Entry
   pub rate : entry .rate ≡ x .rate
   pub choice : entry .choice ≡ choice-of (x .choice)
   pub does : Does j (suc place) entry (x .interval)
   pub buckets : levels-of (x .to) .buckets ≡ poured (model.sends j entry) (j .line .buckets) (s .buckets)
   pub ends : Standing j m (suc place) (levels-of (x .to))
-  pub rest : best-plan j m place s late ≡ entry ∷ best-plan j m (suc place) (levels-of (x .to)) late
+  pub rest : best-plan j m place s o ≡ entry ∷ best-plan j m (suc place) (levels-of (x .to)) o
+
+-- a first place, its levels, the table from there on, and a list for the entries of the intervals after it
+pub record ReadsOff (b : List ℕ) (h : format.Header) (l : Line) (pins table : List ℕ) (first : ℕ) (s : model.Levels) (entries : List ℕ) : Type 0 where
+  pub starts : Starts b h l pins
+  pub few : first ≤ h .units + h .delay
+  pub table-is : Tabled (job-on b l) (lines (h .units) pins) first table
+  pub stands : Standing (job-on b l) (lines (h .units) pins) first s
+  pub room : entry-size * (h .units + h .delay - first) ≤ length entries
 
 -- the best plan, written over the first entries, and its totals
-pub record PlanRead (j : model.Job) (m : PinMap) (old : List ℕ) (t : Totals) (new : List ℕ) : Type 0 where
-  pub totals-are : totals-of t ≡ model-replay.totals j 0 (j .start) (best-plan j m 0 (j .start) late)
-  pub written : new ≡ over (entry-bytes (best-plan j m 0 (j .start) late)) old
+pub record PlanRead (j : model.Job) (m : PinMap) (o : model-best.Order) (first : ℕ) (s : model.Levels) (old : List ℕ) (t : Totals) (new : List ℕ) : Type 0 where
+  pub totals-are : totals-of t ≡ model-replay.totals j first s (best-plan j m first s o)
+  pub written : new ≡ over (entry-bytes (best-plan j m first s o)) old
+
+-- a first place and its levels, and lists that are long enough
+pub record Searches (b : List ℕ) (h : format.Header) (l : Line) (pins : List ℕ) (first : ℕ) (s : model.Levels) (table entries : List ℕ) : Type 0 where
+  pub starts : Starts b h l pins
+  pub few : first ≤ h .units + h .delay
+  pub inside : InLayer (line-is l) s
+  pub room : words (job-on b l) ≤ length table
+  pub space : entry-size * (h .units + h .delay - first) ≤ length entries

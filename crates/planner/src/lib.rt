@@ -5,15 +5,15 @@ pub mod refusal;
 ghost use mathlib.Core.Path.{_≡_};
 ghost use mathlib.Core.Option.{some};
 ghost use mathlib.Core.List.{_++_};
-ghost use Prim.Native.Nat.{suc, _+_, _*_, _<_, _≤_, min};
-ghost use lib.Dec.{leb};
+ghost use Prim.Native.Nat.{suc, _+_, _-_, _*_, _<_, _≤_, min};
 ghost use lib.ListN.{length, getD, set, take, drop, replicate};
-ghost use Rattle.trellis.specs.Pairs.{pair, row};
-ghost use Rattle.trellis.specs.Table.{lowest, first-at, charge};
-ghost use Rattle.model.specs.Job.{intervals};
+ghost use lib.Seq.{paste};
+ghost use Rattle.trellis.specs.Pairs.{pair};
+ghost use Rattle.trellis.specs.Table.{first-at};
 ghost use Rattle.model.specs.Step.{reaches};
-ghost use Rattle.model.specs.Best.{late, pairs};
-ghost use Rattle.model.specs.Table.{mark, bound, layerWords, tops, flat, place, stateAt, words, layerOf, wordIn};
+ghost use Rattle.model.specs.Best.{turn, pairs};
+ghost use Rattle.model.specs.Levels.{build};
+ghost use Rattle.model.specs.Table.{layerWords, sizes, tops, flat, span, place, words, layerOf, wordIn};
 ghost use Rattle.format.specs.Choices.{choice-of};
 ghost use Rattle.format.specs.JobBytes.{job-in, Opens};
 ghost use Rattle.job.specs.Answers.{plain};
@@ -21,14 +21,19 @@ ghost use Rattle.pinning.specs.State.{lines};
 ghost use Rattle.pins.specs.Answers.{state};
 ghost use Rattle.replay.specs.Answers.{levels-of};
 ghost use Rattle.replaying.specs.Entries.{entry-size};
-ghost use Rattle.model.specs.Lent.{over};
-ghost use Rattle.planning.specs.Rule.{coding-offer, pair-offer, least-offer, layer-from};
-ghost use Rattle.planning.specs.Words.{layer, layers, table-of};
+ghost use Rattle.planning.specs.Rule.{coding-offer, pair-offer, layer-from, refilled};
+ghost use Rattle.planning.specs.Passes.{charged};
+ghost use Rattle.planning.specs.Words.{table-from};
 ghost use Rattle.planning.specs.Calls.{search-in, plan-call};
-ghost use Rattle.planner.specs.Answers.{planned, line-is, coding-if, allowed-is, table-words, LineFits, ChoicesFit, Offers, Attained, LineOf, NoChoices, UnitChoices, ChoicesOf, Starts, Layered, IntervalOf, step-of, Reached, chosen, Tabled, Standing, BestMove, PlanRead};
+ghost use Rattle.planner.specs.Answers.{planned, line-is, job-on, order-is, coding-if, allowed-is, table-words, LineFits, ChoicesFit, Offers, Attained, LineOf, NoChoices, UnitChoices, ChoicesOf, Starts, Fills, Layered, LayerLine, IntervalOf, step-of, Reached, chosen, Moves, BestMove, ReadsOff, PlanRead, Searches};
+ghost use Rattle.layer.specs.Answers.{price-at};
+ghost use Rattle.layer.specs.Blocks.{LeastOf};
 use job::Header;
 use job::Reading;
+use layer::Aim;
+use layer::Bucket;
 use pins::PinSet;
+use replay::Buffers;
 use replay::Interval;
 use replay::Levels;
 use replay::Outcome;
@@ -40,10 +45,17 @@ pub enum Planned {
     Refused(u8),
 }
 
-// What receiver and carrier fix: the sizes and the drain of a header, and its rates.
+// What receiver and carrier fix: the decoder's size, the bucket and the rates on offer, of which there are `count`.
 struct Line {
-    header: Header,
+    buffers: Buffers,
+    count: u16,
     rates: [u16; 16],
+}
+
+// Which of the entries that attain a word is taken: that of the smaller rate index, or of the larger; of one rate, that of the smaller choice.
+enum Order {
+    Late,
+    Early,
 }
 
 // The choices of one interval: how many, which a pin leaves open, and how each codes the unit that is decoded.
@@ -73,44 +85,25 @@ const NONE: u32 = 4294967295;
 
 const LARGEST: u32 = 512000000;
 
-fn lesser(a: u32, b: u32) -> u32
-    ensures { λ r. ⌜ r ≡ min a b ⌝ }
-{
-    if a < b { a } else { b }
-}
-
 // How many words a layer has: one for each decoder level and bucket level.
 fn layer_words(line: Line) -> usize
     ensures { λ r. ⌜ r ≡ layerWords (line-is line) ⌝ }
 {
-    (line.header.decoder as usize + 1) * (line.header.bucket as usize + 1)
+    (line.buffers.decoder as usize + 1) * (line.buffers.bucket as usize + 1)
 }
 
 // The place of levels in a layer, the decoder's outermost.
 fn word_place(line: Line, at: Levels) -> usize
     ensures { λ r. ⌜ r ≡ place (tops (line-is line)) (flat (levels-of at)) ⌝ }
 {
-    at.decoder as usize * (line.header.bucket as usize + 1) + at.bucket as usize
+    at.decoder as usize * (line.buffers.bucket as usize + 1) + at.bucket as usize
 }
 
-// The levels at a place of a layer.
-fn levels_at(line: Line, place: usize) -> Levels
-    requires { ⌜ LineFits line × (place < layerWords (line-is line)) ⌝ }
-    ensures { λ r. ⌜ levels-of r ≡ stateAt (line-is line) place ⌝ }
+// A distortion and a word of the next layer, or none where the word cannot be completed.
+fn charged(word: u32, distortion: u32) -> u32
+    requires { ⌜ distortion ≤ 1000000 ⌝ }
+    ensures { λ r. ⌜ r ≡ charged distortion word ⌝ }
 {
-    let width = line.header.bucket as usize + 1;
-    Levels {
-        decoder: (place / width) as u16,
-        bucket: (place % width) as u16,
-    }
-}
-
-// A distortion and the word at a place of the next layer, or none where that word cannot be completed.
-fn price(next: &[u32], place: usize, distortion: u32) -> u32
-    requires { ⌜ (place < length (now next)) × (distortion ≤ 1000000) ⌝ }
-    ensures { λ r. ⌜ r ≡ charge mark bound _+_ (leb (getD (now (next .entry)) place 0) bound) distortion (getD (now (next .entry)) place 0) ⌝ }
-{
-    let word = next[place];
     if word <= LARGEST {
         distortion + word
     } else {
@@ -147,41 +140,52 @@ fn offer(
     if !free {
         return NONE;
     }
+    let buffers = line.buffers;
     let x = interval_of(sent, size, distortion);
-    match replay::step(line.header, from, x) {
+    match replay::step(buffers, from, x) {
         Outcome::Violates(_) => NONE,
-        Outcome::Reaches(to) => price(next, word_place(line, to), distortion),
+        Outcome::Reaches(to) => {
+            let at = word_place(line, to);
+            charged(next[at], distortion)
+        }
     }
 }
 
-// The least that the choices offer with one rate.
-fn rate_word(next: &[u32], line: Line, choices: Choices, from: Levels, rate: usize) -> u32
-    requires { ⌜ Offers (now next) line choices × (rate < line .header .rates) ⌝ }
-    ensures { λ r. ⌜ r ≡ lowest mark (pair-offer (line-is line) (allowed-is choices) (wordIn (line-is line) (now (next .entry))) (levels-of from)) (row rate (choices .count)) ⌝ }
+// The line with a bucket in front that is always empty: it drains every rate.
+fn layer_line(line: Line) -> layer::Line
+    requires { ⌜ LineFits line ⌝ }
+    ensures { λ r. ⌜ LayerLine line r ⌝ }
 {
-    let sent = line.rates[rate];
-    let count = choices.count;
-    let mut least = NONE;
-    for choice in 0..count {
+    let rates = line.rates;
+    layer::Line {
+        decoder: line.buffers.decoder,
+        outer: Bucket {
+            size: 0,
+            drain: 4095,
+        },
+        inner: Bucket {
+            size: line.buffers.bucket,
+            drain: line.buffers.drain,
+        },
+        count: line.count,
+        rates,
+    }
+}
+
+// The least distortion of each size among the choices that are open.
+fn prices_of(choices: Choices) -> [u32; 256]
+    requires { ⌜ ChoicesFit choices ⌝ }
+    ensures { λ r. ⌜ LeastOf 256 (choices .count) (λ r x. price-at r (allowed-is choices x)) r ⌝ }
+{
+    let total = choices.count;
+    let mut prices = layer::no_prices();
+    for choice in 0..total {
         let free = choices.allowed[choice];
         let size = choices.sizes[choice];
         let distortion = choices.distortions[choice];
-        least = lesser(least, offer(next, line, from, sent, free, size, distortion));
+        layer::with_choice(&mut prices, free, size, distortion);
     }
-    least
-}
-
-// A state's word: the least that all rates and choices offer.
-fn word(next: &[u32], line: Line, choices: Choices, from: Levels) -> u32
-    requires { ⌜ Offers (now next) line choices ⌝ }
-    ensures { λ r. ⌜ r ≡ least-offer (line-is line) (choices .count) (allowed-is choices) (wordIn (line-is line) (now (next .entry))) (levels-of from) ⌝ }
-{
-    let count = line.header.rates as usize;
-    let mut least = NONE;
-    for rate in 0..count {
-        least = lesser(least, rate_word(next, line, choices, from, rate));
-    }
-    least
+    prices
 }
 
 // Fills one interval's layer, which is the part's first, from the next, which follows it. Levels that are never reached from the start are filled too.
@@ -189,12 +193,8 @@ fn fill_layer(part: &mut [u32], line: Line, choices: Choices)
     requires { ⌜ LineFits line × ChoicesFit choices × (layerWords (line-is line) + layerWords (line-is line) ≤ length (now part)) ⌝ }
     ensures { λ _. ⌜ now (part .exit) ≡ layer-from (line-is line) (choices .count) (allowed-is choices) (take (layerWords (line-is line)) (drop (layerWords (line-is line)) (now (part .entry)))) ++ drop (layerWords (line-is line)) (now (part .entry)) ⌝ }
 {
-    let size = layer_words(line);
-    let end = size + size;
-    for place in 0..size {
-        let least = word(&part[size..end], line, choices, levels_at(line, place));
-        part[place] = least;
-    }
+    let prices = prices_of(choices);
+    layer::fill_layer(part, layer_line(line), &prices, Aim::Total);
 }
 
 // The last layer: nothing is left to add.
@@ -207,15 +207,34 @@ fn fill_last(part: &mut [u32], size: usize)
     }
 }
 
-// The first entry in tie order that attains a word: the smaller rate index, then the smaller choice index.
-fn first_entry(next: &[u32], line: Line, choices: Choices, from: Levels, word: u32) -> Pick
-    requires { ⌜ Offers (now next) line choices × Attained (line-is line) (choices .count) (allowed-is choices) (now next) (levels-of from) word ⌝ }
-    ensures { λ r. ⌜ first-at (pair-offer (line-is line) (allowed-is choices) (wordIn (line-is line) (now (next .entry))) (levels-of from)) word (pairs late (length (line-is line .rates)) (choices .count)) ≡ some (pair (r .rate) (r .choice)) ⌝ }
+// Of so many rate indices, the one in a place of the order.
+fn rate_in(order: Order, rates: usize, at: usize) -> usize
+    requires { ⌜ at < rates ⌝ }
+    ensures { λ r. ⌜ r ≡ turn (order-is order) rates at ⌝ }
 {
-    let rates = line.header.rates as usize;
+    match order {
+        Order::Late => at,
+        Order::Early => rates - 1 - at,
+    }
+}
+
+// The first entry in the order that attains a word.
+fn first_entry(
+    order: Order,
+    next: &[u32],
+    line: Line,
+    choices: Choices,
+    from: Levels,
+    word: u32,
+) -> Pick
+    requires { ⌜ Offers (now next) line choices × Attained (order-is order) (line-is line) (choices .count) (allowed-is choices) (now next) (levels-of from) word ⌝ }
+    ensures { λ r. ⌜ first-at (pair-offer (line-is line) (allowed-is choices) (wordIn (line-is line) (now (next .entry))) (levels-of from)) word (pairs (order-is order) (length (line-is line .rates)) (choices .count)) ≡ some (pair (r .rate) (r .choice)) ⌝ }
+{
+    let rates = line.count as usize;
     let count = choices.count;
     let mut found = Pick { rate: 0, choice: 0 };
-    'search: for rate in 0..rates {
+    'search: for at in 0..rates {
+        let rate = rate_in(order, rates, at);
         let sent = line.rates[rate];
         for choice in 0..count {
             let free = choices.allowed[choice];
@@ -233,14 +252,18 @@ fn first_entry(next: &[u32], line: Line, choices: Choices, from: Levels, word: u
 // The line of a job.
 fn line_in(job: &[u8], header: Header) -> Line
     requires { ⌜ Opens (now job) (plain header) ⌝ }
-    ensures { λ r. ⌜ LineOf (now (job .entry)) (plain header) r ⌝ }
+    ensures { λ r. ⌜ LineOf (now (job .entry)) r ⌝ }
 {
     let count = header.rates as usize;
     let mut rates = [0u16; 16];
     for rate in 0..count {
         rates[rate] = job::rate_at(job, rate as u16);
     }
-    Line { header, rates }
+    Line {
+        buffers: Buffers::of(header),
+        count: header.rates,
+        rates,
+    }
 }
 
 // Up to the delay: one choice, which decodes nothing.
@@ -292,15 +315,23 @@ fn choices_in(job: &[u8], header: Header, pins: &[u8; 512], place: usize) -> Cho
     unit_choices(job, header, unit, pins[at])
 }
 
-// Fills the layers before the last, each from the one behind it. One interval's layer is a part of the table that starts at the layer's first word.
-fn fill_layers(job: &[u8], header: Header, line: Line, pins: &[u8; 512], table: &mut [u32])
-    requires { ⌜ Starts (now job) (plain header) line (now pins) × (words (job-in (now job)) ≤ length (now table)) × (layerOf (job-in (now job) .line) (now table) (intervals (job-in (now job))) ≡ layer (job-in (now job)) (lines (header .units) (now pins)) (intervals (job-in (now job)))) ⌝ }
-    ensures { λ _. ⌜ now (table .exit) ≡ layers (job-in (now (job .entry))) (lines (header .units) (now (pins .entry))) 0 (header .units + header .delay) ++ drop ((header .units + header .delay) * layerWords (line-is line)) (now (table .entry)) ⌝ }
+// Fills the layers from `first` on, up to the one before `last`, each from the one behind it: the last of them from what stands in layer `last`, whatever that is. One interval's layer is a part of the table that starts at the layer's first word.
+fn fill_layers(
+    job: &[u8],
+    header: Header,
+    line: Line,
+    pins: &[u8; 512],
+    first: usize,
+    last: usize,
+    table: &mut [u32],
+)
+    requires { ⌜ Fills (now job) (plain header) line (now pins) first last (now table) ⌝ }
+    ensures { λ _. ⌜ now (table .exit) ≡ refilled (job-on (now (job .entry)) line) (lines (header .units) (now (pins .entry))) first (last - first) (now (table .entry)) ⌝ }
 {
     let size = layer_words(line);
-    let mut place = replay::intervals(header);
-    let mut start = place * size;
-    while 0 < place {
+    let mut place = last;
+    let mut start = last * size;
+    while first < place {
         place -= 1;
         start -= size;
         let choices = choices_in(job, header, pins, place);
@@ -308,35 +339,50 @@ fn fill_layers(job: &[u8], header: Header, line: Line, pins: &[u8; 512], table: 
     }
 }
 
-// Fills the table, the last layer first.
-fn fill_table(job: &[u8], header: Header, line: Line, pins: &[u8; 512], table: &mut [u32])
-    requires { ⌜ Starts (now job) (plain header) line (now pins) × (words (job-in (now job)) ≤ length (now table)) ⌝ }
-    ensures { λ _. ⌜ now (table .exit) ≡ over (table-of (job-in (now (job .entry))) (lines (header .units) (now (pins .entry)))) (now (table .entry)) ⌝ }
+// Fills the table from layer `first` on, the last layer first.
+fn fill_table(
+    job: &[u8],
+    header: Header,
+    line: Line,
+    pins: &[u8; 512],
+    first: usize,
+    table: &mut [u32],
+)
+    requires { ⌜ Starts (now job) (plain header) line (now pins) × (first ≤ header .units + header .delay) × (words (job-on (now job) line) ≤ length (now table)) ⌝ }
+    ensures { λ _. ⌜ now (table .exit) ≡ table-from (job-on (now (job .entry)) line) (lines (header .units) (now (pins .entry))) first (now (table .entry)) ⌝ }
 {
     let size = layer_words(line);
-    let start = replay::intervals(header) * size;
+    let last = replay::intervals(header);
+    let start = last * size;
     fill_last(&mut table[start..], size);
-    fill_layers(job, header, line, pins, table);
+    fill_layers(job, header, line, pins, first, last, table);
 }
 
 // The first entry that attains the word of these levels after so many intervals.
-fn best_entry(table: &[u32], line: Line, choices: Choices, place: usize, at: Levels) -> Pick
-    requires { ⌜ Layered (now table) line choices place (levels-of at) ⌝ }
-    ensures { λ r. ⌜ first-at (pair-offer (line-is line) (allowed-is choices) (wordIn (line-is line) (layerOf (line-is line) (now (table .entry)) (suc place))) (levels-of at)) (wordIn (line-is line) (layerOf (line-is line) (now (table .entry)) place) (levels-of at)) (pairs late (length (line-is line .rates)) (choices .count)) ≡ some (pair (r .rate) (r .choice)) ⌝ }
+fn best_entry(
+    order: Order,
+    table: &[u32],
+    line: Line,
+    choices: Choices,
+    place: usize,
+    at: Levels,
+) -> Pick
+    requires { ⌜ Layered (order-is order) (now table) line choices place (levels-of at) ⌝ }
+    ensures { λ r. ⌜ first-at (pair-offer (line-is line) (allowed-is choices) (wordIn (line-is line) (layerOf (line-is line) (now (table .entry)) (suc place))) (levels-of at)) (wordIn (line-is line) (layerOf (line-is line) (now (table .entry)) place) (levels-of at)) (pairs (order-is order) (length (line-is line .rates)) (choices .count)) ≡ some (pair (r .rate) (r .choice)) ⌝ }
 {
     let size = layer_words(line);
     let here = place * size + word_place(line, at);
     let next = (place + 1) * size;
     let end = next + size;
-    first_entry(&table[next..end], line, choices, at, table[here])
+    first_entry(order, &table[next..end], line, choices, at, table[here])
 }
 
 // The levels that an interval leads to.
-fn levels_after(header: Header, at: Levels, x: Interval) -> Levels
-    requires { ⌜ Reached header at x ⌝ }
-    ensures { λ r. ⌜ step-of header at x ≡ reaches (levels-of r) ⌝ }
+fn levels_after(buffers: Buffers, at: Levels, x: Interval) -> Levels
+    requires { ⌜ Reached buffers at x ⌝ }
+    ensures { λ r. ⌜ step-of buffers at x ≡ reaches (levels-of r) ⌝ }
 {
-    match replay::step(header, at, x) {
+    match replay::step(buffers, at, x) {
         Outcome::Violates(_) => at,
         Outcome::Reaches(next) => next,
     }
@@ -355,6 +401,7 @@ fn choice_byte(header: Header, place: usize, choice: usize) -> u8
 
 // The entry of the best plan in this place, what it does and where it leads.
 fn best_move(
+    order: Order,
     job: &[u8],
     header: Header,
     line: Line,
@@ -363,22 +410,24 @@ fn best_move(
     place: usize,
     at: Levels,
 ) -> Move
-    requires { ⌜ Starts (now job) (plain header) line (now pins) × Tabled (job-in (now job)) (lines (header .units) (now pins)) (now table) × (place < header .units + header .delay) × Standing (job-in (now job)) (lines (header .units) (now pins)) place (levels-of at) ⌝ }
-    ensures { λ r. ⌜ BestMove (job-in (now (job .entry))) (lines (header .units) (now (pins .entry))) place (levels-of at) r ⌝ }
+    requires { ⌜ Moves (now job) (plain header) line (now pins) (now table) place (levels-of at) ⌝ }
+    ensures { λ r. ⌜ BestMove (job-on (now (job .entry)) line) (lines (header .units) (now (pins .entry))) (order-is order) place (levels-of at) r ⌝ }
 {
     let choices = choices_in(job, header, pins, place);
-    let pick = best_entry(table, line, choices, place, at);
+    let pick = best_entry(order, table, line, choices, place, at);
     let rate = pick.rate;
     let choice = pick.choice;
     let sent = line.rates[rate];
     let size = choices.sizes[choice];
     let distortion = choices.distortions[choice];
+    let index = rate as u8;
     let interval = interval_of(sent, size, distortion);
+    let buffers = line.buffers;
     Move {
-        rate: rate as u8,
+        rate: index,
         choice: choice_byte(header, place, choice),
         interval,
-        to: levels_after(header, at, interval),
+        to: levels_after(buffers, at, interval),
     }
 }
 
@@ -393,62 +442,60 @@ fn put_entry(entries: &mut [u8], place: usize, rate: u8, choice: u8)
     entries[next] = choice;
 }
 
-// Reads the best plan off the table, from the start, and answers its totals.
+// Reads the best plan of the intervals after `first` off the table, from the levels there, and answers its totals. Its entries are the first of the list.
 fn read_off(
+    order: Order,
     job: &[u8],
     header: Header,
     line: Line,
     pins: &[u8; 512],
     table: &[u32],
+    first: usize,
+    start: Levels,
     entries: &mut [u8],
 ) -> Totals
-    requires { ⌜ Starts (now job) (plain header) line (now pins) × Tabled (job-in (now job)) (lines (header .units) (now pins)) (now table) × Standing (job-in (now job)) (lines (header .units) (now pins)) 0 (job-in (now job) .start) × (entry-size * (header .units + header .delay) ≤ length (now entries)) ⌝ }
-    ensures { λ r. ⌜ PlanRead (job-in (now (job .entry))) (lines (header .units) (now (pins .entry))) (now (entries .entry)) r (now (entries .exit)) ⌝ }
+    requires { ⌜ ReadsOff (now job) (plain header) line (now pins) (now table) first (levels-of start) (now entries) ⌝ }
+    ensures { λ r. ⌜ PlanRead (job-on (now (job .entry)) line) (lines (header .units) (now (pins .entry))) (order-is order) first (levels-of start) (now (entries .entry)) r (now (entries .exit)) ⌝ }
 {
     let total = replay::intervals(header);
-    let mut at = Levels {
-        decoder: header.level,
-        bucket: header.fill,
-    };
+    let mut at = start;
     let mut sum = Totals {
         distortion: 0,
         source: 0,
         channel: 0,
         unused: 0,
     };
-    for place in 0..total {
-        let taken = best_move(job, header, line, pins, table, place, at);
-        put_entry(entries, place, taken.rate, taken.choice);
-        sum = replay::with_interval(sum, header.drain, at, taken.interval);
+    for place in first..total {
+        let index = place - first;
+        let taken = best_move(order, job, header, line, pins, table, place, at);
+        put_entry(entries, index, taken.rate, taken.choice);
+        sum = replay::with_interval(sum, line.buffers.drain, at, taken.interval);
         at = taken.to;
     }
     sum
 }
 
-// The search: the table is filled whole before "no plan" can be said.
+// The search for the intervals after `first`, from the levels there: the table is filled before "no plan" can be said.
 fn search(
+    order: Order,
     job: &[u8],
     header: Header,
+    line: Line,
     pins: &[u8; 512],
+    first: usize,
+    start: Levels,
     table: &mut [u32],
     entries: &mut [u8],
 ) -> Planned
-    requires { ⌜ Opens (now job) (plain header) × (length (now pins) ≡ 512) × (words (job-in (now job)) ≤ length (now table)) × (entry-size * (header .units + header .delay) ≤ length (now entries)) ⌝ }
-    ensures { λ r. ⌜ planned r (now (table .exit)) (now (entries .exit)) ≡ search-in (job-in (now (job .entry))) (lines (header .units) (now (pins .entry))) (now (table .entry)) (now (entries .entry)) ⌝ }
+    requires { ⌜ Searches (now job) (plain header) line (now pins) first (levels-of start) (now table) (now entries) ⌝ }
+    ensures { λ r. ⌜ planned r (now (table .exit)) (now (entries .exit)) ≡ search-in (job-on (now (job .entry)) line) (lines (header .units) (now (pins .entry))) (order-is order) first (levels-of start) (now (table .entry)) (now (entries .entry)) ⌝ }
 {
-    let line = line_in(job, header);
-    fill_table(job, header, line, pins, table);
-    let start = word_place(
-        line,
-        Levels {
-            decoder: header.level,
-            bucket: header.fill,
-        },
-    );
-    if table[start] == NONE {
+    fill_table(job, header, line, pins, first, table);
+    let here = first * layer_words(line) + word_place(line, start);
+    if table[here] == NONE {
         return Planned::Refused(refusal::NO_PLAN);
     }
-    Planned::Best(read_off(job, header, line, pins, table, entries))
+    Planned::Best(read_off(order, job, header, line, pins, table, first, start, entries))
 }
 
 // How many words the table of a job with this header has.
@@ -472,7 +519,23 @@ pub fn plan(job: &[u8], set: PinSet, table: &mut [u32], entries: &mut [u8]) -> P
                 return Planned::Refused(job::refusal::LIST);
             }
             let pins = set.pins;
-            search(job, header, &pins, table, entries)
+            let line = line_in(job, header);
+            let start = Levels {
+                decoder: header.level,
+                bucket: header.fill,
+            };
+            let first = 0;
+            search(
+                Order::Late,
+                job,
+                header,
+                line,
+                &pins,
+                first,
+                start,
+                table,
+                entries,
+            )
         }
     }
 }

@@ -1,6 +1,6 @@
 -- Every list of calls with the planning after it: `DemandThree`.
 -- Assumes nothing.
-use Prim.Native.Nat.{ℕ, _*_, _≤_}
+use Prim.Native.Nat.{ℕ, _-_, _*_, _≤_}
 use mathlib.Core.Path.{_≡_, refl, _∙_}
 use mathlib.Core.Option.{Option, none, some}
 use mathlib.Core.List.{List}
@@ -9,9 +9,9 @@ use lib.ListN.{length, drop}
 use lib.Seq.{take-at}
 use borrow.Author.Tests.{le-ltb}
 use Rattle.model.specs.If.{if_then_else_}
-use Rattle.model.specs.Job.{Job, Entry, intervals}
+use Rattle.model.specs.Job.{Levels, Job, Entry, intervals}
 use Rattle.model.specs.Pins.{PinMap}
-use Rattle.model.specs.Best.{late, least-total, best-plan}
+use Rattle.model.specs.Best.{Order, late, least-total, best-plan}
 use Rattle.model.specs.Table.{words}
 use Rattle.model.specs.Claims.{PlanningClaim}
 use Rattle.model.proofs.Answers.{not-refused}
@@ -22,70 +22,75 @@ use Rattle.format.proofs.Places.{well-read}
 use Rattle.pinning.proofs.History.{history}
 use Rattle.replaying.specs.Entries.{entry-size, entry-bytes}
 use Rattle.model.specs.Lent.{over}
-use Rattle.replaying.proofs.Entries.{bytes-size, plan-back}
+use Rattle.replaying.proofs.Entries.{bytes-size, bytes-back}
 use Rattle.model.proofs.Lent.{over-length, over-rest}
-use Rattle.planning.specs.Words.{table-of}
 use Rattle.planning.specs.Calls.{searched, search-in, plan-in, on-job, plan-call}
 use Rattle.planning.specs.Claims.{BestWritten, PlanClaim, DemandThree}
-use Rattle.planning.proofs.Layers.{table-length, over-table}
+use Rattle.planning.proofs.Layers.{from-before, from-rest, from-length, from-table}
 
-module _ (j : Job) (m : PinMap) (few : j .choices ≤ 255) (table entries : List ℕ) (room : words j ≤ length table) (space : entry-size * intervals j ≤ length entries) where
+module _ (j : Job) (m : PinMap) (o : Order) (s : ℕ) (start : Levels) (few : j .choices ≤ 255) (h : s ≤ intervals j) (table entries : List ℕ) (room : words j ≤ length table) (space : entry-size * (intervals j - s) ≤ length entries) where
   abbrev plan : List Entry
-  plan = best-plan j m 0 (j .start) late
+  plan = best-plan j m s start o
 
-  claim : PlanningClaim j m 0 (j .start) late
-  claim = planning j m 0 (j .start) late (omega arith)
+  claim : PlanningClaim j m s start o
+  claim = planning j m s start o h
 
-  fits : length (table-of j m) ≤ length table
-  fits = omega (arith, table-length j m)
+  module _ (v : ℕ) (e : least-total j m s start ≡ some v) where
+    count : length plan ≡ intervals j - s
+    count = omega (arith, fits-length (claim .best-is v e .among .shaped))
 
-  module _ (v : ℕ) (e : least-total j m 0 (j .start) ≡ some v) where
-    size : length (entry-bytes plan) ≡ entry-size * intervals j
-    size = bytes-size plan ∙ omega (arith, fits-length (claim .best-is v e .among .shaped))
+    size : length (entry-bytes plan) ≡ entry-size * (intervals j - s)
+    size = bytes-size plan ∙ omega (arith, count)
 
-    written : BestWritten j m table entries (searched j m (some v) table entries)
+    written : BestWritten j m o s start table entries (searched j m o s start (some v) table entries)
     unfolding searched
     written = record {
       plan = plan;
       best = claim .best-is v e;
-      bytes = unfold over in take-at (entry-bytes plan) (drop (length (entry-bytes plan)) entries) (entry-size * intervals j) size;
-      read-back = unfold over in plan-back j few plan (drop (length (entry-bytes plan)) entries) (claim .best-is v e .among .shaped);
+      bytes = unfold over in take-at (entry-bytes plan) (drop (length (entry-bytes plan)) entries) (entry-size * (intervals j - s)) size;
+      read-back = unfold over in rw (← count) (bytes-back j few (drop (length (entry-bytes plan)) entries) (claim .best-is v e .among .shaped));
       totals-are = refl;
-      rest = over-rest (entry-bytes plan) entries (omega (arith, size)) (entry-size * intervals j) size;
+      rest = over-rest (entry-bytes plan) entries (omega (arith, size)) (entry-size * (intervals j - s)) size;
       size = over-length (entry-bytes plan) entries (omega (arith, size));
     }
 
-  searched-claim : (o : Option ℕ) → least-total j m 0 (j .start) ≡ o → PlanClaim j m table entries (searched j m o table entries)
+  searched-claim : (r : Option ℕ) → least-total j m s start ≡ r → PlanClaim j m o s start table entries (searched j m o s start r table entries)
   unfolding searched
   searched-claim none e = record {
     none-iff = (λ q. claim .none-iff .0 e, λ f. refl);
     none-kept = λ q. refl;
     else-best = λ f. absurd (f refl);
-    table-is = over-table j m table room;
-    table-rest = over-rest (table-of j m) table fits (words j) (table-length j m);
-    table-size = over-length (table-of j m) table fits;
+    table-is = from-table j m s table h room;
+    table-before = from-before j m s table h room;
+    table-rest = from-rest j m s table h room;
+    table-size = from-length j m s table h room;
   }
   searched-claim (some v) e = record {
     none-iff = (λ q. absurd (not-refused q), λ f. absurd (f plan (claim .best-is v e .among)));
     none-kept = λ q. absurd (not-refused q);
     else-best = λ f. written v e;
-    table-is = over-table j m table room;
-    table-rest = over-rest (table-of j m) table fits (words j) (table-length j m);
-    table-size = over-length (table-of j m) table fits;
+    table-is = from-table j m s table h room;
+    table-before = from-before j m s table h room;
+    table-rest = from-rest j m s table h room;
+    table-size = from-length j m s table h room;
   }
 
-  pub plan-claim : PlanClaim j m table entries (search-in j m table entries)
+  pub search-claim : PlanClaim j m o s start table entries (search-in j m o s start table entries)
   unfolding search-in
-  plan-claim = searched-claim (least-total j m 0 (j .start)) refl
+  search-claim = searched-claim (least-total j m s start) refl
+
+  -- where neither list is too short
+  pub plan-claim : PlanClaim j m o s start table entries (plan-in j m o s start table entries)
+  unfolding plan-in if_then_else_
+  plan-claim = rw (le-ltb (length table) (words j) room, le-ltb (length entries) (entry-size * (intervals j - s)) space) search-claim
 
 pub demand-three : DemandThree
-unfolding plan-call on-job plan-in if_then_else_
+unfolding plan-call on-job
 demand-three b j n parsed calls =
     let h = history b j n parsed calls in
     let k = limited j (well-read b j n parsed) in
     record {
       history = h;
       planning = λ table entries room space.
-          rw (h .passes, le-ltb (length table) (words j) room, le-ltb (length entries) (entry-size * intervals j) space, h .pins)
-          (plan-claim j _ (omega (arith, k .choices)) table entries room space);
+          rw (h .passes, h .pins) (plan-claim j _ late 0 (j .start) (omega (arith, k .choices)) (omega arith) table entries room (omega (arith, space)));
     }

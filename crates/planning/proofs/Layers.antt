@@ -2,11 +2,11 @@
 -- Assumes nothing.
 use Prim.Native.Nat.{ℕ, zero, suc, _+_, _-_, _*_, _<_, _≤_}
 use mathlib.Core.Path.{_≡_, refl, sym, _∙_, ap}
-use mathlib.Core.List.{List, _++_, append-assoc, append-nil}
+use mathlib.Core.List.{List, _++_, append-assoc}
 use native.Mathlib.Omega.{arith}
-use native.Mathlib.Nat.{suc-mul}
-use lib.ListN.{length, take, drop, length-append}
-use lib.Seq.{take-at, drop-at, drop-drop}
+use native.Mathlib.Nat.{suc-mul, add-mul}
+use lib.ListN.{length, take, drop, length-append, length-drop}
+use lib.Seq.{take-at, drop-at, drop-drop, length-take-le}
 use Rattle.trellis.specs.Trellis.{least}
 use Rattle.trellis.specs.Table.{encode, Small, marked-stage}
 use Rattle.trellis.proofs.Tables.{marked-stage-encode}
@@ -20,10 +20,8 @@ use Rattle.model.proofs.Places.{layer-each, place-below, state-place, state-in-
 use Rattle.model.proofs.Steps.{layer-closed}
 use Rattle.model.proofs.Layers.{word-in-layer}
 use Rattle.model.proofs.Tables.{distortions-small}
-use Rattle.model.specs.Lent.{over}
-use Rattle.model.proofs.Lent.{over-length}
 use Rattle.planning.specs.Rule.{layer-from, allowed-in}
-use Rattle.planning.specs.Words.{layer, layers, table-of}
+use Rattle.planning.specs.Words.{layer, layers, table-from}
 use Rattle.planning.proofs.Offers.{stage-is}
 
 module _ (j : Job) (m : PinMap) where
@@ -35,10 +33,6 @@ module _ (j : Job) (m : PinMap) where
   unfolding layers
   layers-length t zero = omega arith
   layers-length t (suc n) = length-append (layer j m t) (layers j m (suc t) n) ∙ omega (arith, layer-length t, layers-length (suc t) n, suc-mul n (layerWords (j .line)))
-
-  pub table-length : length (table-of j m) ≡ words j
-  unfolding table-of words
-  table-length = let e : suc (intervals j) ≡ intervals j + 1 = omega arith in layers-length 0 (suc (intervals j)) ∙ rw e
 
   -- a state's word in its layer
   pub word-of : (t : ℕ) (s : Levels) → InLayer (j .line) s → wordIn (j .line) (layer j m t) s ≡ encode mark (least-total j m t s)
@@ -66,32 +60,59 @@ module _ (j : Job) (m : PinMap) where
           let z : suc k * w ≡ w + k * w = omega (arith, suc-mul k w) in
           ap (λ (n : ℕ). drop n ((a ++ b) ++ c)) z ∙ sym (drop-drop (k * w) w ((a ++ b) ++ c)) ∙ ap (drop (k * w)) (ap (drop w) (append-assoc a b c) ∙ drop-at a (b ++ c) w e)
 
-  -- one layer more behind them
-  pub layers-more : (t n : ℕ) → layers j m t (suc n) ≡ layers j m t n ++ layer j m (t + n)
-  unfolding layers
-  layers-more t zero = let e : t + 0 ≡ t = omega arith in rw (e, append-nil)
-  layers-more t (suc n) =
-      let e : t + suc n ≡ suc t + n = omega arith in
-      ap (λ (l : List ℕ). layer j m t ++ l) (layers-more (suc t) n) ∙ rw e (sym (append-assoc (layer j m t) (layers j m (suc t) n) (layer j m (suc t + n))))
+  -- the table from layer s on, over a list that is long enough
+  module _ (s : ℕ) (table : List ℕ) (h : s ≤ intervals j) (room : words j ≤ length table) where
+    abbrev W : ℕ
+    W = layerWords (j .line)
 
-  -- each layer of a table that was written over other words
-  pub layer-over : (table : List ℕ) (t : ℕ) → t ≤ intervals j → layerOf (j .line) (over (table-of j m) table) t ≡ layer j m t
-  unfolding layerOf over table-of
-  layer-over table t h =
-      let e : 0 + t ≡ t = omega arith in
-      layers-at 0 (suc (intervals j)) t (drop (length (layers j m 0 (suc (intervals j)))) table) (omega arith) ∙ ap (layer j m) e
+    words-as : words j ≡ s * W + (suc (intervals j) - s) * W
+    unfolding words
+    words-as = let e : intervals j + 1 ≡ s + (suc (intervals j) - s) = omega arith in ap (λ (n : ℕ). n * W) e ∙ add-mul s (suc (intervals j) - s) W
+
+    front : length (take (s * W) table) ≡ s * W
+    front = length-take-le (s * W) table (omega (arith, words-as, room))
+
+    behind : drop (s * W) (table-from j m s table) ≡ layers j m s (suc (intervals j) - s) ++ drop (words j) table
+    unfolding table-from
+    behind = drop-at (take (s * W) table) (layers j m s (suc (intervals j) - s) ++ drop (words j) table) (s * W) front
+
+    pub from-before : take (s * W) (table-from j m s table) ≡ take (s * W) table
+    unfolding table-from
+    from-before = take-at (take (s * W) table) (layers j m s (suc (intervals j) - s) ++ drop (words j) table) (s * W) front
+
+    pub from-rest : drop (words j) (table-from j m s table) ≡ drop (words j) table
+    from-rest =
+        ap (λ (n : ℕ). drop n (table-from j m s table)) words-as
+        ∙ sym (drop-drop ((suc (intervals j) - s) * W) (s * W) (table-from j m s table))
+        ∙ ap (drop ((suc (intervals j) - s) * W)) behind
+        ∙ drop-at (layers j m s (suc (intervals j) - s)) (drop (words j) table) ((suc (intervals j) - s) * W) (layers-length s (suc (intervals j) - s))
+
+    pub from-length : length (table-from j m s table) ≡ length table
+    unfolding table-from
+    from-length =
+        let a = length-append (take (s * W) table) (layers j m s (suc (intervals j) - s) ++ drop (words j) table) in
+        let b = length-append (layers j m s (suc (intervals j) - s)) (drop (words j) table) in
+        omega (arith, a, b, front, layers-length s (suc (intervals j) - s), length-drop (words j) table, words-as, room)
+
+    pub from-layer : (t : ℕ) → s ≤ t → t ≤ intervals j → layerOf (j .line) (table-from j m s table) t ≡ layer j m t
+    unfolding layerOf
+    from-layer t l k =
+        let e : t ≡ s + (t - s) = omega arith in
+        let q : t * W ≡ s * W + (t - s) * W = ap (λ (n : ℕ). n * W) e ∙ add-mul s (t - s) W in
+        ap (λ (n : ℕ). take W (drop n (table-from j m s table))) q
+        ∙ ap (take W) (sym (drop-drop ((t - s) * W) (s * W) (table-from j m s table)) ∙ ap (drop ((t - s) * W)) behind)
+        ∙ layers-at s (suc (intervals j) - s) (t - s) (drop (words j) table) (omega arith)
+        ∙ ap (layer j m) (sym e)
 
   -- a list whose layers are these is the table
-  pub layers-table : (table : List ℕ) → words j ≤ length table → ((t : ℕ) → t ≤ intervals j → layerOf (j .line) table t ≡ layer j m t) → IsTable j m table
-  layers-table table room same = record {
+  pub layers-table : (first : ℕ) (table : List ℕ) → words j ≤ length table → ((t : ℕ) → first ≤ t → t ≤ intervals j → layerOf (j .line) table t ≡ layer j m t) → IsTable j m first table
+  layers-table first table room same = record {
     enough = room;
-    holds = λ t s h a. word-in-layer j table t s a ∙ ap (λ (l : List ℕ). wordIn (j .line) l s) (same t h) ∙ word-of t s a;
+    holds = λ t s l h a. word-in-layer j table t s a ∙ ap (λ (l : List ℕ). wordIn (j .line) l s) (same t l h) ∙ word-of t s a;
   }
 
-  pub over-table : (table : List ℕ) → words j ≤ length table → IsTable j m (over (table-of j m) table)
-  over-table table room =
-      let e = over-length (table-of j m) table (omega (arith, table-length)) in
-      layers-table (over (table-of j m) table) (omega arith) (layer-over table)
+  pub from-table : (s : ℕ) (table : List ℕ) → s ≤ intervals j → words j ≤ length table → IsTable j m s (table-from j m s table)
+  from-table s table h room = layers-table s (table-from j m s table) (omega (arith, from-length s table h room)) (from-layer s table h room)
 
   -- the last layer adds nothing
   pub layer-last : layer j m (intervals j) ≡ build (layerWords (j .line)) (λ i. 0)

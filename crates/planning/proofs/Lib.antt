@@ -1,9 +1,13 @@
 -- What is proved of the definitions, for the proofs of crates that name this one.
 pub mod Offers
+pub mod Passes
 pub mod Layers
+pub mod Refilling
 pub mod Reading
 pub mod DemandThree
 pub mod Refusals
 pub mod Sittings
+pub mod Records
+pub mod Numbers
 pub mod Commands
 pub mod Cases

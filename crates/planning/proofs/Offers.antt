@@ -83,8 +83,8 @@ module _ (line : Line) (n : ℕ) (a b : Allowed) (W L : Levels → ℕ) (s : Lev
   unfolding least-offer
   least-offer-cong = lowest-cong mark (pair-offer line a W s) (pair-offer line b L s) (pairs late (length (line .rates)) n) (λ p k. pair-offer-cong p (pairs-member late (length (line .rates)) n p k .1))
 
-  pub first-offer-cong : (v : ℕ) → first-at (pair-offer line a W s) v (pairs late (length (line .rates)) n) ≡ first-at (pair-offer line b L s) v (pairs late (length (line .rates)) n)
-  first-offer-cong v = first-at-cong (pair-offer line a W s) (pair-offer line b L s) v (pairs late (length (line .rates)) n) (λ p k. pair-offer-cong p (pairs-member late (length (line .rates)) n p k .1))
+  pub first-offer-cong : (o : Order) (v : ℕ) → first-at (pair-offer line a W s) v (pairs o (length (line .rates)) n) ≡ first-at (pair-offer line b L s) v (pairs o (length (line .rates)) n)
+  first-offer-cong o v = first-at-cong (pair-offer line a W s) (pair-offer line b L s) v (pairs o (length (line .rates)) n) (λ p k. pair-offer-cong p (pairs-member o (length (line .rates)) n p k .1))
 
 -- a layer, of two ways to write the same codings
 pub layer-from-cong : (line : Line) (n : ℕ) (a b : Allowed) (next : List ℕ) → ((x : ℕ) → x < n → a x ≡ b x) → layer-from line n a next ≡ layer-from line n b next

@@ -9,7 +9,8 @@ use lib.ListN.{length}
 use borrow.Author.Tests.{lt-ltb, le-ltb, ltb-false}
 use Rattle.model.specs.If.{if_then_else_}
 use Rattle.model.specs.Answer.{refused}
-use Rattle.model.specs.Job.{Job, intervals}
+use Rattle.model.specs.Job.{Levels, Job, intervals}
+use Rattle.model.specs.Best.{Order}
 use Rattle.model.specs.Table.{words}
 use Rattle.model.proofs.Answers.{not-refused, refused-same}
 use Rattle.model.proofs.Tests.{branch}
@@ -44,7 +45,7 @@ sittings b j n calls answers table entries parsed good room space area =
     })
 
 -- a plan that is refused by no other number than 13
-only-13 : {j : Job} {m : _} {table entries : List ℕ} {r : Planned} → PlanClaim j m table entries r → (n : ℕ) → r .answer ≡ refused n → (n ≡ 13 → ⊥) → ⊥
+only-13 : {j : Job} {m : _} {o : Order} {s : ℕ} {start : Levels} {table entries : List ℕ} {r : Planned} → PlanClaim j m o s start table entries r → (n : ℕ) → r .answer ≡ refused n → (n ≡ 13 → ⊥) → ⊥
 only-13 c n e f =
     let w = c .else-best (λ q. f (refused-same (sym e ∙ q))) in
     not-refused (sym (w .totals-are) ∙ e)

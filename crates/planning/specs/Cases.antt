@@ -1,4 +1,4 @@
--- Document 01's cases of Job A that are marked (m), those of planning, and cases of commands worked out by hand: what is asked, and what document 01 says, or by document 02, E2 and E3, would.
+-- Document 01's cases of Job A that are marked (m), those of planning, and cases of Job A with another delay and of commands worked out by hand: what is asked, and what document 01 says, or by document 02, E2 and E3, would.
 -- Assumes nothing.
 use Prim.Native.Nat.{ℕ}
 use mathlib.Core.Path.{_≡_}
@@ -9,13 +9,14 @@ use Rattle.model.specs.Pins.{Call, pin, lift}
 use Rattle.model.specs.Replay.{Totals}
 use Rattle.format.specs.Parser as P
 use Rattle.format.specs.JobA.{bytes-a}
-use Rattle.replaying.specs.Cases.{set-after}
+use Rattle.replaying.specs.Cases.{delayed, set-after}
 use Rattle.planning.specs.Calls.{plan-call}
 use Rattle.planning.specs.Commands.{command}
 use Rattle.planning.specs.Sittings.{sitting-call, input-call}
 
--- calls are made on the set that opening Job A answers; then a plan is asked for with a table of so many words, all 9, and so many bytes for entries, all 7
+-- calls are made on the set that opening Job A, with this delay, answers; then a plan is asked for with a table of so many words, all 9, and so many bytes for entries, all 7
 pub record Question : Type 0 where
+  pub delay : ℕ
   pub calls : List Call
   pub words : ℕ
   pub bytes : ℕ
@@ -27,12 +28,15 @@ pub record Reply : Type 0 where
 
 unfoldable pub reply : Question → Reply
 reply q = record {
-  answer = plan-call bytes-a (set-after (q .calls)) (replicate (q .words) 9) (replicate (q .bytes) 7) .answer;
-  entries = plan-call bytes-a (set-after (q .calls)) (replicate (q .words) 9) (replicate (q .bytes) 7) .entries;
+  answer = plan-call (delayed (q .delay)) (set-after (delayed (q .delay)) (q .calls)) (replicate (q .words) 9) (replicate (q .bytes) 7) .answer;
+  entries = plan-call (delayed (q .delay)) (set-after (delayed (q .delay)) (q .calls)) (replicate (q .words) 9) (replicate (q .bytes) 7) .entries;
 }
 
+abbrev pub asks-with : ℕ → List Call → ℕ → ℕ → Question
+asks-with d ks w n = record { delay = d; calls = ks; words = w; bytes = n }
+
 abbrev pub asks : List Call → ℕ → ℕ → Question
-asks ks w n = record { calls = ks; words = w; bytes = n }
+asks ks w n = asks-with 1 ks w n
 
 unfoldable pub questions : List Question
 questions =
@@ -53,6 +57,14 @@ questions =
     ∷ asks (pin 1 0 ∷ pin 2 0 ∷ []) 80 5
     -- more of both than is needed
     ∷ asks [] 81 8
+    -- delay 2: unit 1 pinned at 1, which is worse, both units pinned at what is best, and a word too few
+    ∷ asks-with 2 (pin 1 1 ∷ []) 100 8
+    ∷ asks-with 2 (pin 1 0 ∷ pin 2 1 ∷ []) 100 8
+    ∷ asks-with 2 [] 99 8
+    -- the same with delay 0
+    ∷ asks-with 0 (pin 1 1 ∷ []) 60 4
+    ∷ asks-with 0 (pin 1 0 ∷ pin 2 1 ∷ []) 60 4
+    ∷ asks-with 0 [] 59 4
     ∷ []
 
 abbrev pub says : ℕ → ℕ → ℕ → ℕ → List ℕ → Reply
@@ -74,12 +86,19 @@ replies =
     ∷ refuses 11 (replicate 5 7)
     ∷ refuses 12 (replicate 5 7)
     ∷ says 50 6 6 2 (0 ∷ 255 ∷ 2 ∷ 0 ∷ 1 ∷ 1 ∷ 7 ∷ 7 ∷ [])
+    ∷ says 70 4 4 4 (0 ∷ 255 ∷ 0 ∷ 255 ∷ 1 ∷ 1 ∷ 1 ∷ 1 ∷ [])
+    ∷ says 50 6 6 4 (0 ∷ 255 ∷ 0 ∷ 255 ∷ 2 ∷ 0 ∷ 1 ∷ 1 ∷ [])
+    ∷ refuses 11 (replicate 8 7)
+    ∷ says 70 4 4 0 (1 ∷ 1 ∷ 1 ∷ 1 ∷ [])
+    ∷ says 50 6 6 0 (2 ∷ 0 ∷ 1 ∷ 1 ∷ [])
+    ∷ refuses 11 (replicate 4 7)
     ∷ []
 
 -- command records: what stands at the front of the bytes
 unfoldable pub records : List (List ℕ)
 records =
     (6 ∷ 0 ∷ 6 ∷ 0 ∷ 2 ∷ 0 ∷ 1 ∷ 0 ∷ 9 ∷ [])
+    ∷ (6 ∷ 0 ∷ 6 ∷ 0 ∷ 2 ∷ 1 ∷ 4 ∷ 3 ∷ [])
     ∷ (4 ∷ 0 ∷ 7 ∷ 0 ∷ 2 ∷ 1 ∷ [])
     -- cut: before the kind, and in the body
     ∷ (6 ∷ 0 ∷ 6 ∷ [])
@@ -96,6 +115,7 @@ records =
 unfoldable pub record-replies : List (P.Result Call)
 record-replies =
     P.took (pin 2 1) 8
+    ∷ P.took (pin 258 772) 8
     ∷ P.took (lift 258) 6
     ∷ P.refused 1
     ∷ P.refused 1

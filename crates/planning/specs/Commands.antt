@@ -10,6 +10,7 @@ use Rattle.model.specs.If.{if_then_else_}
 use Rattle.model.specs.All.{all-below}
 use Rattle.model.specs.Job.{Job}
 use Rattle.model.specs.Pins.{Call, pin, lift}
+use Rattle.format.specs.Fields.{spelled}
 use Rattle.format.specs.Parser as P
 use Rattle.format.specs.JobBytes.{header-in, parse}
 use Rattle.format.specs.Places.{field-at}
@@ -41,6 +42,11 @@ command b =
     else if eqb (record-kind b) pins-kind && eqb (record-length b) 6 then whole b 8 (pin (field-at 2 b 4) (field-at 2 b 6))
     else if eqb (record-kind b) lifts-kind && eqb (record-length b) 4 then whole b 6 (lift (field-at 2 b 4))
     else P.refused 2
+
+-- the record of a call, all of it u16: length 6, kind 6, the unit and the choice; length 4, kind 7 and the unit
+unfoldable pub command-bytes : Call → List ℕ
+command-bytes (pin u c) = spelled (2 ∷ 2 ∷ 2 ∷ 2 ∷ []) (6 ∷ 6 ∷ u ∷ c ∷ [])
+command-bytes (lift u) = spelled (2 ∷ 2 ∷ 2 ∷ []) (4 ∷ 7 ∷ u ∷ [])
 
 -- a command that cannot be read leaves the set as it came
 unfoldable pub on-command : State → P.Result Call → (Call → ℕ → Handed) → Handed

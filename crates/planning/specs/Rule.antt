@@ -1,9 +1,9 @@
--- One layer of the table from the next, of a line and the codings that may be chosen in the interval between them: no job, no pins (document 01, "The best plan").
+-- One layer of the table from the next, of a line and the codings that may be chosen in the interval between them: no job, no pins (document 01, "The best plan"). Then layers made anew in a list, of a job with its pins.
 -- Assumes nothing.
-use Prim.Native.Nat.{ℕ, _+_}
+use Prim.Native.Nat.{ℕ, zero, suc, _+_, _*_}
 use mathlib.Core.Option.{Option, none, some}
-use mathlib.Core.List.{List}
-use lib.ListN.{length, getD}
+use mathlib.Core.List.{List, _++_}
+use lib.ListN.{length, getD, take, drop}
 use Rattle.trellis.specs.Table.{lowest, fare}
 use Rattle.trellis.specs.Pairs.{Pair, pair}
 use Rattle.model.specs.If.{if_then_else_}
@@ -11,8 +11,8 @@ use Rattle.model.specs.Job.{Line, Coding, Levels, Job, coding}
 use Rattle.model.specs.Levels.{build}
 use Rattle.model.specs.Pins.{PinMap, pinAt}
 use Rattle.model.specs.Step.{outcome-of, pin-held}
-use Rattle.model.specs.Best.{late, pairs, entry, reached}
-use Rattle.model.specs.Table.{mark, bound, layerWords, stateAt, wordIn}
+use Rattle.model.specs.Best.{late, pairs, entry, width, reached}
+use Rattle.model.specs.Table.{mark, bound, layerWords, stateAt, layerOf, wordIn}
 
 -- the coding of each choice, none where a pin rules the choice out
 abbrev pub Allowed : Type 0
@@ -41,3 +41,15 @@ choice-in j t x = entry j t (pair 0 x) .choice
 
 unfoldable pub allowed-in : Job → PinMap → ℕ → Allowed
 allowed-in j m t x = if pin-held (pinAt j m t) (choice-in j t x) then some (coding j t (choice-in j t x)) else none
+
+-- a list in which the words of the layer after interval t are made anew from those of the next layer, whatever they are; every other word is kept
+unfoldable pub refill : Job → PinMap → ℕ → List ℕ → List ℕ
+refill j m t table =
+    take (t * layerWords (j .line)) table
+    ++ (layer-from (j .line) (width j (suc t)) (allowed-in j m (suc t)) (layerOf (j .line) table (suc t))
+    ++ drop (suc t * layerWords (j .line)) table)
+
+-- n layers made anew, from that of t on: the last of them first, and each from the next
+unfoldable pub refilled : Job → PinMap → ℕ → ℕ → List ℕ → List ℕ
+refilled j m t zero table = table
+refilled j m t (suc n) table = refill j m t (refilled j m (suc t) n table)

@@ -1,13 +1,14 @@
 -- The table of a job with its pins, word after word: no search, only the least totals (document 01, "The best plan").
 -- Assumes nothing.
-use Prim.Native.Nat.{ℕ, zero, suc}
+use Prim.Native.Nat.{ℕ, zero, suc, _-_, _*_}
 use mathlib.Core.List.{List, [], _++_}
+use lib.ListN.{take, drop}
 use Rattle.trellis.specs.Table.{encode}
 use Rattle.model.specs.Job.{Job, intervals}
 use Rattle.model.specs.Levels.{build}
 use Rattle.model.specs.Pins.{PinMap}
 use Rattle.model.specs.Best.{least-total}
-use Rattle.model.specs.Table.{mark, layerWords, stateAt}
+use Rattle.model.specs.Table.{mark, layerWords, stateAt, words}
 
 module _ (j : Job) (m : PinMap) where
   -- the layer after interval t: each state's least distortion to the end, or the mark
@@ -19,6 +20,6 @@ module _ (j : Job) (m : PinMap) where
   layers t zero = []
   layers t (suc n) = layer t ++ layers (suc t) n
 
-  -- all of them, from 0 to T
-  unfoldable pub table-of : List ℕ
-  table-of = layers 0 (suc (intervals j))
+  -- the layers from s to T, over a list: those before s are kept, and so are the words behind the table
+  unfoldable pub table-from : ℕ → List ℕ → List ℕ
+  table-from s table = take (s * layerWords (j .line)) table ++ (layers s (suc (intervals j) - s) ++ drop (words j) table)

@@ -56,10 +56,10 @@ module _ (j : Job) (k : Bucket) (only : j .line .buckets ≡ k ∷ []) where
   )
 
   module _ (whole : r.Totals) where
-    pub added-start : (at : Levels) (p : List Entry) → whole ≡ totals j 0 (levels-of at) p → Added j whole 0 at (record { distortion = 0; source = 0; channel = 0; unused = 0 }) p
+    pub added-start : (i : ℕ) (at : Levels) (p : List Entry) → whole ≡ totals j i (levels-of at) p → Added j whole i at (record { distortion = 0; source = 0; channel = 0; unused = 0 }) p
     unfolding plus totals levels-of totals-of
-    added-start at p e = record {
-      sums = e ∙ totals-same (omega arith) (omega arith) (omega arith) (sym (zero-each _ _ (totals-one _ (j .line .buckets) only j 0 p (at .bucket) (length p))));
+    added-start i at p e = record {
+      sums = e ∙ totals-same (omega arith) (omega arith) (omega arith) (sym (zero-each _ _ (totals-one _ (j .line .buckets) only j i p (at .bucket) (length p))));
       small = (omega arith, omega arith, omega arith, omega arith);
     }
 

@@ -22,17 +22,18 @@ use Rattle.replaying.specs.Entries.{entry-at, plan-from, plan-of}
 use Rattle.model.specs.Lent.{over}
 use Rattle.replaying.specs.Calls.{totals-are, violated, replayed, flat, played}
 use Rattle.replaying.proofs.Flat.{Single, none-left, one-more, flat-size}
+use Rattle.replay.specs.declared.Buffers.{Buffers}
 use Rattle.replay.specs.declared.Interval.{Interval}
 use Rattle.replay.specs.declared.Levels.{Levels}
 use Rattle.replay.specs.declared.Totals.{Totals}
-use Rattle.replay.specs.Answers.{levels-of, totals-of, line-of, added, IsInterval}
+use Rattle.replay.specs.Answers.{levels-of, totals-of, line-of, buffers-of, added, IsInterval}
 use Rattle.replay.proofs.Adding.{Added, added-start, added-on, added-end}
 
 module _ (b : List ℕ) (h : Header) (entries : List ℕ) (o : Opens b h) where
-  -- a step over the header's line is the interval's outcome
-  pub outcome-is-job : (m : PinMap) (i : ℕ) (x : Interval) (at : Levels) → IsInterval (job-in b) m entries i x → outcome-of (line-of h) (choice-of (x .pin)) (choice-of (x .choice)) (at .decoder) (at .bucket ∷ []) (x .sent) (x .size) ≡ outcome (job-in b) m (suc i) (levels-of at) (entry-at entries i)
-  unfolding outcome outcome-of line-of levels-of
-  outcome-is-job m i x at d = rw (d .pin, d .choice, d .does .sent, d .does .size, buckets-are b h o, decoder-is b h o)
+  -- a step over the job's line is the interval's outcome
+  pub outcome-is-job : (k : Buffers) → k ≡ buffers-of h → (m : PinMap) (i : ℕ) (x : Interval) (at : Levels) → IsInterval (job-in b) m entries i x → outcome-of (line-of k []) (choice-of (x .pin)) (choice-of (x .choice)) (at .decoder) (at .bucket ∷ []) (x .sent) (x .size) ≡ outcome (job-in b) m (suc i) (levels-of at) (entry-at entries i)
+  unfolding outcome outcome-of line-of buffers-of levels-of
+  outcome-is-job k e m i x at d = rw (e, d .pin, d .choice, d .does .sent, d .does .size, buckets-are b h o, decoder-is b h o)
 
 -- a replay behind levels that are written
 unfoldable pub before : List model.Levels → Replay → Replay
@@ -80,7 +81,7 @@ module _ (j : Job) (m : PinMap) (entries levels₀ : List ℕ) where
         count = refl;
         single = none-left;
         rest = rw (e, n);
-        sums = rw n (added-start j k only _ at (plan-of j entries) (rw e));
+        sums = rw n (added-start j k only _ 0 at (plan-of j entries) (rw e));
         list = refl;
         size = refl;
       }

@@ -12,8 +12,8 @@ use Rattle.model.specs.If.{if_then_else_}
 use Rattle.model.specs.Admissible.{Violation, bucket-overflow, pin-not-held, breaks, holds}
 use Rattle.model.specs.Step.{decoder-step, Drained, bucket-step, violates, reaches, poured, overfull, same-choice, pin-held, or-overflow, after-decoder, outcome-of}
 use Rattle.format.specs.Choices.{no-choice, choice-of}
-use Rattle.format.specs.JobBytes.{Header}
 use Rattle.format.proofs.Choices.{of-mark, of-choice}
+use Rattle.replay.specs.declared.Buffers.{Buffers}
 use Rattle.replay.specs.Answers.{line-of}
 
 pub no-pin-holds : (pin : ℕ) (o : Option ℕ) → pin ≡ no-choice → true ≡ pin-held (choice-of pin) o
@@ -31,21 +31,21 @@ pin-holds-by pin choice h = rw (of-choice pin h) (go (eqb choice no-choice) refl
 pub drained-same : {a a′ b b′ : ℕ} → a ≡ a′ → b ≡ b′ → _≡_ {A = Drained} (record { level = a; unused = b }) (record { level = a′; unused = b′ })
 drained-same p q = cc
 
--- an interval over the line of a header, from what its parts answered
-module _ (h : Header) (pinned choice : Option ℕ) (b l c r : ℕ) where
-  pub outcome-decoder : (v : Violation) → breaks v ≡ decoder-step (h .decoder) b c r → violates v ≡ outcome-of (line-of h) pinned choice b (l ∷ []) c r
+-- an interval over a line of these buffers, from what its parts answered
+module _ (k : Buffers) (pinned choice : Option ℕ) (b l c r : ℕ) where
+  pub outcome-decoder : (v : Violation) → breaks v ≡ decoder-step (k .decoder) b c r → violates v ≡ outcome-of (line-of k []) pinned choice b (l ∷ []) c r
   unfolding outcome-of line-of after-decoder
   outcome-decoder v e = rw (← e)
 
-  module _ (d : ℕ) (e : holds d ≡ decoder-step (h .decoder) b c r) (x : ℕ) (w : x ≡ bucket-step (h .drain) l c .level) where
-    pub outcome-bucket : h .bucket < x → violates (bucket-overflow 0) ≡ outcome-of (line-of h) pinned choice b (l ∷ []) c r
+  module _ (d : ℕ) (e : holds d ≡ decoder-step (k .decoder) b c r) (x : ℕ) (w : x ≡ bucket-step (k .drain) l c .level) where
+    pub outcome-bucket : k .bucket < x → violates (bucket-overflow 0) ≡ outcome-of (line-of k []) pinned choice b (l ∷ []) c r
     unfolding outcome-of line-of after-decoder poured zipWith overfull or-overflow if_then_else_
-    outcome-bucket k = rw (← e, ← w, lt-ltb (h .bucket) x k)
+    outcome-bucket o = rw (← e, ← w, lt-ltb (k .bucket) x o)
 
-    pub outcome-pin : x ≤ h .bucket → pin-held pinned choice ≡ false → violates pin-not-held ≡ outcome-of (line-of h) pinned choice b (l ∷ []) c r
+    pub outcome-pin : x ≤ k .bucket → pin-held pinned choice ≡ false → violates pin-not-held ≡ outcome-of (line-of k []) pinned choice b (l ∷ []) c r
     unfolding outcome-of line-of after-decoder poured zipWith overfull or-overflow if_then_else_
-    outcome-pin k q = rw (← e, ← w, le-ltb (h .bucket) x k, q)
+    outcome-pin o q = rw (← e, ← w, le-ltb (k .bucket) x o, q)
 
-    pub outcome-reaches : x ≤ h .bucket → pin-held pinned choice ≡ true → reaches (record { decoder = d; buckets = x ∷ [] }) ≡ outcome-of (line-of h) pinned choice b (l ∷ []) c r
+    pub outcome-reaches : x ≤ k .bucket → pin-held pinned choice ≡ true → reaches (record { decoder = d; buckets = x ∷ [] }) ≡ outcome-of (line-of k []) pinned choice b (l ∷ []) c r
     unfolding outcome-of line-of after-decoder poured zipWith overfull or-overflow if_then_else_
-    outcome-reaches k q = rw (← e, ← w, le-ltb (h .bucket) x k, q)
+    outcome-reaches o q = rw (← e, ← w, le-ltb (k .bucket) x o, q)

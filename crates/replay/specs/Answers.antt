@@ -33,6 +33,7 @@ use Rattle.replay.specs.declared.Replayed.the-variants as r
 use Rattle.replay.specs.declared.Reported.{Reported}
 use Rattle.replay.specs.declared.Reported.the-variants as p
 use Rattle.replay.specs.declared.Levels.{Levels}
+use Rattle.replay.specs.declared.Buffers.{Buffers}
 use Rattle.replay.specs.declared.Interval.{Interval}
 
 -- document 01's words for the violations
@@ -76,9 +77,13 @@ report-answer (p.Refused n) = refused n
 unfoldable pub reported : Reported → List ℕ → Ended (Unit {0})
 reported x list = record { answer = report-answer x; list = list }
 
--- the line of a header, whose rates no step looks at
-unfoldable pub line-of : format.Header → model.Line
-line-of h = record { decoder = h .decoder; buckets = record { size = h .bucket; drain = h .drain } ∷ []; rates = [] }
+-- the line of one bucket that has these buffers and rates
+unfoldable pub line-of : Buffers → List ℕ → model.Line
+line-of k rates = record { decoder = k .decoder; buckets = record { size = k .bucket; drain = k .drain } ∷ []; rates = rates }
+
+-- what a header says of it
+unfoldable pub buffers-of : format.Header → Buffers
+buffers-of h = record { decoder = h .decoder; bucket = h .bucket; drain = h .drain }
 
 -- the totals with one interval more, from the levels before it, of a bucket with this drain
 unfoldable pub added : Totals → ℕ → Levels → Interval → model-replay.Totals

@@ -16,7 +16,7 @@ ghost use Rattle.pins.specs.Answers.{state};
 ghost use Rattle.replaying.specs.Entries.{entry-fits, shaped, plan-of};
 ghost use Rattle.model.specs.Lent.{over};
 ghost use Rattle.replaying.specs.Calls.{played, replay-call, report-call};
-ghost use Rattle.replay.specs.Answers.{decoded, drained, outcome-is, line-of, totals-of, ended, reported, Shaped, CodingIn, PinIn, IsInterval, added, Room, Plays, Sums};
+ghost use Rattle.replay.specs.Answers.{decoded, drained, buffers-of, outcome-is, line-of, totals-of, ended, reported, Shaped, CodingIn, PinIn, IsInterval, added, Room, Plays, Sums};
 use job::Coding;
 use job::Header;
 use job::Reading;
@@ -57,6 +57,13 @@ pub struct Levels {
     pub bucket: u16,
 }
 
+// What a step reads of a line: the decoder's size, the bucket's size and its drain.
+pub struct Buffers {
+    pub decoder: u16,
+    pub bucket: u16,
+    pub drain: u16,
+}
+
 // The decoder's part of an interval: its level at the end, or the limit that it violates.
 pub enum Decoded {
     Level(u16),
@@ -91,6 +98,19 @@ pub const NO_UNIT: u8 = 255;
 
 // How many levels an interval has: the decoder's and the bucket's.
 pub const LEVELS_EACH: usize = 2;
+
+impl Buffers {
+    // Those of a job's own line.
+    pub fn of(header: Header) -> Buffers
+        ensures { λ r. ⌜ r ≡ buffers-of (plain header) ⌝ }
+    {
+        Buffers {
+            decoder: header.decoder,
+            bucket: header.bucket,
+            drain: header.drain,
+        }
+    }
+}
 
 // (16), and its limits: over by the peak, which stands before the unit leaves; then short.
 pub fn decoder_step(size: u16, level: u16, sent: u16, taken: u16) -> Decoded
@@ -138,15 +158,15 @@ pub fn pin_holds(pin: u8, choice: u8) -> bool
 }
 
 // One interval from the levels before it: the decoder, the bucket, the pin, in this order.
-pub fn step(header: Header, before: Levels, x: Interval) -> Outcome
-    ensures { λ r. ⌜ outcome-is r ≡ outcome-of (line-of (plain header)) (choice-of (x .pin)) (choice-of (x .choice)) (before .decoder) (before .bucket ∷ []) (x .sent) (x .size) ⌝ }
+pub fn step(buffers: Buffers, before: Levels, x: Interval) -> Outcome
+    ensures { λ r. ⌜ outcome-is r ≡ outcome-of (line-of buffers []) (choice-of (x .pin)) (choice-of (x .choice)) (before .decoder) (before .bucket ∷ []) (x .sent) (x .size) ⌝ }
 {
-    match decoder_step(header.decoder, before.decoder, x.sent, x.size) {
+    match decoder_step(buffers.decoder, before.decoder, x.sent, x.size) {
         Decoded::Violated(v) => Outcome::Violates(v),
         Decoded::Level(decoder) => {
-            let bucket = bucket_step(header.drain, before.bucket, x.sent);
+            let bucket = bucket_step(buffers.drain, before.bucket, x.sent);
             let level = bucket.level;
-            if (header.bucket as u32) < level {
+            if (buffers.bucket as u32) < level {
                 return Outcome::Violates(Violation::BucketOverflow);
             }
             if !pin_holds(x.pin, x.choice) {
@@ -289,6 +309,7 @@ fn play(
     ensures { λ r. ⌜ ended r (now (levels .exit)) ≡ played (job-in (now (job .entry))) (lines (header .units) (now (pins .entry))) (now (entries .entry)) (now (levels .entry)) ⌝ }
 {
     let total = intervals(header);
+    let buffers = Buffers::of(header);
     let mut at = Levels {
         decoder: header.level,
         bucket: header.fill,
@@ -301,7 +322,7 @@ fn play(
     };
     for place in 0..total {
         let x = interval_at(job, header, pins, entries, place);
-        match step(header, at, x) {
+        match step(buffers, at, x) {
             Outcome::Violates(violation) => {
                 let interval = (place + 1) as u16;
                 return Replayed::Violated {

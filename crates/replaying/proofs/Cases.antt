@@ -16,10 +16,10 @@ use Rattle.pinning.specs.Check.{byte-fits, bytes-fit, same-totals, fits, accept
 use Rattle.pinning.specs.Calls.{opened, open-call, refuse, take-in, with-pin, without-pin, pin-line, lift-line, call-in, calling, call, after, run}
 use Rattle.replaying.specs.Entries.{rate-byte, mark-byte, entry-at, plan-from, plan-of, entry-fits, entries-fit, shaped}
 use Rattle.replaying.specs.Calls as c
-use Rattle.replaying.specs.Cases.{Question, Reply, set-after, reply, questions, replies, Cases}
+use Rattle.replaying.specs.Cases.{Question, Reply, delayed, set-after, reply, questions, replies, Cases}
 
 cases : Cases
-unfolding evaluate computes all-below choice-of same-header bytes-a lines unpinned fresh byte-fits bytes-fit same-totals fits accept checked opened open-call refuse take-in with-pin without-pin pin-line lift-line call-in calling call after run rate-byte mark-byte entry-at plan-from plan-of entry-fits entries-fit shaped c.replayed c.flat c.level-count lent.over lent.refuse c.played c.replay-in c.on-job c.replay-call c.report-in c.report-call set-after reply questions replies
+unfolding evaluate computes all-below choice-of same-header bytes-a lines unpinned fresh byte-fits bytes-fit same-totals fits accept checked opened open-call refuse take-in with-pin without-pin pin-line lift-line call-in calling call after run rate-byte mark-byte entry-at plan-from plan-of entry-fits entries-fit shaped c.replayed c.flat c.level-count lent.over lent.refuse c.played c.replay-in c.on-job c.replay-call c.report-in c.report-call delayed set-after reply questions replies
 cases = refl
 
 -- what a computed list says of each of its members

@@ -1,4 +1,4 @@
--- Replay answers and writes what demand 2 asks: `ReplayCalls`.
+-- Replay answers and writes what demand 2 asks: `ReplayCalls`; and how many numbers that is: `LevelNumbers`.
 -- Assumes nothing.
 use Prim.Native.Nat.{ℕ, suc, _+_, _*_, _-_, _≤_}
 use mathlib.Core.Path.{_≡_, refl, sym, _∙_, ap}
@@ -19,6 +19,8 @@ use Rattle.model.specs.Claims.{ReplayClaim}
 use Rattle.model.proofs.DemandTwo.{demand-two}
 use Rattle.model.proofs.Drains.{drain-balance, unused-at}
 use Rattle.model.proofs.Walks.{fits-length}
+use Rattle.format.specs.Parser.{took}
+use Rattle.format.specs.JobBytes.{parse}
 use Rattle.format.proofs.RoundTrip.{one-only}
 use Rattle.format.proofs.Places.{well-read}
 use Rattle.format.proofs.Bounds.{limited}
@@ -27,10 +29,10 @@ use Rattle.pinning.proofs.Agree.{matched}
 use Rattle.replaying.specs.Entries.{plan-of}
 use Rattle.model.specs.Lent.{over}
 use Rattle.replaying.specs.Calls.{Replayed, totals-are, violated, replayed, flat, level-count, played, replay-in, on-job, replay-call}
-use Rattle.replaying.specs.Claims.{Written, DemandTwo, ReplayCalls}
+use Rattle.replaying.specs.Claims.{Written, DemandTwo, LevelNumbers, ReplayCalls}
 use Rattle.replaying.proofs.Entries.{plan-bytes}
 use Rattle.model.proofs.Lent.{over-length, over-here, over-rest}
-use Rattle.replaying.proofs.Flat.{Single, single-each, flat-size, flat-decoder, flat-bucket}
+use Rattle.replaying.proofs.Flat.{flat-length, Single, single-each, flat-size, flat-decoder, flat-bucket}
 
 -- the answer's case is the result's
 clean-case : (s : Totals) (x : Result) → (_≡_ {A = Answer Replayed} (gives (replayed s x)) (gives (totals-are s))) ↔ (x ≡ clean)
@@ -112,14 +114,37 @@ module _ (j : Job) (m : PinMap) (p : List Entry) (one : length (j .line .buckets
       named : (i : ℕ) (v : Violation) → (r .result ≡ stopped (suc i) v) ↔ FirstViolation j m 0 (j .start) p i v
       named i v = let e : 0 + suc i ≡ suc i = omega arith in rw e at (c .stopped-iff i v)
 
+-- how many numbers the levels are
+same-length : (f : Bucket → ℕ → ℕ) (ks : List Bucket) (ls : List ℕ) → length ls ≡ length ks → length (zipWith f ks ls) ≡ length ks
+unfolding zipWith
+same-length f [] ls e = refl
+same-length f (k ∷ ks) [] e = absurd (omega arith)
+same-length f (k ∷ ks) (l ∷ ls) e = ap suc (same-length f ks ls (omega arith))
+
+counted : (j : Job) → level-count j ≡ (1 + length (j .line .buckets)) * (length (j .units) + j .delay)
+unfolding level-count intervals
+counted j = omega arith
+
+pub level-numbers : LevelNumbers
+unfolding ending bucketLevels intervals
+level-numbers j = record {
+  count = counted j;
+  all-of-them = λ m p fits whole e.
+      let c = demand-two j m 0 (j .start) p in
+      let n : length p ≡ length (j .units) + j .delay = omega (arith, fits-length fits) in
+      flat-length (length (j .line .buckets)) _ (λ i h. ap length (c .levels i h .buckets) ∙ same-length _ (j .line .buckets) (j .start .buckets) whole)
+      ∙ ap (λ (i : ℕ). (1 + length (j .line .buckets)) * i) (c .clean-whole e ∙ n)
+      ∙ sym (counted j);
+}
+
+-- of a job that opens
+pub two-each : (b : List ℕ) (j : Job) (n : ℕ) → parse b ≡ took j n → level-count j ≡ 2 * intervals j
+unfolding level-count
+two-each b j n e = rw (well-read b j n e .one-bucket)
+
 pub replay-calls : ReplayCalls
-unfolding replay-call on-job replay-in played level-count if_then_else_
+unfolding replay-call on-job replay-in played if_then_else_
 replay-calls b j n s entries levels parsed matches fit room =
     let w = well-read b j n parsed in
-    let one = w .one-bucket in
-    let size : 2 * intervals j ≤ length levels = room-two in
-    rw (matched b j n parsed s matches, fit, le-ltb (length levels) (suc (length (j .line .buckets)) * intervals j) room)
-    (demand-two-of j (lines (length (j .units)) (s .bytes)) (plan-of j entries) one (w .one-fill) levels _ (unfold intervals in omega (arith, limited j w .units)) (plan-bytes b j n parsed .shaped-iff entries .0 fit .1) size (demand-two j (lines (length (j .units)) (s .bytes)) 0 (j .start) (plan-of j entries)))
-  where
-    room-two : 2 * intervals j ≤ length levels
-    room-two = let e = well-read b j n parsed .one-bucket in rw e at room
+    rw (matched b j n parsed s matches, fit, two-each b j n parsed, le-ltb (length levels) (2 * intervals j) room)
+    (demand-two-of j (lines (length (j .units)) (s .bytes)) (plan-of j entries) (w .one-bucket) (w .one-fill) levels _ (unfold intervals in omega (arith, limited j w .units)) (plan-bytes b j n parsed .shaped-iff entries .0 fit .1) room (demand-two j (lines (length (j .units)) (s .bytes)) 0 (j .start) (plan-of j entries)))

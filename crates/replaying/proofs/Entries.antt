@@ -103,7 +103,8 @@ module _ (j : Job) (few : j .choices ≤ 255) where
   choice-back (waits h) = of-mark
   choice-back (decodes {x} h k) = of-choice x (λ e. omega arith)
 
-  bytes-back : {t : ℕ} {p : List Entry} (rest : List ℕ) → PlanFits j t p → plan-from (entry-bytes p ++ rest) 0 (length p) ≡ p
+  -- whatever stands behind the bytes of a plan
+  pub bytes-back : {t : ℕ} {p : List Entry} (rest : List ℕ) → PlanFits j t p → plan-from (entry-bytes p ++ rest) 0 (length p) ≡ p
   unfolding plan-from entry-bytes
   bytes-back rest (ends e) = refl
   bytes-back rest (goes {e = e} {p = p} f r) =
@@ -112,7 +113,6 @@ module _ (j : Job) (few : j .choices ≤ 255) where
       first : entry-at (e .rate ∷ choice-byte (e .choice) ∷ (entry-bytes p ++ rest)) 0 ≡ e
       first = unfold entry-at rate-byte mark-byte in (rw (choice-back (f .choice)))
 
-  -- whatever stands behind the bytes of a plan
   pub plan-back : (p : List Entry) (rest : List ℕ) → PlanFits j 0 p → plan-of j (entry-bytes p ++ rest) ≡ p
   unfolding plan-of
   plan-back p rest f = let n = fits-length f in let e : intervals j ≡ length p = omega arith in rw e (bytes-back rest f)

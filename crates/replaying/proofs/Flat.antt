@@ -1,12 +1,22 @@
--- Levels as one list of numbers, of a job with one bucket.
+-- Levels as one list of numbers: how many they are, and where each stands with one bucket.
 -- Assumes nothing.
 use Prim.Native.Nat.{ℕ, zero, suc, _+_, _*_, _<_}
-use mathlib.Core.Path.{_≡_, refl, ap}
+use mathlib.Core.Path.{_≡_, refl, sym, ap}
 use mathlib.Core.List.{List, [], _∷_}
 use native.Mathlib.Omega.{arith}
-use lib.ListN.{length, getD}
+use native.Mathlib.Nat.{mul-zero, mul-suc}
+use lib.ListN.{length, getD, length-append}
 use Rattle.model.specs.Job.{Levels, no-levels}
 use Rattle.replaying.specs.Calls.{flat}
+
+-- n buckets' levels in each
+pub flat-length : (n : ℕ) (ls : List Levels) → ((i : ℕ) → i < length ls → length (getD ls i no-levels .buckets) ≡ n) → length (flat ls) ≡ (1 + n) * length ls
+unfolding flat
+flat-length n [] f = sym (mul-zero (1 + n))
+flat-length n (l ∷ ls) f =
+    let h = f 0 (omega arith) in
+    let ih = flat-length n ls (λ i k. f (suc i) (omega arith)) in
+    omega (arith, length-append (l .buckets) (flat ls), mul-suc (1 + n) (length ls))
 
 -- each has one bucket's level
 pub data Single : List Levels → Type 0 where

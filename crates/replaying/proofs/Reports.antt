@@ -22,6 +22,7 @@ use Rattle.replaying.specs.Entries.{plan-of, shaped}
 use Rattle.model.specs.Lent.{Ended, refuse, Keeping}
 use Rattle.replaying.specs.Calls.{level-count, played, replay-in, on-job, replay-call, report-in, report-call}
 use Rattle.replaying.specs.Claims.{Reports, Refusals}
+use Rattle.replaying.proofs.DemandTwo.{two-each}
 use Rattle.model.proofs.Lent.{over-length, over-here, over-rest, refuse-keeps, gives-keeps}
 
 pub reports : Reports
@@ -59,7 +60,7 @@ refusals b s entries list = (
     job-first = λ n e. rw (checked-refused b s n e);
     then-set = λ j n e f. rw (unmatched b j n e s f);
     then-plan = λ j n e m f. rw (matched b j n e s m, not-passed (shaped (header-in j) entries) f);
-    then-list = λ j n e m f l. rw (matched b j n e s m, f, lt-ltb _ _ l);
+    then-list = λ j n e m f l. rw (matched b j n e s m, f, two-each b j n e, lt-ltb _ _ l);
   },
   record {
     job-first = λ n e. rw e;

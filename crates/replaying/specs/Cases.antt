@@ -1,12 +1,12 @@
--- Document 01's cases of Job A that are marked (m), those of pins, replay and report: what is asked, and what document 01 says, or by document 02, E2 and E3, would.
+-- Document 01's cases of Job A that are marked (m), those of pins, replay and report, and cases of Job A with another delay worked out by hand: what is asked, and what document 01 says, or by document 02, E2 and E3, would.
 -- Assumes nothing.
 use Prim.Native.Nat.{ℕ}
 use mathlib.Core.Path.{_≡_}
 use mathlib.Core.Option.{Option, none, some}
 use mathlib.Core.List.{List, [], _∷_, map}
-use lib.ListN.{replicate}
-use Rattle.model.specs.Answer.{gives}
-use Rattle.model.specs.Admissible.{decoder-overflow, decoder-underflow}
+use lib.ListN.{set, replicate}
+use Rattle.model.specs.Answer.{refused, gives}
+use Rattle.model.specs.Admissible.{decoder-overflow, decoder-underflow, pin-not-held}
 use Rattle.model.specs.Pins.{Call, pin, lift, PinTotals}
 use Rattle.format.specs.JobA.{bytes-a}
 use Rattle.pinning.specs.State.{State}
@@ -14,23 +14,30 @@ use Rattle.pinning.specs.Calls.{open-call, run}
 use Rattle.model.specs.Lent.{Ended}
 use Rattle.replaying.specs.Calls.{Replayed, totals-are, violated, replay-call, report-call}
 
--- calls are made on the set that opening Job A answers; then their answers and the set's totals are asked for, or a replay, or a report. The lists that are lent are of sevens
+-- Job A with the delay d
+unfoldable pub delayed : ℕ → List ℕ
+delayed d = set bytes-a 6 d
+
+-- calls are made on the set that opening answers; then their answers and the set's totals are asked for, or a replay, with a delay and so many numbers lent, or a report. The lists that are lent are of sevens
 pub data Question : Type 0 where
   calls : List Call → Question
-  replays : List Call → List ℕ → Question
+  replays-with : ℕ → ℕ → List Call → List ℕ → Question
   reports : List ℕ → Question
+
+abbrev pub replays : List Call → List ℕ → Question
+replays ks entries = replays-with 1 7 ks entries
 
 pub data Reply : Type 0 where
   answered : List (Option ℕ) → PinTotals → Reply
   replayed : Ended Replayed → Reply
   reported : Ended (Unit {0}) → Reply
 
-unfoldable pub set-after : List Call → State
-set-after ks = run bytes-a (open-call bytes-a .state) ks .state
+unfoldable pub set-after : List ℕ → List Call → State
+set-after b ks = run b (open-call b .state) ks .state
 
 unfoldable pub reply : Question → Reply
-reply (calls ks) = answered (run bytes-a (open-call bytes-a .state) ks .answers) (set-after ks .totals)
-reply (replays ks entries) = replayed (replay-call bytes-a (set-after ks) entries (replicate 7 7))
+reply (calls ks) = answered (run bytes-a (open-call bytes-a .state) ks .answers) (set-after bytes-a ks .totals)
+reply (replays-with d room ks entries) = replayed (replay-call (delayed d) (set-after (delayed d) ks) entries (replicate room 7))
 reply (reports entries) = reported (report-call bytes-a entries (replicate 4 7))
 
 unfoldable pub questions : List Question
@@ -50,6 +57,19 @@ questions =
     ∷ replays [] (2 ∷ 255 ∷ 0 ∷ 1 ∷ 0 ∷ 1 ∷ [])
     ∷ replays [] (2 ∷ 255 ∷ 2 ∷ 1 ∷ 0 ∷ 0 ∷ [])
     ∷ replays [] (0 ∷ 255 ∷ 0 ∷ 1 ∷ 0 ∷ 1 ∷ [])
+    -- a list that is just enough, and one that is a number too short
+    ∷ replays-with 1 6 [] (0 ∷ 255 ∷ 2 ∷ 0 ∷ 1 ∷ 1 ∷ [])
+    ∷ replays-with 1 5 [] (0 ∷ 255 ∷ 2 ∷ 0 ∷ 1 ∷ 1 ∷ [])
+    -- delay 2: intervals 3 and 4 decode units 1 and 2. Unit 1 is pinned at 0, at 1, and unit 2 at 0
+    ∷ replays-with 2 8 (pin 1 0 ∷ []) (0 ∷ 255 ∷ 0 ∷ 255 ∷ 2 ∷ 0 ∷ 1 ∷ 1 ∷ [])
+    ∷ replays-with 2 8 (pin 1 1 ∷ []) (0 ∷ 255 ∷ 0 ∷ 255 ∷ 2 ∷ 0 ∷ 1 ∷ 1 ∷ [])
+    ∷ replays-with 2 8 (pin 2 0 ∷ []) (0 ∷ 255 ∷ 0 ∷ 255 ∷ 2 ∷ 0 ∷ 1 ∷ 1 ∷ [])
+    ∷ replays-with 2 7 (pin 1 0 ∷ []) (0 ∷ 255 ∷ 0 ∷ 255 ∷ 2 ∷ 0 ∷ 1 ∷ 1 ∷ [])
+    -- delay 0: intervals 1 and 2 decode them. Unit 1 is pinned at 0, at 1, and unit 2 at 0
+    ∷ replays-with 0 4 (pin 1 0 ∷ []) (2 ∷ 0 ∷ 1 ∷ 1 ∷ [])
+    ∷ replays-with 0 4 (pin 1 1 ∷ []) (2 ∷ 0 ∷ 1 ∷ 1 ∷ [])
+    ∷ replays-with 0 4 (pin 2 0 ∷ []) (2 ∷ 0 ∷ 1 ∷ 1 ∷ [])
+    ∷ replays-with 0 3 (pin 1 0 ∷ []) (2 ∷ 0 ∷ 1 ∷ 1 ∷ [])
     -- effective buffers of the 42 plan
     ∷ reports (1 ∷ 255 ∷ 1 ∷ 1 ∷ 2 ∷ 0 ∷ [])
     ∷ []
@@ -67,6 +87,16 @@ replies =
     ∷ replayed (record { answer = gives (totals-are (record { distortion = 70; source = 4; channel = 4; unused = 2 ∷ [] })); list = 4 ∷ 2 ∷ 2 ∷ 0 ∷ 0 ∷ 0 ∷ 7 ∷ [] })
     ∷ replayed (record { answer = gives (violated 2 decoder-overflow); list = 4 ∷ 2 ∷ 7 ∷ 7 ∷ 7 ∷ 7 ∷ 7 ∷ [] })
     ∷ replayed (record { answer = gives (violated 2 decoder-underflow); list = 0 ∷ 0 ∷ 7 ∷ 7 ∷ 7 ∷ 7 ∷ 7 ∷ [] })
+    ∷ replayed (record { answer = gives (totals-are (record { distortion = 50; source = 6; channel = 6; unused = 2 ∷ [] })); list = 0 ∷ 0 ∷ 0 ∷ 2 ∷ 0 ∷ 2 ∷ [] })
+    ∷ replayed (record { answer = refused 12; list = replicate 5 7 })
+    ∷ replayed (record { answer = gives (totals-are (record { distortion = 50; source = 6; channel = 6; unused = 4 ∷ [] })); list = 0 ∷ 0 ∷ 0 ∷ 0 ∷ 0 ∷ 2 ∷ 0 ∷ 2 ∷ [] })
+    ∷ replayed (record { answer = gives (violated 3 pin-not-held); list = 0 ∷ 0 ∷ 0 ∷ 0 ∷ 7 ∷ 7 ∷ 7 ∷ 7 ∷ [] })
+    ∷ replayed (record { answer = gives (violated 4 pin-not-held); list = 0 ∷ 0 ∷ 0 ∷ 0 ∷ 0 ∷ 2 ∷ 7 ∷ 7 ∷ [] })
+    ∷ replayed (record { answer = refused 12; list = replicate 7 7 })
+    ∷ replayed (record { answer = gives (totals-are (record { distortion = 50; source = 6; channel = 6; unused = 0 ∷ [] })); list = 0 ∷ 2 ∷ 0 ∷ 2 ∷ [] })
+    ∷ replayed (record { answer = gives (violated 1 pin-not-held); list = 7 ∷ 7 ∷ 7 ∷ 7 ∷ [] })
+    ∷ replayed (record { answer = gives (violated 2 pin-not-held); list = 0 ∷ 2 ∷ 7 ∷ 7 ∷ [] })
+    ∷ replayed (record { answer = refused 12; list = replicate 3 7 })
     ∷ reported (record { answer = gives tt; list = 2 ∷ 2 ∷ 4 ∷ 7 ∷ [] })
     ∷ []
 

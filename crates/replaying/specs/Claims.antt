@@ -12,14 +12,14 @@ use Rattle.model.specs.Job.{bucketAt, Job, Entry, intervals, PlanFits}
 use Rattle.model.specs.Levels.{decoderLevel, bucketLevel, effectiveBuffer}
 use Rattle.model.specs.Pins.{PinMap}
 use Rattle.model.specs.Admissible.{Violation, Admissible, FirstViolation}
-use Rattle.model.specs.Replay.{Totals, totals}
+use Rattle.model.specs.Replay.{Totals, totals, clean, replay}
 use Rattle.format.specs.Parser.{refused, took}
 use Rattle.format.specs.JobBytes.{header-in, parse}
 use Rattle.pinning.specs.State.{State, lines}
 use Rattle.pinning.specs.Check.{Matches}
 use Rattle.replaying.specs.Entries.{entry-size, plan-of, shaped, entry-bytes}
 use Rattle.model.specs.Lent.{Ended, refuse, Keeping}
-use Rattle.replaying.specs.Calls.{Replayed, totals-are, violated, level-count, replay-call, report-call}
+use Rattle.replaying.specs.Calls.{Replayed, totals-are, violated, flat, level-count, replay-call, report-call}
 
 -- the shape check passes exactly the bytes of the plans in shape: T entries in range, two bytes each
 pub record Shapes (j : Job) : Type 0 where
@@ -46,17 +46,22 @@ module _ (j : Job) (m : PinMap) (p : List Entry) (levels : List ℕ) where
     -- document 02, E3: where totals are given, starting level + channel total + unused total = T × drain + last level, which is the last number written
     pub balance : (t : Totals) → r .answer ≡ gives (totals-are t) → getD (j .start .buckets) 0 0 + t .channel + getD (t .unused) 0 0 ≡ intervals j * bucketAt (j .line .buckets) 0 .drain + getD (r .list) (2 * intervals j - 1) 0
 
--- in which order replay looks at what it is given
+-- in which order replay looks at what it is given; 12 where the list has not T numbers for the decoder and T for the bucket
 pub record ReplayOrder (b : List ℕ) (s : State) (entries levels : List ℕ) : Type 0 where
   pub job-first : (n : ℕ) → parse b ≡ refused n → replay-call b s entries levels ≡ refuse n levels
   pub then-set : (j : Job) (n : ℕ) → parse b ≡ took j n → (Matches j s → ⊥) → replay-call b s entries levels ≡ refuse 6 levels
   pub then-plan : (j : Job) (n : ℕ) → parse b ≡ took j n → Matches j s → (shaped (header-in j) entries ≡ true → ⊥) → replay-call b s entries levels ≡ refuse 14 levels
-  pub then-list : (j : Job) (n : ℕ) → parse b ≡ took j n → Matches j s → shaped (header-in j) entries ≡ true → length levels < level-count j → replay-call b s entries levels ≡ refuse 12 levels
+  pub then-list : (j : Job) (n : ℕ) → parse b ≡ took j n → Matches j s → shaped (header-in j) entries ≡ true → length levels < 2 * intervals j → replay-call b s entries levels ≡ refuse 12 levels
 
 pub record ReportOrder (b entries sums : List ℕ) : Type 0 where
   pub job-first : (n : ℕ) → parse b ≡ refused n → report-call b entries sums ≡ refuse n sums
   pub then-plan : (j : Job) (n : ℕ) → parse b ≡ took j n → (shaped (header-in j) entries ≡ true → ⊥) → report-call b entries sums ≡ refuse 14 sums
   pub then-list : (j : Job) (n : ℕ) → parse b ≡ took j n → shaped (header-in j) entries ≡ true → length sums < suc (length (j .units)) → report-call b entries sums ≡ refuse 12 sums
+
+-- how many numbers a job's levels are, with any number of buckets: T for the decoder and T for each bucket; and a replay without a violation has as many
+pub record LevelsClaim (j : Job) : Type 0 where
+  pub count : level-count j ≡ (1 + length (j .line .buckets)) * (length (j .units) + j .delay)
+  pub all-of-them : (m : PinMap) (p : List Entry) → PlanFits j 0 p → length (j .start .buckets) ≡ length (j .line .buckets) → replay j m 0 (j .start) p .result ≡ clean → length (flat (replay j m 0 (j .start) p .levels)) ≡ level-count j
 
 -- (6) for i from 0 to N, and the rest of the list as before
 pub record Reported (j : Job) (p : List Entry) (sums : List ℕ) (r : Ended (Unit {0})) : Type 0 where
@@ -70,8 +75,11 @@ pub record Reported (j : Job) (p : List Entry) (sums : List ℕ) (r : Ended (Uni
 abbrev pub PlanBytes : Type 0
 PlanBytes = (b : List ℕ) (j : Job) (n : ℕ) → parse b ≡ took j n → Shapes j
 
+abbrev pub LevelNumbers : Type 0
+LevelNumbers = (j : Job) → LevelsClaim j
+
 abbrev pub ReplayCalls : Type 0
-ReplayCalls = (b : List ℕ) (j : Job) (n : ℕ) (s : State) (entries levels : List ℕ) → parse b ≡ took j n → Matches j s → shaped (header-in j) entries ≡ true → level-count j ≤ length levels → DemandTwo j (lines (length (j .units)) (s .bytes)) (plan-of j entries) levels (replay-call b s entries levels)
+ReplayCalls = (b : List ℕ) (j : Job) (n : ℕ) (s : State) (entries levels : List ℕ) → parse b ≡ took j n → Matches j s → shaped (header-in j) entries ≡ true → 2 * intervals j ≤ length levels → DemandTwo j (lines (length (j .units)) (s .bytes)) (plan-of j entries) levels (replay-call b s entries levels)
 
 abbrev pub Reports : Type 0
 Reports = (b : List ℕ) (j : Job) (n : ℕ) (entries sums : List ℕ) → parse b ≡ took j n → shaped (header-in j) entries ≡ true → length (j .units) < length sums → Reported j (plan-of j entries) sums (report-call b entries sums)

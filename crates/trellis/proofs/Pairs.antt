@@ -1,14 +1,14 @@
--- The list of pairs is in order, and holds each pair of indices below m and k.
+-- The pairs in rows: which they are, and that they are in order.
 -- Assumes nothing.
 use Prim.Native.Nat.{ℕ, zero, suc, _<_}
-use mathlib.Core.Path.{_≡_, sym, ap}
+use mathlib.Core.Path.{_≡_, ap}
 use mathlib.Core.Logic.{_⊎_, inl, inr}
-use mathlib.Core.List.{List, [], _∷_, _++_, append-assoc, List·Memᴰ, List·Memᴰ·head, List·Memᴰ·not-nil, List·Memᴰ·append-cases, List·Memᴰ·eq-of-singleton, Memᴰ·append-left, Memᴰ·append-right}
+use mathlib.Core.List.{[], _∷_, _++_, List·Memᴰ, List·Memᴰ·head, List·Memᴰ·not-nil, List·Memᴰ·append-cases, List·Memᴰ·eq-of-singleton, Memᴰ·append-left, Memᴰ·append-right}
 use native.Mathlib.Omega.{arith}
 use native.Mathlib.Nat.{not-suc-le-zero}
 use native.Mathlib.Decide.{decLt}
 use Rattle.trellis.specs.Minimum.{Sorted}
-use Rattle.trellis.specs.Pairs.{Pair, pair, Rising, row, rising}
+use Rattle.trellis.specs.Pairs.{Pair, pair, row, rows}
 use Rattle.trellis.proofs.Sorted.{sorted-append, sorted-one}
 
 pub row-member : (i k : ℕ) (a : Pair) → List·Memᴰ a (row i k) → (a .outer ≡ i) × (a .inner < k)
@@ -32,21 +32,22 @@ row-sorted _≺_ i (suc k) h =
         let r = row-member i k a p in
         rw e (h a (pair i k) (r .0) (r .1))
 
-pub rising-member : (m k : ℕ) (a : Pair) → List·Memᴰ a (rising m k) → (a .outer < m) × (a .inner < k)
-unfolding rising
-rising-member zero k a n = absurd (List·Memᴰ·not-nil n)
-rising-member (suc m) k a n = go (rising-member m k a) (List·Memᴰ·append-cases (rising m k) n)
+pub rows-member : (f : ℕ → ℕ) (n k : ℕ) (a : Pair) → List·Memᴰ a (rows f n k) → (i : ℕ) × (i < n) × (a .outer ≡ f i) × (a .inner < k)
+unfolding rows
+rows-member f zero k a m = absurd (List·Memᴰ·not-nil m)
+rows-member f (suc n) k a m = go (rows-member f n k a) (List·Memᴰ·append-cases (rows f n k) m)
   where
-    go : (List·Memᴰ a (rising m k) → (a .outer < m) × (a .inner < k)) → List·Memᴰ a (rising m k) ⊎ List·Memᴰ a (row m k) → (a .outer < suc m) × (a .inner < k)
-    go ih (inl p) = let h = ih p in (omega arith, h .1)
-    go ih (inr p) = let h = row-member m k a p in (omega arith, h .1)
+    go : (List·Memᴰ a (rows f n k) → (i : ℕ) × (i < n) × (a .outer ≡ f i) × (a .inner < k)) → List·Memᴰ a (rows f n k) ⊎ List·Memᴰ a (row (f n) k) → (i : ℕ) × (i < suc n) × (a .outer ≡ f i) × (a .inner < k)
+    go ih (inl p) = let h = ih p in (h .0, omega arith, h .2, h .3)
+    go ih (inr p) = let h = row-member (f n) k a p in (n, omega arith, h .0, h .1)
 
-pub rising-sorted : (m k : ℕ) → Sorted Rising (rising m k)
-unfolding rising
-rising-sorted zero k = tt
-rising-sorted (suc m) k =
-    sorted-append Rising (rising m k) (row m k) (rising-sorted m k) (row-sorted Rising m k (λ a b p q. inr (p, q)))
-    (λ a b p q. let x = rising-member m k a p in let y = row-member m k b q in inl (omega arith))
+-- in an order in which each row is before those after it
+pub rows-sorted : (_≺_ : Pair → Pair → Type 0) (f : ℕ → ℕ) (n k : ℕ) → ((a b : Pair) (x y : ℕ) → x < y → y < n → a .outer ≡ f x → b .outer ≡ f y → _≺_ a b) → ((a b : Pair) → a .outer ≡ b .outer → a .inner < b .inner → _≺_ a b) → Sorted _≺_ (rows f n k)
+unfolding rows
+rows-sorted _≺_ f zero k apart within = tt
+rows-sorted _≺_ f (suc n) k apart within =
+    sorted-append _≺_ (rows f n k) (row (f n) k) (rows-sorted _≺_ f n k (λ a b x y l h p q. apart a b x y l (omega arith) p q) within) (row-sorted _≺_ (f n) k within)
+    (λ a b p q. let x = rows-member f n k a p in let y = row-member (f n) k b q in apart a b (x .0) n (x .1) (omega arith) (x .2) (y .0))
 
 pub member-row : (i k j : ℕ) → j < k → List·Memᴰ (pair i j) (row i k)
 unfolding row
@@ -57,33 +58,11 @@ member-row i (suc k) j h = go (member-row i k j) (decLt j k)
     go ih (yes l) = Memᴰ·append-left (pair i k ∷ []) (ih l)
     go ih (no l) = Memᴰ·append-right (row i k) (List·Memᴰ·head (ap (pair i) (omega arith)))
 
-pub member-rising : (m k i j : ℕ) → i < m → j < k → List·Memᴰ (pair i j) (rising m k)
-unfolding rising
-member-rising zero k i j h q = absurd (not-suc-le-zero h)
-member-rising (suc m) k i j h q = go (member-rising m k i j) (decLt i m)
+pub member-rows : (f : ℕ → ℕ) (n k i j : ℕ) → i < n → j < k → List·Memᴰ (pair (f i) j) (rows f n k)
+unfolding rows
+member-rows f zero k i j h q = absurd (not-suc-le-zero h)
+member-rows f (suc n) k i j h q = go (member-rows f n k i j) (decLt i n)
   where
-    go : (i < m → j < k → List·Memᴰ (pair i j) (rising m k)) → Dec (i < m) → List·Memᴰ (pair i j) (rising m k ++ row m k)
-    go ih (yes l) = Memᴰ·append-left (row m k) (ih l q)
-    go ih (no l) = Memᴰ·append-right (rising m k) (let e : i ≡ m = omega arith in rw e (member-row m k j q))
-
--- where a pair stands in its list: what a loop has gone through when it comes to the pair, the pair, and the rest
-pub row-split : (i j k : ℕ) → j < k → (r : List Pair) × (row i k ≡ row i j ++ pair i j ∷ r)
-unfolding row
-row-split i j zero h = absurd (not-suc-le-zero h)
-row-split i j (suc k) h = go (row-split i j k) (decLt j k)
-  where
-    go : (j < k → (r : List Pair) × (row i k ≡ row i j ++ pair i j ∷ r)) → Dec (j < k) → (r : List Pair) × (row i k ++ (pair i k ∷ []) ≡ row i j ++ pair i j ∷ r)
-    go ih (yes l) = let r = ih l in (r .0 ++ (pair i k ∷ []), rw (r .1) (append-assoc (row i j) (pair i j ∷ r .0) (pair i k ∷ [])))
-    go ih (no l) = let e : j ≡ k = omega arith in ([], rw e)
-
-pub rising-split : (m k i j : ℕ) → i < m → j < k → (r : List Pair) × (rising m k ≡ (rising i k ++ row i j) ++ pair i j ∷ r)
-unfolding rising
-rising-split zero k i j h q = absurd (not-suc-le-zero h)
-rising-split (suc m) k i j h q = go (rising-split m k i j) (decLt i m)
-  where
-    go : (i < m → j < k → (r : List Pair) × (rising m k ≡ (rising i k ++ row i j) ++ pair i j ∷ r)) → Dec (i < m) → (r : List Pair) × (rising m k ++ row m k ≡ (rising i k ++ row i j) ++ pair i j ∷ r)
-    go ih (yes l) = let r = ih l q in (r .0 ++ row m k, rw (r .1) (append-assoc (rising i k ++ row i j) (pair i j ∷ r .0) (row m k)))
-    go ih (no l) =
-        let e : i ≡ m = omega arith in
-        let r = row-split m j k q in
-        (r .0, rw (e, r .1) (sym (append-assoc (rising m k) (row m j) (pair m j ∷ r .0))))
+    go : (i < n → j < k → List·Memᴰ (pair (f i) j) (rows f n k)) → Dec (i < n) → List·Memᴰ (pair (f i) j) (rows f n k ++ row (f n) k)
+    go ih (yes l) = Memᴰ·append-left (row (f n) k) (ih l q)
+    go ih (no l) = Memᴰ·append-right (rows f n k) (let e : i ≡ n = omega arith in rw e (member-row (f n) k j q))

@@ -1,9 +1,7 @@
--- The pairs of an index below m and one below k, rising: by the first, then by the second.
+-- The pairs of two indices, in rows: the first index is that of the row, and the second rises.
 -- The lists grow at their ends, as two nested loops go through them.
 -- Assumes nothing.
-use Prim.Native.Nat.{ℕ, zero, suc, _<_}
-use mathlib.Core.Path.{_≡_}
-use mathlib.Core.Logic.{_⊎_}
+use Prim.Native.Nat.{ℕ, zero, suc}
 use mathlib.Core.List.{List, [], _∷_, _++_}
 
 pub record Pair : Type 0 where
@@ -13,14 +11,12 @@ pub record Pair : Type 0 where
 abbrev pub pair : ℕ → ℕ → Pair
 pair i j = record { outer = i; inner = j }
 
-abbrev pub Rising : Pair → Pair → Type 0
-Rising a b = (a .outer < b .outer) ⊎ ((a .outer ≡ b .outer) × (a .inner < b .inner))
-
 -- the pairs with the first index i
 unfoldable pub row : ℕ → ℕ → List Pair
 row i zero = []
 row i (suc k) = row i k ++ (pair i k ∷ [])
 
-unfoldable pub rising : ℕ → ℕ → List Pair
-rising zero k = []
-rising (suc m) k = rising m k ++ row m k
+-- n rows, of the first indices f 0 to f (n - 1)
+unfoldable pub rows : (ℕ → ℕ) → ℕ → ℕ → List Pair
+rows f zero k = []
+rows f (suc n) k = rows f n k ++ row (f n) k

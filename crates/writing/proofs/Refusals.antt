@@ -3,7 +3,7 @@
 use Prim.Native.Nat.{ℕ, _<_, _≤_}
 use mathlib.Core.Path.{_≡_, refl, ap, _∙_}
 use mathlib.Core.Option.{some}
-use mathlib.Core.List.{List, [], _∷_}
+use mathlib.Core.List.{List}
 use borrow.Author.Tests.{lt-ltb, le-ltb}
 use lib.Dec.{ltb}
 use lib.ListN.{length}
@@ -11,31 +11,19 @@ use native.Mathlib.Omega.{arith}
 use Rattle.model.specs.If.{if_then_else_}
 use Rattle.model.specs.Answer.{gives}
 use Rattle.model.specs.Lent.{Ended, refuse, Keeping, unless}
-use Rattle.model.specs.Job.{Coding}
 use Rattle.model.proofs.Tests.{branch}
 use Rattle.model.proofs.Lent.{refuse-keeps, gives-keeps, unless-keeps}
 use Rattle.format.specs.Limits.{broken, AllKept}
 use Rattle.format.specs.JobBytes.{Header, header-limits, rate-limits, coding-limits, encode}
 use Rattle.format.specs.Places.{job-size}
-use Rattle.format.proofs.Limits.{AllOf, broken-one}
+use Rattle.format.proofs.Limits.{broken-one}
+use Rattle.format.proofs.Orders.{header-number, rates-number, codings-number}
 use Rattle.format.proofs.RoundTrip.{sized}
 use Rattle.writing.specs.Lists.{codings-from, job-from}
 use Rattle.writing.specs.Calls.{length-limits, write-limits, write-in, write-call}
 use Rattle.writing.specs.Claims.{Refusals}
 use Rattle.writing.proofs.Order.{accepted, at-header, at-lengths, at-rates, at-codings}
 use Rattle.writing.proofs.Writes.{header-given, well-given, taken}
-
--- each group of limits has one number
-header-number : (h : Header) → AllOf 3 (header-limits h)
-header-number h = (refl, (refl, (refl, (refl, (refl, (refl, (refl, (refl, (refl, tt)))))))))
-
-rates-number : (low : ℕ) (rates : List ℕ) → AllOf 4 (rate-limits low rates)
-rates-number low [] = tt
-rates-number low (r ∷ rates) = (refl, rates-number _ rates)
-
-codings-number : (cs : List Coding) → AllOf 5 (coding-limits cs)
-codings-number [] = tt
-codings-number (c ∷ cs) = (refl, (refl, codings-number cs))
 
 module _ (h : Header) (rates sizes distortions out : List ℕ) where
   pub refused-by : (n : ℕ) → broken (write-limits h rates sizes distortions) ≡ some n → write-call h rates sizes distortions out ≡ refuse n out

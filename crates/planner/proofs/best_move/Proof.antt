@@ -1,39 +1,41 @@
 use Rattle.planner.proofs.Moves.{layered, rate-below, choice-below, reached-end, best-move}
+use Rattle.job.specs.Answers.{plain}
 use native.Mathlib.Omega.{arith}
 use borrow.Author.Needs.{needs}
 use Rattle.planner.proofs.best_move.Statement.{statement}
 use Rattle.planner.proofs.best_move.Tie as tie
 
 choices-in-requires : tie.Need-choices-in-requires
-choices-in-requires c κs = search needs
+unfolding plain
+choices-in-requires c κs = let a = c .before .before in (a .pre .starts .opens, a .pre .starts .pins-size, a .pre .before)
 
 best-entry-requires : tie.Need-best-entry-requires
 best-entry-requires c κs =
     let a = c .before .before .before in
-    layered _ _ _ _ _ _ _ (a .pre .0) (a .pre .1) (a .pre .2) (a .pre .3) _ (c .choices-in .ensures)
+    layered _ _ _ _ _ _ _ _ (a .pre) _ (c .choices-in .ensures)
 
 mul-sent : tie.Need-mul-sent
 mul-sent c =
     let e = c in
     let i = e .before in
     let a = i .before .before .before in
-    let l = rate-below _ _ _ _ _ _ _ (a .pre .0) (a .pre .1) (a .pre .2) (a .pre .3) _ (i .choices-in .ensures) _ _ (e .best-entry .ensures) in
-    record { fits = omega (arith, a .pre .0 .line .fits .rates) }
+    let l = rate-below _ _ _ _ _ _ _ _ (a .pre) _ (i .choices-in .ensures) _ _ (e .best-entry .ensures) in
+    record { fits = omega (arith, a .pre .starts .line .rates) }
 
 element-copy-out-sent : tie.Need-element-copy-out-sent
 element-copy-out-sent c =
     let e = c in
     let i = e .before in
     let a = i .before .before .before in
-    let l = rate-below _ _ _ _ _ _ _ (a .pre .0) (a .pre .1) (a .pre .2) (a .pre .3) _ (i .choices-in .ensures) _ _ (e .best-entry .ensures) in
-    omega (arith, a .pre .0 .line .fits .rates)
+    let l = rate-below _ _ _ _ _ _ _ _ (a .pre) _ (i .choices-in .ensures) _ _ (e .best-entry .ensures) in
+    omega (arith, a .pre .starts .line .rates, a .pre .starts .line .size)
 
 mul-size : tie.Need-mul-size
 mul-size c =
     let e = c .before in
     let i = e .before in
     let a = i .before .before .before in
-    let l = choice-below _ _ _ _ _ _ _ (a .pre .0) (a .pre .1) (a .pre .2) (a .pre .3) _ (i .choices-in .ensures) _ _ (e .best-entry .ensures) in
+    let l = choice-below _ _ _ _ _ _ _ _ (a .pre) _ (i .choices-in .ensures) _ _ (e .best-entry .ensures) in
     record { fits = omega arith }
 
 element-copy-out-size : tie.Need-element-copy-out-size
@@ -41,14 +43,14 @@ element-copy-out-size c =
     let e = c .before in
     let i = e .before in
     let a = i .before .before .before in
-    choice-below _ _ _ _ _ _ _ (a .pre .0) (a .pre .1) (a .pre .2) (a .pre .3) _ (i .choices-in .ensures) _ _ (e .best-entry .ensures)
+    choice-below _ _ _ _ _ _ _ _ (a .pre) _ (i .choices-in .ensures) _ _ (e .best-entry .ensures)
 
 mul-distortion : tie.Need-mul-distortion
 mul-distortion c =
     let e = c .before .before in
     let i = e .before in
     let a = i .before .before .before in
-    let l = choice-below _ _ _ _ _ _ _ (a .pre .0) (a .pre .1) (a .pre .2) (a .pre .3) _ (i .choices-in .ensures) _ _ (e .best-entry .ensures) in
+    let l = choice-below _ _ _ _ _ _ _ _ (a .pre) _ (i .choices-in .ensures) _ _ (e .best-entry .ensures) in
     record { fits = omega arith }
 
 element-copy-out-distortion : tie.Need-element-copy-out-distortion
@@ -56,42 +58,42 @@ element-copy-out-distortion c =
     let e = c .before .before in
     let i = e .before in
     let a = i .before .before .before in
-    choice-below _ _ _ _ _ _ _ (a .pre .0) (a .pre .1) (a .pre .2) (a .pre .3) _ (i .choices-in .ensures) _ _ (e .best-entry .ensures)
+    choice-below _ _ _ _ _ _ _ _ (a .pre) _ (i .choices-in .ensures) _ _ (e .best-entry .ensures)
+
+cast-index : tie.Need-cast-index
+cast-index c =
+    let e = c .before .before .before in
+    let i = e .before in
+    let a = i .before .before .before in
+    let l = rate-below _ _ _ _ _ _ _ _ (a .pre) _ (i .choices-in .ensures) _ _ (e .best-entry .ensures) in
+    record { fits = omega (arith, a .pre .starts .line .rates) }
 
 interval-of-requires : tie.Need-interval-of-requires
 interval-of-requires c κs = search needs
 
-cast-t28 : tie.Need-cast-t28
-cast-t28 c =
-    let e = c .before .before .before .before in
-    let i = e .before in
-    let a = i .before .before .before in
-    let l = rate-below _ _ _ _ _ _ _ (a .pre .0) (a .pre .1) (a .pre .2) (a .pre .3) _ (i .choices-in .ensures) _ _ (e .best-entry .ensures) in
-    record { fits = omega (arith, a .pre .0 .line .fits .rates) }
-
 choice-byte-requires : tie.Need-choice-byte-requires
 choice-byte-requires c κs =
-    let e = c .before .before .before .before in
+    let e = c .before .before .before .before .before in
     let i = e .before in
     let a = i .before .before .before in
-    choice-below _ _ _ _ _ _ _ (a .pre .0) (a .pre .1) (a .pre .2) (a .pre .3) _ (i .choices-in .ensures) _ _ (e .best-entry .ensures)
+    choice-below _ _ _ _ _ _ _ _ (a .pre) _ (i .choices-in .ensures) _ _ (e .best-entry .ensures)
 
 levels-after-requires : tie.Need-levels-after-requires
 levels-after-requires c κs =
-    let x = c .before in
+    let x = c .before .before in
     let e = x .before .before .before .before in
     let i = e .before in
     let a = i .before .before .before in
-    reached-end _ _ _ _ _ _ _ (a .pre .0) (a .pre .1) (a .pre .2) (a .pre .3) _ (i .choices-in .ensures) _ _ (e .best-entry .ensures) _ (x .interval-of .ensures)
+    reached-end _ _ _ _ _ _ _ _ (a .pre) _ (i .choices-in .ensures) _ _ (e .best-entry .ensures) _ (x .interval-of .ensures)
 
 returns : tie.Need-returns
 returns c =
     let d = c .before in
-    let x = d .before in
+    let x = d .before .before in
     let e = x .before .before .before .before in
     let i = e .before in
     let a = i .before .before .before in
-    best-move _ _ _ _ _ _ _ (a .pre .0) (a .pre .1) (a .pre .2) (a .pre .3) _ (i .choices-in .ensures) _ _ (e .best-entry .ensures) _ (x .interval-of .ensures) _ _ (d .choice-byte .ensures) (c .levels-after .ensures)
+    best-move _ _ _ _ _ _ _ _ (a .pre) _ (i .choices-in .ensures) _ _ (e .best-entry .ensures) _ (x .interval-of .ensures) _ _ (d .choice-byte .ensures) (c .levels-after .ensures)
 
 pub best-move-spec : {M : Type 1} → statement M
 best-move-spec =
@@ -105,8 +107,8 @@ best-move-spec =
     element-copy-out-size
     mul-distortion
     element-copy-out-distortion
+    cast-index
     interval-of-requires
-    cast-t28
     choice-byte-requires
     levels-after-requires
     returns)

@@ -18,7 +18,7 @@ add-result-2 : tie.Need-add-result-2
 add-result-2 c = search needs
 
 mul-result : tie.Need-mul-result
-mul-result c = record { fits = omega (arith, product-small (c .before .before .args .line .header .decoder + 1) (c .before .before .args .line .header .bucket + 1) (omega arith) (omega arith)) }
+mul-result c = record { fits = omega (arith, product-small (c .before .before .args .line .buffers .decoder + 1) (c .before .before .args .line .buffers .bucket + 1) (omega arith) (omega arith)) }
 
 returns : tie.Need-returns
 returns c = layer-size (c .before .before .args .line)

@@ -48,13 +48,16 @@ loop-again c =
     let l = c .before .before in
     (omega arith, l .loop .inv .1, filled-more _ _ _ (l .loop .rate) (l .loop .rates) _ (omega arith) (c .rate-at .ensures) (l .loop .inv .2))
 
+of-requires : tie.Need-of-requires Inv-loop μ-loop
+of-requires c κs = search needs
+
 returns : tie.Need-returns Inv-loop μ-loop
 unfolding plain
 returns c =
-    let l = c .before in
+    let l = c .before .before in
     let a = l .before .before .before in
     let e : l .loop .rate ≡ a .args .header .rates = omega arith in
-    line-read _ (a .args .header) (l .loop .rates) (a .pre) (rw e at (l .loop .inv .2))
+    line-read _ (a .args .header) _ (l .loop .rates) (a .pre) (c .of .ensures) (rw e at (l .loop .inv .2))
 
 pub line-in-spec : {M : Type 1} → statement M
 line-in-spec =
@@ -71,4 +74,5 @@ line-in-spec =
     add-rate
     loop-less
     loop-again
+    of-requires
     returns)

@@ -3,10 +3,22 @@ use Rattle.planner.specs.Answers.{step-of}
 use Rattle.replay.specs.Answers.{outcome-is}
 use Rattle.model.specs.Table.{wordIn}
 use borrow.Author.Tests.{not-true, not-false}
+use lib.ListN.{length}
 use mathlib.Core.Path.{sym, _∙_, ap}
+use Prim.Native.Nat.{_<_}
 use borrow.Author.Needs.{needs}
 use Rattle.planner.proofs.offer.Statement.{statement}
 use Rattle.planner.proofs.offer.Tie as tie
+
+-- the place of the levels that are reached
+below : (c : tie.After-word-place) → c .word-place .result < length (c .before .before .before .before .before .before .before .before .before .args .next .now)
+unfolding outcome-is step-of
+below c =
+    let m = c .before .before .before in
+    let i = m .before .before in
+    let a = i .before .before .before .before in
+    let h = sym (m .before .step .ensures) ∙ ap outcome-is (c .before .before .to .given .1) in
+    rw (c .word-place .ensures, a .pre .0) (reached-below _ _ _ _ _ _ (i .interval-of .ensures) _ h)
 
 returns : tie.Need-returns
 returns c = barred-offers _ _ _ _ _ _ _ (not-true _ (c .if1 .taken))
@@ -26,14 +38,14 @@ enum-known-to c = search needs
 word-place-requires : tie.Need-word-place-requires
 word-place-requires c κs = search needs
 
-price-requires : tie.Need-price-requires
-unfolding outcome-is step-of
-price-requires c κs =
-    let m = c .before .before .before in
-    let i = m .before .before in
-    let a = i .before .before .before in
-    let h = sym (m .before .step .ensures) ∙ ap outcome-is (c .before .before .to .given .1) in
-    (rw (c .word-place .ensures, a .pre .0) (reached-below _ _ _ _ _ _ (i .interval-of .ensures) _ h), a .pre .1)
+mul-charged : tie.Need-mul-charged
+mul-charged c = let b = below c in search needs
+
+shared-slice-read-charged : tie.Need-shared-slice-read-charged
+shared-slice-read-charged c = below (c .before)
+
+charged-requires : tie.Need-charged-requires
+charged-requires c κs = search needs
 
 returns-2 : tie.Need-returns-2
 unfolding outcome-is step-of
@@ -41,16 +53,17 @@ returns-2 c =
     let m = c .before in
     let i = m .before .before in
     let h = sym (m .before .step .ensures) ∙ ap outcome-is (c .enum-told .given .1) in
-    violation-offers _ _ _ _ _ _ (i .interval-of .ensures) _ _ (not-false _ (i .before .if1 .left)) _ h
+    violation-offers _ _ _ _ _ _ (i .interval-of .ensures) _ _ (not-false _ (i .before .before .if1 .left)) _ h
 
 returns-3 : tie.Need-returns-3
 unfolding outcome-is step-of wordIn
 returns-3 c =
-    let t = c .before .before .before in
+    let w = c .before .before in
+    let t = w .before .before in
     let m = t .before in
     let i = m .before .before in
     let h = sym (m .before .step .ensures) ∙ ap outcome-is (t .to .given .1) in
-    c .price .ensures ∙ rw (c .before .word-place .ensures) (reached-offers _ _ _ _ _ _ (i .interval-of .ensures) _ _ (not-false _ (i .before .if1 .left)) _ h)
+    c .charged .ensures ∙ rw (w .word-place .ensures) (reached-offers _ _ _ _ _ _ (i .interval-of .ensures) _ _ (not-false _ (i .before .before .if1 .left)) _ h)
 
 pub offer-spec : {M : Type 1} → statement M
 offer-spec =
@@ -62,6 +75,8 @@ offer-spec =
     enum-told
     enum-known-to
     word-place-requires
-    price-requires
+    mul-charged
+    shared-slice-read-charged
+    charged-requires
     returns-2
     returns-3)

@@ -1,10 +1,12 @@
-use Rattle.planner.proofs.Answering.{words-are, plan-refused, ready-opens, plan-11, plan-12, plan-searched}
-use Rattle.planner.specs.Answers.{answered, planned}
+use Rattle.planner.proofs.Answering.{plan-refused, ready-opens, plan-11, plan-12, searches, plan-searched}
+use Rattle.planner.specs.Answers.{answered, planned, order-is}
 use Rattle.pins.proofs.Answering.{ready}
 use Rattle.pins.specs.Answers.{state}
 use Rattle.job.proofs.Answers.{answer-took, answer-refused}
 use Rattle.job.specs.Answers.{plain}
-use mathlib.Core.Path.{_∙_}
+use Rattle.replay.specs.Answers.{levels-of}
+use Rattle.format.proofs.Opened.{start-is}
+use mathlib.Core.Path.{sym, _∙_}
 use native.Mathlib.Omega.{arith}
 use borrow.Author.Needs.{needs}
 use Rattle.planner.proofs.plan.Statement.{statement}
@@ -47,16 +49,28 @@ returns-2 c =
     let r = ready _ _ _ _ (answer-took _ (check .result) _ _ (check .ensures .1) (h .header .given .1)) (check .ensures .0) in
     plan-12 _ _ _ r _ _ (omega (arith, t .table-words .ensures, e .if1 .left)) (omega (arith, c .before .intervals .ensures, c .if2 .taken))
 
-search-requires : tie.Need-search-requires
-unfolding plain state
-search-requires c κs =
-    let i = c .before .before .before .before .before in
+line-in-requires : tie.Need-line-in-requires
+unfolding state
+line-in-requires c κs =
+    let i = c .before .before in
     let e = i .before in
     let t = e .before in
     let h = t .before .before in
     let check = h .before .before .check in
     let r = ready _ _ _ _ (answer-took _ (check .result) _ _ (check .ensures .1) (h .header .given .1)) (check .ensures .0) in
-    (ready-opens _ _ _ r, check .ensures .0, omega (arith, words-are _ _ (ready-opens _ _ _ r), t .table-words .ensures, e .if1 .left), omega (arith, i .intervals .ensures, c .before .before .before .before .if2 .left))
+    ready-opens _ _ _ r
+
+search-requires : tie.Need-search-requires
+unfolding plain state levels-of
+search-requires c κs =
+    let l = c .before .before .before in
+    let i = l .before .before .before in
+    let e = i .before in
+    let t = e .before in
+    let h = t .before .before in
+    let check = h .before .before .check in
+    let r = ready _ _ _ _ (answer-took _ (check .result) _ _ (check .ensures .1) (h .header .given .1)) (check .ensures .0) in
+    searches _ _ _ r _ _ (omega (arith, t .table-words .ensures, e .if1 .left)) _ (l .line-in .ensures) _ (sym (start-is _ _ (ready-opens _ _ _ r))) (omega (arith, i .intervals .ensures, l .before .before .if2 .left)) _ (check .ensures .0)
 
 returns-3 : tie.Need-returns-3
 unfolding planned answered
@@ -72,16 +86,17 @@ same-length-2 : tie.Need-same-length-2
 same-length-2 c = search needs
 
 returns-4 : tie.Need-returns-4
-unfolding plain state
+unfolding plain state levels-of order-is
 returns-4 c =
     let s = c .before .before .before .before in
-    let i = s .before .before .before .before .before .before in
+    let l = s .before .before .before .before in
+    let i = l .before .before .before in
     let e = i .before in
     let t = e .before in
     let h = t .before .before in
     let check = h .before .before .check in
     let r = ready _ _ _ _ (answer-took _ (check .result) _ _ (check .ensures .1) (h .header .given .1)) (check .ensures .0) in
-    s .search .ensures ∙ plan-searched _ _ _ r _ _ (omega (arith, t .table-words .ensures, e .if1 .left)) (omega (arith, i .intervals .ensures, s .before .before .before .before .before .if2 .left))
+    s .search .ensures ∙ plan-searched _ _ _ r _ _ (omega (arith, t .table-words .ensures, e .if1 .left)) _ (l .line-in .ensures) _ (sym (start-is _ _ (ready-opens _ _ _ r))) (omega (arith, i .intervals .ensures, l .before .before .if2 .left))
 
 pub plan-spec : {M : Type 1} → statement M
 plan-spec =
@@ -95,6 +110,7 @@ plan-spec =
     intervals-requires
     mul-if2
     returns-2
+    line-in-requires
     search-requires
     returns-3
     same-length

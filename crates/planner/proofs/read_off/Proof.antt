@@ -1,10 +1,13 @@
 use Rattle.planner.proofs.Plans.{ReadTo, read-start, read-on, read-end}
+use Rattle.planner.proofs.Jobs.{one-bucket}
+use Rattle.planner.specs.Answers.{line-is, job-on, order-is}
 use Rattle.format.specs.JobBytes.{job-in}
-use Rattle.format.proofs.Opened.{few-intervals, intervals-are, drain-most, buckets-are, start-is}
+use Rattle.format.proofs.Opened.{few-intervals, intervals-are}
+use Rattle.model.proofs.Lines.{intervals-on}
 use Rattle.job.specs.Answers.{plain}
 use Rattle.pinning.specs.State.{lines}
 use Rattle.replay.specs.Answers.{levels-of, totals-of}
-use mathlib.Core.Path.{sym}
+use mathlib.Core.Path.{refl}
 use Prim.Native.Nat.{_-_, _<_, _≤_}
 use native.Mathlib.Omega.{arith}
 use borrow.Author.Needs.{needs}
@@ -12,32 +15,41 @@ use Rattle.planner.proofs.read_off.Statement.{statement}
 use Rattle.planner.proofs.read_off.Tie as tie
 
 abbrev Inv-loop : tie.InvT-loop
-Inv-loop job header line pins table entries₀ total at₀ sum₀ place₀ entries at sum place = (place ≤ total) × ReadTo (job-in job) (lines (header .units) pins) entries₀ place at sum entries
+Inv-loop order job header line pins table first entries₀ total at₀ sum₀ place₀ entries at sum place = (first ≤ place) × (place ≤ total) × ReadTo (job-on job line) (lines (header .units) pins) (order-is order) first (levels-of at₀) entries₀ place at sum entries
 
 abbrev μ-loop : tie.MeasureT-loop
-μ-loop job header line pins table entries₀ total at₀ sum₀ place₀ entries at sum place = total - place
+μ-loop order job header line pins table first entries₀ total at₀ sum₀ place₀ entries at sum place = total - place
 
 intervals-requires : tie.Need-intervals-requires Inv-loop μ-loop
 intervals-requires c κs = search needs
 
 loop-holds : tie.Need-loop-holds Inv-loop μ-loop
-unfolding plain levels-of totals-of
+unfolding plain totals-of
 loop-holds c =
     let a = c .before .before .before .before in
-    (search needs, read-start _ _ _ _ (buckets-are _ _ (a .pre .0 .opens)) _ (sym (start-is _ _ (a .pre .0 .opens))) (a .pre .2))
+    (omega arith, omega (arith, c .intervals .ensures, a .pre .few), read-start _ _ _ _ _ _ _ (one-bucket _ _) _ refl (a .pre .stands))
+
+sub-index : tie.Need-sub-index Inv-loop μ-loop
+sub-index c = search needs
 
 best-move-requires : tie.Need-best-move-requires Inv-loop μ-loop
+unfolding plain
 best-move-requires c κs =
     let l = c .before in
     let a = l .before .before .before .before .before in
-    (a .pre .0, a .pre .1, omega (arith, l .before .intervals .ensures), l .loop .inv .1 .stands)
+    record {
+      starts = a .pre .starts;
+      before = omega (arith, l .before .intervals .ensures, c .loop-test .taken);
+      table-is = record { enough = a .pre .table-is .enough; layers = λ t h k. a .pre .table-is .layers t (omega (arith, l .loop .inv .0)) k };
+      stands = l .loop .inv .2 .stands;
+    }
 
 put-entry-requires : tie.Need-put-entry-requires Inv-loop μ-loop
 unfolding plain
 put-entry-requires c κs =
     let l = c .before .before .before in
     let a = l .before .before .before .before .before in
-    (omega (arith, l .before .intervals .ensures, few-intervals _ _ (a .pre .0 .opens)), omega (arith, l .before .intervals .ensures, a .pre .3, l .loop .inv .1 .size))
+    (omega (arith, l .before .intervals .ensures, few-intervals _ _ (a .pre .starts .opens)), omega (arith, l .before .intervals .ensures, a .pre .room, l .loop .inv .0, l .loop .inv .2 .size))
 
 with-interval-requires : tie.Need-with-interval-requires Inv-loop μ-loop
 unfolding plain
@@ -45,8 +57,8 @@ with-interval-requires c κs =
     let x = c .before .before .before .before in
     let l = x .before .before in
     let a = l .before .before .before .before .before in
-    let b : l .loop .place < 576 = omega (arith, l .before .intervals .ensures, few-intervals _ _ (a .pre .0 .opens)) in
-    let g = l .loop .inv .1 .sums .small in
+    let b : l .loop .place < 576 = omega (arith, l .before .intervals .ensures, few-intervals _ _ (a .pre .starts .opens)) in
+    let g = l .loop .inv .2 .sums .small in
     let m = x .best-move .ensures .does .limits in
     record { distortion = omega arith; source = omega arith; channel = omega arith; unused = omega arith }
 
@@ -64,7 +76,7 @@ loop-again c =
     let x = p .before .before in
     let l = x .before .before in
     let a = l .before .before .before .before .before in
-    (omega arith, rw (p .put-entry .ensures) (read-on _ _ _ _ (buckets-are _ _ (a .pre .0 .opens)) (l .loop .place) (l .loop .at) (l .loop .sum) _ _ _ (l .loop .inv .1) (x .best-move .ensures) (w .with-interval .ensures) (drain-most _ _ (a .pre .0 .opens)) (omega (arith, l .before .intervals .ensures, a .pre .3))))
+    (omega (arith, l .loop .inv .0), omega arith, rw (p .put-entry .ensures) (read-on _ _ _ _ _ _ _ (one-bucket _ _) (l .loop .place) (l .loop .at) (l .loop .sum) _ _ _ (l .loop .inv .2) (x .best-move .ensures) (w .with-interval .ensures) (a .pre .starts .line .drain) (omega (arith, l .before .intervals .ensures, a .pre .room, l .loop .inv .0))))
 
 same-length : tie.Need-same-length Inv-loop μ-loop
 same-length c = search needs
@@ -74,7 +86,7 @@ unfolding plain
 returns c =
     let l = c .before in
     let a = l .before .before .before .before .before in
-    read-end _ _ _ _ (buckets-are _ _ (a .pre .0 .opens)) (l .loop .place) (l .loop .at) (l .loop .sum) _ (l .loop .inv .1) (omega (arith, l .before .intervals .ensures, intervals-are _ _ (a .pre .0 .opens)))
+    read-end _ _ _ _ _ _ _ (one-bucket _ _) (l .loop .place) (l .loop .at) (l .loop .sum) _ (l .loop .inv .2) (omega (arith, l .before .intervals .ensures, intervals-are _ _ (a .pre .starts .opens), intervals-on (job-in (a .args .job .now)) (line-is (a .args .line))))
 
 pub read-off-spec : {M : Type 1} → statement M
 read-off-spec =
@@ -84,6 +96,7 @@ read-off-spec =
     μ-loop
     intervals-requires
     loop-holds
+    sub-index
     best-move-requires
     put-entry-requires
     with-interval-requires

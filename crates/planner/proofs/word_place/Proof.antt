@@ -15,13 +15,13 @@ add-result : tie.Need-add-result
 add-result c = search needs
 
 mul-result : tie.Need-mul-result
-mul-result c = record { fits = omega (arith, product-small (c .before .before .args .at .decoder) (c .before .before .args .line .header .bucket + 1) (omega arith) (omega arith)) }
+mul-result c = record { fits = omega (arith, product-small (c .before .before .args .at .decoder) (c .before .before .args .line .buffers .bucket + 1) (omega arith) (omega arith)) }
 
 cast-result-3 : tie.Need-cast-result-3
 cast-result-3 c = search needs
 
 add-result-2 : tie.Need-add-result-2
-add-result-2 c = let a = c .before .before .before .args in record { fits = omega (arith, product-small (a .at .decoder) (a .line .header .bucket + 1) (omega arith) (omega arith)) }
+add-result-2 c = let a = c .before .before .before .args in record { fits = omega (arith, product-small (a .at .decoder) (a .line .buffers .bucket + 1) (omega arith) (omega arith)) }
 
 returns : tie.Need-returns
 returns c = let a = c .before .before .before .args in place-is (a .line) (a .at)

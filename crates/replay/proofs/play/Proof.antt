@@ -13,25 +13,28 @@ use Rattle.replay.proofs.play.Statement.{statement}
 use Rattle.replay.proofs.play.Tie as tie
 
 abbrev Inv-loop : tie.InvT-loop
-Inv-loop job header pins entries levels₀ total at₀ sum₀ place₀ levels at sum place = (place ≤ total) × Going (job-in job) (lines (header .units) pins) entries levels₀ place at sum levels
+Inv-loop job header pins entries levels₀ total buffers at₀ sum₀ place₀ levels at sum place = (place ≤ total) × Going (job-in job) (lines (header .units) pins) entries levels₀ place at sum levels
 
 abbrev μ-loop : tie.MeasureT-loop
-μ-loop job header pins entries levels₀ total at₀ sum₀ place₀ levels at sum place = total - place
+μ-loop job header pins entries levels₀ total buffers at₀ sum₀ place₀ levels at sum place = total - place
 
 intervals-requires : tie.Need-intervals-requires Inv-loop μ-loop
 intervals-requires c κs = search needs
 
+of-requires : tie.Need-of-requires Inv-loop μ-loop
+of-requires c κs = search needs
+
 loop-holds : tie.Need-loop-holds Inv-loop μ-loop
 unfolding plain levels-of totals-of
 loop-holds c =
-    let a = c .before .before .before .before in
+    let a = c .before .before .before .before .before in
     (search needs, going-start _ _ _ _ _ (buckets-are _ _ (a .pre .plan .opens)) _ (sym (start-is _ _ (a .pre .plan .opens))))
 
 interval-at-requires : tie.Need-interval-at-requires Inv-loop μ-loop
 interval-at-requires c κs =
     let l = c .before in
-    let a = l .before .before .before .before .before in
-    (a .pre .plan, omega (arith, l .before .intervals .ensures), a .pre .pins-size)
+    let a = l .before .before .before .before .before .before in
+    (a .pre .plan, omega (arith, l .before .before .intervals .ensures), a .pre .pins-size)
 
 step-requires : tie.Need-step-requires Inv-loop μ-loop
 step-requires c κs = search needs
@@ -46,8 +49,8 @@ cast-interval : tie.Need-cast-interval Inv-loop μ-loop
 unfolding plain
 cast-interval c =
     let l = c .before .before .before .before .before .before in
-    let a = l .before .before .before .before .before in
-    record { fits = omega (arith, l .before .intervals .ensures, few-intervals _ _ (a .pre .plan .opens)) }
+    let a = l .before .before .before .before .before .before in
+    record { fits = omega (arith, l .before .before .intervals .ensures, few-intervals _ _ (a .pre .plan .opens)) }
 
 same-length : tie.Need-same-length Inv-loop μ-loop
 same-length c = search needs
@@ -59,9 +62,9 @@ returns c =
     let t = w .before .before in
     let x = t .before in
     let l = x .before .before in
-    let a = l .before .before .before .before .before in
-    let o = sym (outcome-is-job _ _ _ (a .pre .plan .opens) _ _ _ (l .loop .at) (x .interval-at .ensures)) ∙ sym (t .step .ensures) ∙ ap outcome-is (w .violation .given .1) in
-    rw add-one (going-stop _ _ _ _ (l .loop .place) (l .loop .at) (l .loop .sum) _ (l .loop .inv .1) (omega (arith, l .before .intervals .ensures, intervals-are _ _ (a .pre .plan .opens))) _ o)
+    let a = l .before .before .before .before .before .before in
+    let o = sym (outcome-is-job _ _ _ (a .pre .plan .opens) _ (l .before .of .ensures) _ _ _ (l .loop .at) (x .interval-at .ensures)) ∙ sym (t .step .ensures) ∙ ap outcome-is (w .violation .given .1) in
+    rw add-one (going-stop _ _ _ _ (l .loop .place) (l .loop .at) (l .loop .sum) _ (l .loop .inv .1) (omega (arith, l .before .before .intervals .ensures, intervals-are _ _ (a .pre .plan .opens))) _ o)
 
 enum-known-next : tie.Need-enum-known-next Inv-loop μ-loop
 enum-known-next c = search needs
@@ -72,8 +75,8 @@ put-levels-requires c κs =
     let n = c .before .before in
     let t = n .before .before in
     let l = t .before .before .before in
-    let a = l .before .before .before .before .before in
-    (omega (arith, l .before .intervals .ensures, few-intervals _ _ (a .pre .plan .opens)), omega (arith, l .before .intervals .ensures, a .pre .room, l .loop .inv .1 .size))
+    let a = l .before .before .before .before .before .before in
+    (omega (arith, l .before .before .intervals .ensures, few-intervals _ _ (a .pre .plan .opens)), omega (arith, l .before .before .intervals .ensures, a .pre .room, l .loop .inv .1 .size))
 
 with-interval-requires : tie.Need-with-interval-requires Inv-loop μ-loop
 unfolding plain
@@ -82,8 +85,8 @@ with-interval-requires c κs =
     let t = n .before .before in
     let x = t .before in
     let l = x .before .before in
-    let a = l .before .before .before .before .before in
-    let b : l .loop .place < 576 = omega (arith, l .before .intervals .ensures, few-intervals _ _ (a .pre .plan .opens)) in
+    let a = l .before .before .before .before .before .before in
+    let b : l .loop .place < 576 = omega (arith, l .before .before .intervals .ensures, few-intervals _ _ (a .pre .plan .opens)) in
     let g = l .loop .inv .1 .sums .small in
     let m = x .interval-at .ensures .does .limits in
     record { distortion = omega arith; source = omega arith; channel = omega arith; unused = omega arith }
@@ -102,11 +105,11 @@ loop-again c =
     let t = n .before .before in
     let x = t .before in
     let l = x .before .before in
-    let a = l .before .before .before .before .before in
-    let o = sym (outcome-is-job _ _ _ (a .pre .plan .opens) _ _ _ (l .loop .at) (x .interval-at .ensures)) ∙ sym (t .step .ensures) ∙ ap outcome-is (n .next .given .1) in (
+    let a = l .before .before .before .before .before .before in
+    let o = sym (outcome-is-job _ _ _ (a .pre .plan .opens) _ (l .before .of .ensures) _ _ _ (l .loop .at) (x .interval-at .ensures)) ∙ sym (t .step .ensures) ∙ ap outcome-is (n .next .given .1) in (
       omega arith,
       rw (put .put-levels .ensures)
-          (going-on _ _ _ _ (l .loop .place) (l .loop .at) (l .loop .sum) _ (l .loop .inv .1) (omega (arith, l .before .intervals .ensures, intervals-are _ _ (a .pre .plan .opens))) _ (buckets-are _ _ (a .pre .plan .opens)) _ _ _ o (x .interval-at .ensures) (c .with-interval .ensures) (drain-most _ _ (a .pre .plan .opens)) (omega (arith, l .before .intervals .ensures, a .pre .room))),
+          (going-on _ _ _ _ (l .loop .place) (l .loop .at) (l .loop .sum) _ (l .loop .inv .1) (omega (arith, l .before .before .intervals .ensures, intervals-are _ _ (a .pre .plan .opens))) _ (buckets-are _ _ (a .pre .plan .opens)) _ _ _ o (x .interval-at .ensures) (c .with-interval .ensures) (drain-most _ _ (a .pre .plan .opens)) (omega (arith, l .before .before .intervals .ensures, a .pre .room))),
     )
 
 same-length-2 : tie.Need-same-length-2 Inv-loop μ-loop
@@ -116,8 +119,8 @@ returns-2 : tie.Need-returns-2 Inv-loop μ-loop
 unfolding plain ended answered
 returns-2 c =
     let l = c .before in
-    let a = l .before .before .before .before .before in
-    going-end _ _ _ _ _ (buckets-are _ _ (a .pre .plan .opens)) (l .loop .place) (l .loop .at) (l .loop .sum) _ (l .loop .inv .1) (omega (arith, l .before .intervals .ensures, intervals-are _ _ (a .pre .plan .opens)))
+    let a = l .before .before .before .before .before .before in
+    going-end _ _ _ _ _ (buckets-are _ _ (a .pre .plan .opens)) (l .loop .place) (l .loop .at) (l .loop .sum) _ (l .loop .inv .1) (omega (arith, l .before .before .intervals .ensures, intervals-are _ _ (a .pre .plan .opens)))
 
 pub play-spec : {M : Type 1} → statement M
 play-spec =
@@ -126,6 +129,7 @@ play-spec =
     Inv-loop
     μ-loop
     intervals-requires
+    of-requires
     loop-holds
     interval-at-requires
     step-requires

@@ -1,7 +1,6 @@
 use Rattle.replay.proofs.Steps.{outcome-decoder, outcome-bucket, outcome-pin, outcome-reaches}
 use Rattle.replay.specs.Answers.{violation, decoded, drained, levels-of, outcome-is}
 use Rattle.model.specs.Step.{Drained}
-use Rattle.job.specs.Answers.{plain}
 use borrow.Author.Tests.{not-true, not-false}
 use mathlib.Core.Path.{sym, _∙_, ap}
 use borrow.Author.Needs.{needs}
@@ -24,7 +23,7 @@ cast-if1 : tie.Need-cast-if1
 cast-if1 c = search needs
 
 returns : tie.Need-returns
-unfolding outcome-is decoded drained violation plain
+unfolding outcome-is decoded drained violation
 returns c =
     let b = c .before .before in
     let d = b .before .before in
@@ -35,7 +34,7 @@ pin-holds-requires : tie.Need-pin-holds-requires
 pin-holds-requires c κs = search needs
 
 returns-2 : tie.Need-returns-2
-unfolding outcome-is decoded drained violation plain
+unfolding outcome-is decoded drained violation
 returns-2 c =
     let e = c .before .before in
     let b = e .before .before in
@@ -47,14 +46,14 @@ cast-t15 : tie.Need-cast-t15
 cast-t15 c = search needs
 
 returns-3 : tie.Need-returns-3
-unfolding outcome-is decoded plain
+unfolding outcome-is decoded
 returns-3 c =
     let v = c .before in
     let s = v .before .before .decoder-step in
     outcome-decoder _ _ _ _ _ _ _ _ (sym (ap decoded (v .v .given .1)) ∙ s .ensures)
 
 returns-4 : tie.Need-returns-4
-unfolding outcome-is levels-of decoded drained plain
+unfolding outcome-is levels-of decoded drained
 returns-4 c =
     let e = c .before .before in
     let b = e .before .before in

@@ -1,0 +1,76 @@
+-- What a size offers to a block in the first pass, and what a choice does to the prices.
+-- Assumes nothing.
+use Prim.Native.Nat.{ℕ, _+_, _-_, _*_, _<_, _≤_, min}
+use mathlib.Core.Path.{_≡_, refl, _∙_, ap}
+use mathlib.Core.Bool.{Bool, true, false}
+use mathlib.Core.List.{List}
+use native.Mathlib.Decide.{decLt, ℕ-discrete}
+use native.Mathlib.Omega.{arith}
+use borrow.Author.Tests.{lt-ltb, le-ltb, eq-eqb, ne-eqb}
+use lib.Dec.{ltb, eqb}
+use lib.ListN.{length, getD, take, drop, set, length-set}
+use lib.Seq.{getD-set-same, getD-set-other}
+use Rattle.model.specs.If.{if_then_else_}
+use Rattle.model.specs.Table.{mark, bound}
+use Rattle.layer.specs.Rule.{charged, row-offer}
+use Rattle.layer.specs.Answers.{coding-if, price-open, price-at}
+use Rattle.layer.specs.Blocks.{Lessened, Lowered}
+use Rattle.layer.proofs.Blocks.{part-at, part-size}
+
+module _ (_⊕_ : ℕ → ℕ → ℕ) where
+  -- a size with no price
+  pub barred-lowered : (count width start : ℕ) (next block : List ℕ) (size price : ℕ) → bound < price → Lowered count (λ i. row-offer _⊕_ width next (start + i) (price-open size price)) block block
+  unfolding price-open row-offer if_then_else_
+  barred-lowered count width start next block size price e = record { size = refl; each = λ i h k. rw (lt-ltb bound price e) (omega arith) }
+
+  -- a size with a price: the words so many rows before those of the block
+  module _ (count width start : ℕ) (next : List ℕ) (size price : ℕ) (room : start + count ≤ length next) (fits : price ≤ bound) where
+    abbrev back : ℕ
+    back = size * width
+
+    abbrev read : List ℕ
+    read = take ((start - back) + (count - (back - start)) - (start - back)) (drop (start - back) next)
+
+    read-size : length read ≡ count - (back - start)
+    read-size = part-size (start - back) (count - (back - start)) next (omega arith)
+
+    choice-lowered : (old new : List ℕ) → Lessened (back - start) (length read) (λ i. charged _⊕_ price (getD read i 0)) old new → Lowered count (λ i. row-offer _⊕_ width next (start + i) (price-open size price)) old new
+    unfolding price-open row-offer if_then_else_
+    choice-lowered old new a =
+        record { size = a .size; each = λ i h k. rw (le-ltb bound price fits) (go i h k (decLt (start + i) back)) }
+      where
+        go : (i : ℕ) → i < count → getD old i 0 ≤ mark → Dec (start + i < back) → getD new i 0 ≡ min (getD old i 0) (if ltb (start + i) back then mark else charged _⊕_ price (getD next (start + i - back) 0))
+        go i h k (yes b) = rw (lt-ltb (start + i) back b) (a .before i (omega arith) ∙ omega arith)
+        go i h k (no b) =
+            let skip : ℕ = back - start in
+            let at : skip + (i - skip) ≡ i = omega arith in
+            let from : (start - back) + (i - skip) ≡ start + i - back = omega arith in
+            let n : i - skip < count - skip = omega arith in
+            let q = a .here (i - skip) (omega (arith, read-size)) in
+            let w = part-at (start - back) (count - skip) next (i - skip) n in
+            rw (le-ltb (start + i) back (omega arith)) (rw (at, w, from) at q ∙ omega arith)
+
+    -- with what the code computed
+    pub size-made : (old new : List ℕ) (skip from n : ℕ) → skip ≡ back - start → from ≡ start - back → n ≡ count - skip → Lessened skip (length (take (from + n - from) (drop from next))) (λ i. charged _⊕_ price (getD (take (from + n - from) (drop from next)) i 0)) old new → Lowered count (λ i. row-offer _⊕_ width next (start + i) (price-open size price)) old new
+    size-made old new skip from n p q r a =
+        let m : n ≡ count - (back - start) = r ∙ ap (λ (k : ℕ). count - k) p in
+        choice-lowered old new (rw (m, p, q) at a)
+
+-- a choice that a pin rules out, or that is too large for any decoder, leaves the prices
+pub closed-priced : (prices : List ℕ) (free : Bool) (size distortion : ℕ) → free ≡ false → Lowered 256 (λ r. price-at r (coding-if free size distortion)) prices prices
+unfolding coding-if price-at if_then_else_
+closed-priced prices free size distortion e = record { size = refl; each = λ r h k. rw e (omega arith) }
+
+pub large-priced : (prices : List ℕ) (free : Bool) (size distortion : ℕ) → free ≡ true → 256 ≤ size → Lowered 256 (λ r. price-at r (coding-if free size distortion)) prices prices
+unfolding coding-if price-at if_then_else_
+large-priced prices free size distortion e m = record { size = refl; each = λ r h k. rw (e, ne-eqb size r (λ q. omega arith)) (omega arith) }
+
+-- any other lessens the price of its size
+pub open-priced : (prices : List ℕ) (free : Bool) (size distortion x : ℕ) → free ≡ true → size < length prices → x ≡ min distortion (getD prices size 0) → Lowered 256 (λ r. price-at r (coding-if free size distortion)) prices (set prices size x)
+unfolding coding-if price-at if_then_else_
+open-priced prices free size distortion x e m q =
+    record { size = length-set prices size x; each = λ r h k. rw e (go r k (ℕ-discrete size r)) }
+  where
+    go : (r : ℕ) → getD prices r 0 ≤ mark → Dec (size ≡ r) → getD (set prices size x) r 0 ≡ min (getD prices r 0) (if eqb size r then distortion else mark)
+    go r k (yes b) = rw (← b, eq-eqb size size refl) (getD-set-same prices size x 0 m ∙ q ∙ omega arith)
+    go r k (no b) = rw (ne-eqb size r b) (getD-set-other prices size r x 0 (λ t. omega arith) ∙ omega arith)

@@ -1,0 +1,9 @@
+-- Laws that belong to no one function.
+pub mod Blocks
+pub mod Sizes
+pub mod Choices
+pub mod Rates
+pub mod Rows
+pub mod Passes
+pub mod Neutral
+pub mod Prices

@@ -1,0 +1,96 @@
+-- A neutral bucket in front of a line's buckets changes nothing: the words of a layer, the places of states, an interval's outcome and the layer from the next are those of the line without it.
+-- Assumes nothing.
+use Prim.Native.Nat.{ℕ, suc, _+_, _-_, _%_, _<_, _≤_}
+use mathlib.Core.Path.{_≡_, refl, _∙_, ap}
+use mathlib.Core.Bool.{Bool, true, false}
+use mathlib.Core.Option.{Option, none, some, Option·map}
+use mathlib.Core.List.{List, _∷_, zipWith}
+use native.Mathlib.Nat.{one-mul, div-eq-of-lt, mod-eq-of-lt, mod-lt}
+use native.Mathlib.Omega.{arith}
+use lib.ListN.{length, getD}
+use lib.IntN.{pos, natAbs, _+ℤ_, _-ℤ_}
+use lib.Signed.{ltZ, nonNeg}
+use Rattle.trellis.specs.Table.{fare}
+use Rattle.trellis.proofs.Congruence.{lowest-cong}
+use Rattle.model.specs.If.{if_then_else_}
+use Rattle.model.specs.Job.{Line, Coding, Levels}
+use Rattle.model.specs.Admissible.{breaks, holds, verify, decoder-overflow, decoder-underflow, pin-not-held}
+use Rattle.model.specs.Step.{Outcome, violates, reaches, decoder-step, bucket-step, poured, overfull, pin-held, or-overflow, after-decoder, outcome-of}
+use Rattle.model.specs.Best.{late, pairs, reached}
+use Rattle.model.specs.Table.{mark, bound, sizes, tops, flat, span, place, levelsAt, layerWords, stateAt, wordIn}
+use Rattle.model.proofs.Builds.{build-cong}
+use Rattle.model.proofs.Places.{span-positive}
+use Rattle.model.proofs.Entries.{pairs-member}
+use Rattle.planning.specs.Rule.{Allowed}
+use Rattle.layer.specs.Rule.{coding-offer, pair-offer, least-offer, layer-from}
+use Rattle.layer.specs.Neutral.{neutral, fronted, front, front-violation, front-outcome}
+
+module _ (drain : ℕ) (line : Line) where
+  pub words-same : layerWords (fronted drain line) ≡ layerWords line
+  unfolding fronted neutral tops span
+  words-same = rw (one-mul (span (sizes line)))
+
+  pub place-same : (s : Levels) → place (tops (fronted drain line)) (flat (front s)) ≡ place (tops line) (flat s)
+  unfolding fronted neutral front tops flat span place
+  place-same s = rw (one-mul (span (sizes line))) (omega arith)
+
+  pub state-same : (i : ℕ) → stateAt (fronted drain line) i ≡ front (stateAt line i)
+  unfolding fronted neutral front stateAt span levelsAt
+  state-same i =
+      let S : ℕ = span (sizes line) in
+      let h : i % S < S = mod-lt i (span-positive (sizes line)) in
+      rw (one-mul (span (sizes line)), div-eq-of-lt h, mod-eq-of-lt h) refl
+
+  pub word-same : (next : List ℕ) (s : Levels) → wordIn (fronted drain line) next (front s) ≡ wordIn line next s
+  unfolding wordIn
+  word-same next s = rw (place-same s)
+
+  module _ (c : ℕ) (h : c ≤ drain) where
+    -- the bucket stays empty
+    pub poured-same : (ls : List ℕ) → poured c (neutral drain ∷ line .buckets) (0 ∷ ls) ≡ 0 ∷ poured c (line .buckets) ls
+    unfolding poured neutral bucket-step zipWith
+    poured-same ls = let z : (0 + c) - drain ≡ 0 = omega arith in rw z
+
+    pub overfull-same : (ls : List ℕ) → overfull (neutral drain ∷ line .buckets) (0 ∷ ls) ≡ Option·map suc (overfull (line .buckets) ls)
+    unfolding overfull neutral if_then_else_
+    overfull-same ls = refl
+
+    pub outcome-same : (pinned choice : Option ℕ) (b : ℕ) (ls : List ℕ) (r : ℕ) → outcome-of (fronted drain line) pinned choice b (0 ∷ ls) c r ≡ front-outcome (outcome-of line pinned choice b ls c r)
+    unfolding outcome-of fronted decoder-step verify
+    outcome-same pinned choice b ls r =
+        rw (poured-same ls, overfull-same (poured c (line .buckets) ls))
+        (go (ltZ (pos (line .decoder)) (pos b +ℤ pos c)) (nonNeg ((pos b +ℤ pos c) -ℤ pos r)) (overfull (line .buckets) (poured c (line .buckets) ls)) (pin-held pinned choice))
+      where
+        go : (over short : Bool) (o : Option ℕ) (held : Bool) → after-decoder (if over then breaks decoder-overflow else if short then holds (natAbs ((pos b +ℤ pos c) -ℤ pos r)) else breaks decoder-underflow) (λ d. or-overflow (Option·map suc o) (if held then reaches (record { decoder = d; buckets = 0 ∷ poured c (line .buckets) ls }) else violates pin-not-held)) ≡ front-outcome (after-decoder (if over then breaks decoder-overflow else if short then holds (natAbs ((pos b +ℤ pos c) -ℤ pos r)) else breaks decoder-underflow) (λ d. or-overflow o (if held then reaches (record { decoder = d; buckets = poured c (line .buckets) ls }) else violates pin-not-held)))
+        go true short o held = unfold if_then_else_ after-decoder front-outcome front-violation in refl
+        go false false o held = unfold if_then_else_ after-decoder front-outcome front-violation in refl
+        go false true (some i) held = unfold if_then_else_ after-decoder or-overflow front-outcome front-violation in refl
+        go false true none true = unfold if_then_else_ after-decoder or-overflow front-outcome front in refl
+        go false true none false = unfold if_then_else_ after-decoder or-overflow front-outcome front-violation in refl
+
+    pub reached-same : (s : Levels) (r : ℕ) → reached (outcome-of (fronted drain line) none none (s .decoder) (0 ∷ s .buckets) c r) ≡ Option·map front (reached (outcome-of line none none (s .decoder) (s .buckets) c r))
+    reached-same s r = rw (outcome-same none none (s .decoder) (s .buckets) r) (go (outcome-of line none none (s .decoder) (s .buckets) c r))
+      where
+        go : (o : Outcome) → reached (front-outcome o) ≡ Option·map front (reached o)
+        go (violates v) = unfold reached front-outcome in refl
+        go (reaches u) = unfold reached front-outcome in refl
+
+    pub offer-same : (_⊕_ : ℕ → ℕ → ℕ) (next : List ℕ) (s : Levels) (k : Option Coding) → coding-offer _⊕_ (fronted drain line) (wordIn (fronted drain line) next) (front s) c k ≡ coding-offer _⊕_ line (wordIn line next) s c k
+    unfolding coding-offer front
+    offer-same _⊕_ next s none = refl
+    offer-same _⊕_ next s (some k) = rw (reached-same s (k .size)) (go (reached (outcome-of line none none (s .decoder) (s .buckets) c (k .size))))
+      where
+        go : (o : Option Levels) → fare mark bound _⊕_ (k .distortion) (Option·map front o) (wordIn (fronted drain line) next) ≡ fare mark bound _⊕_ (k .distortion) o (wordIn line next)
+        go none = unfold fare in refl
+        go (some u) = unfold fare in rw (word-same next u)
+
+  -- the layer from the next, where the bucket drains every rate
+  pub layer-same : ((y : ℕ) → y < length (line .rates) → getD (line .rates) y 0 ≤ drain) → (_⊕_ : ℕ → ℕ → ℕ) (n : ℕ) (allowed : Allowed) (next : List ℕ) → layer-from _⊕_ (fronted drain line) n allowed next ≡ layer-from _⊕_ line n allowed next
+  unfolding layer-from least-offer
+  layer-same h _⊕_ n allowed next =
+      rw words-same
+      (build-cong (layerWords line) _ _ (λ i k.
+      ap (λ (s : Levels). least-offer _⊕_ (fronted drain line) n allowed (wordIn (fronted drain line) next) s) (state-same i) ∙ each (stateAt line i)))
+    where
+      each : (s : Levels) → least-offer _⊕_ (fronted drain line) n allowed (wordIn (fronted drain line) next) (front s) ≡ least-offer _⊕_ line n allowed (wordIn line next) s
+      each s = unfold least-offer fronted pair-offer in lowest-cong mark _ _ (pairs late (length (line .rates)) n) (λ a k. offer-same (getD (line .rates) (a .outer) 0) (h (a .outer) (pairs-member late (length (line .rates)) n a k .0)) _⊕_ next s (allowed (a .inner)))
