@@ -1,5 +1,4 @@
 -- What a well-formed job's values keep to, index by index, and that a job which keeps to it is well formed: `Limited` and `OpensExactly`.
--- Assumes nothing.
 use Prim.Native.Nat.{ℕ, zero, suc, _+_, _-_, _≤_, _<_}
 use mathlib.Core.Path.{_≡_, sym, _∙_, ap}
 use mathlib.Core.Option.{Option, none, some}

@@ -1,5 +1,4 @@
 -- A reading and a writing that undo each other, and how such pairs are put together: records of any form, one after another, many times.
--- Assumes nothing.
 use Prim.Native.Nat.{ℕ, zero, suc, _+_, _-_, _≤_}
 use mathlib.Core.Path.{_≡_, refl, sym, ap, ap₂, _∙_}
 use mathlib.Core.List.{List, [], _∷_, _++_, append-assoc}

@@ -1,5 +1,4 @@
 -- Limits of a list that is looked at from its front: what is left to check, as a loop goes through it.
--- Assumes nothing.
 use Prim.Native.Nat.{ℕ, suc, _+_, _<_, _≤_}
 use mathlib.Core.Path.{_≡_, refl, _∙_}
 use mathlib.Core.Bool.{true, false}

@@ -1,5 +1,4 @@
 -- Bytes that hold a job with a header: what the header says of the job, and the laws of what opens.
--- Assumes nothing.
 use Prim.Native.Nat.{ℕ, _+_, _≤_}
 use mathlib.Core.Path.{_≡_, sym, _∙_, ap, ap₂}
 use mathlib.Core.List.{List, [], _∷_}

@@ -1,5 +1,4 @@
 -- Laws of readings: what one that came to its end says of its parts, over any reading and any form of record.
--- Assumes nothing.
 use Prim.Native.Nat.{ℕ, zero, suc, _+_, _-_, _≤_}
 use mathlib.Core.Path.{_≡_, refl, sym, ap, _∙_}
 use mathlib.Core.Bool.{Bool, true, false}

@@ -1,5 +1,4 @@
 -- What stands where in the bytes of a job that opens, and that it is within its limits: `LooksUp` and `WellRead`; and that it takes no more bytes than there are.
--- Assumes nothing.
 use Prim.Native.Nat.{ℕ, zero, suc, _+_, _*_, _-_, _≤_, _<_}
 use mathlib.Core.Path.{_≡_, refl, sym, ap, _∙_}
 use mathlib.Core.List.{List, [], _∷_}

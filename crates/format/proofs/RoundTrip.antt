@@ -1,5 +1,4 @@
 -- A job's bytes there and back: what `encode` writes `parse` reads, and what `parse` reads `encode` writes.
--- Assumes nothing.
 use Prim.Native.Nat.{ℕ, zero, suc, _+_, _*_, _≤_, _<_}
 use mathlib.Core.Path.{_≡_, refl, sym, ap, ap₂, _∙_}
 use mathlib.Core.List.{List, [], _∷_, _++_}

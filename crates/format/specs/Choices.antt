@@ -1,5 +1,4 @@
 -- A choice as a byte: 255 stands for none, which is no pin in a set of pins and no unit in a plan (document 01, "Pins" and "Levels, interval by interval").
--- Assumes nothing.
 use Prim.Native.Nat.{ℕ}
 use mathlib.Core.Option.{Option, none, some}
 use lib.Dec.{eqb}

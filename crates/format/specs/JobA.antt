@@ -1,5 +1,4 @@
 -- Job A of document 01: N 2, d 1, D 4, K 3, drain 2, both starting levels 0, rates 0, 2, 4, two choices. Unit 1: 4 grains distortion 10; 2 grains distortion 30. Unit 2: 5 and 12; 2 and 40.
--- Assumes nothing.
 use Prim.Native.Nat.{ℕ}
 use mathlib.Core.List.{List, [], _∷_}
 use Rattle.model.specs.Job.{Coding, Job}

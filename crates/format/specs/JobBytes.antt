@@ -1,5 +1,4 @@
 -- A job as bytes: `parse` reads one, `encode` writes one, and `WellFormed` says which can be written (document 01, "The job's bytes"). What is claimed of them stands in `Claims`.
--- Assumes nothing.
 use Prim.Native.Nat.{ℕ, zero, suc}
 use mathlib.Core.Path.{_≡_}
 use mathlib.Core.Bool.{Bool, _&&_}

@@ -1,5 +1,4 @@
 -- Limits on values, each with the refusal that it is checked by, and the first of a list that is not kept.
--- Assumes nothing.
 use Prim.Native.Nat.{ℕ, _≤_}
 use mathlib.Core.Bool.{Bool, false}
 use mathlib.Core.Option.{Option, none, some}

@@ -1,5 +1,4 @@
 -- Where the fields of a job stand, for readers that look up one of them (document 01, "The job's bytes").
--- Assumes nothing.
 use Prim.Native.Nat.{ℕ, _+_, _*_, _-_}
 use mathlib.Core.List.{List}
 use lib.Dec.{leb}

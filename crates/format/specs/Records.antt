@@ -1,5 +1,4 @@
 -- The record that is due: the tests of document 01's table for "each record" and its fields, in their order.
--- Assumes nothing.
 use Prim.Native.Nat.{ℕ, _+_}
 use mathlib.Core.List.{List, [], _∷_, _++_}
 use lib.Dec.{ltb}

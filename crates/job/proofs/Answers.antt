@@ -1,5 +1,4 @@
 -- What an answer of `read`, or of a call that answers like it, says of what was read.
--- Assumes nothing.
 use Prim.Native.Nat.{ℕ}
 use mathlib.Core.Path.{_≡_, refl, sym, _∙_, ap}
 use native.Mathlib.Omega.{arith}

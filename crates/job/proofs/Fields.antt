@@ -1,5 +1,4 @@
 -- Fields as the code reads them: one that may lie past the end, the two of a coding, the nine of a header.
--- Assumes nothing.
 use Prim.Native.Nat.{ℕ, _+_, _*_, _<_}
 use mathlib.Core.Path.{_≡_}
 use mathlib.Core.List.{List}

@@ -1,5 +1,4 @@
 -- The fields of a record's body as the lists of rates and codings that a loop goes through.
--- Assumes nothing.
 use Prim.Native.Nat.{ℕ, _+_, _*_, _<_}
 use mathlib.Core.Path.{_≡_, sym, _∙_}
 use mathlib.Core.List.{List}

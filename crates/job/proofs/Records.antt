@@ -1,5 +1,4 @@
 -- Laws of the record that is due, over its form: its head, its shape and its fields, from the verdicts on them.
--- Assumes nothing.
 use Prim.Native.Nat.{ℕ, _+_, _-_, _≤_, _<_}
 use mathlib.Core.Path.{_≡_, refl, sym, ap, _∙_}
 use mathlib.Core.Bool.{Bool, true, false}

@@ -1,5 +1,4 @@
 -- A verdict against a list of limits, and one test for two limits.
--- Assumes nothing.
 use Prim.Native.Nat.{ℕ}
 use mathlib.Core.Path.{_≡_, refl, sym}
 use mathlib.Core.Bool.{true, false}

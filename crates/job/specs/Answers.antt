@@ -1,5 +1,4 @@
 -- What the reader's structs and answers mean in the terms of the crates below, case by case.
--- Assumes nothing.
 use Prim.Native.Nat.{ℕ, _≤_}
 use mathlib.Core.Option.{Option, none, some}
 use mathlib.Core.List.{List}

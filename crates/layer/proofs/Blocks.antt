@@ -1,5 +1,4 @@
 -- Blocks of words: lessened word after word, then by one size or one rate after another, and written into the layer.
--- Assumes nothing.
 use Prim.Native.Nat.{ℕ, _+_, _-_, _*_, _<_, _≤_, min}
 use mathlib.Core.Path.{_≡_, refl, sym, _∙_, ap}
 use mathlib.Core.List.{List, _++_}

@@ -1,5 +1,4 @@
 -- What a size offers to a block in the first pass, and what a choice does to the prices.
--- Assumes nothing.
 use Prim.Native.Nat.{ℕ, _+_, _-_, _*_, _<_, _≤_, min}
 use mathlib.Core.Path.{_≡_, refl, _∙_, ap}
 use mathlib.Core.Bool.{Bool, true, false}
@@ -12,7 +11,7 @@ use lib.ListN.{length, getD, take, drop, set, length-set}
 use lib.Seq.{getD-set-same, getD-set-other}
 use Rattle.model.specs.If.{if_then_else_}
 use Rattle.model.specs.Table.{mark, bound}
-use Rattle.layer.specs.Rule.{charged, row-offer}
+use Rattle.planning.specs.Passes.{charged, row-offer}
 use Rattle.layer.specs.Answers.{coding-if, price-open, price-at}
 use Rattle.layer.specs.Blocks.{Lessened, Lowered}
 use Rattle.layer.proofs.Blocks.{part-at, part-size}

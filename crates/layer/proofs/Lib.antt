@@ -5,5 +5,4 @@ pub mod Choices
 pub mod Rates
 pub mod Rows
 pub mod Passes
-pub mod Neutral
 pub mod Prices

@@ -1,5 +1,4 @@
--- The least distortion of each size stands for all the choices of an interval: `prices-stand`. With the sum, and a neutral bucket in front, the layer is that of `planning`: `planning-layer`.
--- Assumes nothing.
+-- The least distortion of each size stands for all the choices of an interval: `prices-stand`. With a neutral bucket in front too: `layer-stands`.
 use Prim.Native.Nat.{ℕ, zero, suc, _+_, _-_, _*_, _<_, _≤_, min}
 use mathlib.Core.Path.{_≡_, refl, sym, _∙_, ap}
 use mathlib.Core.Bool.{Bool, true, false}
@@ -16,18 +15,15 @@ use Rattle.model.specs.If.{if_then_else_}
 use Rattle.model.specs.Job as model
 use Rattle.model.specs.Table.{mark, bound, sizes, span, tops, layerWords}
 use Rattle.model.proofs.Builds.{build-cong}
-use Rattle.planning.specs.Rule.{Allowed}
-use Rattle.planning.specs.Rule as planning
-use Rattle.planning.specs.Passes.{least-below, sent-from}
-use Rattle.planning.proofs.Passes.{least-marked}
+use Rattle.planning.specs.Rule.{Allowed, layer-from}
+use Rattle.planning.specs.Passes.{least-below, sent-from, decoded-from, charged, row-offer}
+use Rattle.planning.proofs.Passes.{least-marked, two-passes, decoded-rows}
 use Rattle.layer.specs.declared.Aim.{Aim}
 use Rattle.layer.specs.declared.Aim.the-variants as aim
-use Rattle.layer.specs.Rule.{coding-offer, pair-offer, least-offer, layer-from, decoded-from, charged, row-offer}
 use Rattle.layer.specs.Answers.{combine, price-open, priced, price-at}
 use Rattle.layer.specs.Blocks.{LeastOf}
-use Rattle.layer.specs.Neutral.{fronted}
-use Rattle.layer.proofs.Passes.{two-passes, decoded-rows}
-use Rattle.layer.proofs.Neutral.{layer-same}
+use Rattle.model.specs.Neutral.{fronted}
+use Rattle.planning.proofs.Neutral.{layer-same}
 
 -- the least of some numbers is at most each, at least what all are, and one of them if it is less than the mark
 least-le : (n : ℕ) (f : ℕ → ℕ) (x : ℕ) → x < n → least-below n f ≤ f x
@@ -153,15 +149,8 @@ unfolding combine
 combine-mono aim.Total a b c h = omega arith
 combine-mono aim.Greatest a b c h = omega arith
 
--- with the sum, the layer is that of `planning`
-pub planning-same : (line : model.Line) (n : ℕ) (allowed : Allowed) (next : List ℕ) → layer-from (combine aim.Total) line n allowed next ≡ planning.layer-from line n allowed next
-unfolding layer-from least-offer pair-offer coding-offer combine planning.layer-from planning.least-offer planning.pair-offer planning.coding-offer
-planning-same line n allowed next =
-    build-cong (layerWords line) _ _ (λ i h. refl)
-
 -- a line without the neutral bucket, and the choices of an interval
-pub planning-layer : (drain : ℕ) (line : model.Line) (n : ℕ) (allowed : Allowed) (prices next : List ℕ) → ((y : ℕ) → y < length (line .rates) → getD (line .rates) y 0 ≤ drain) → line .decoder ≤ 255 → LeastOf 256 n (λ r x. price-at r (allowed x)) prices → ((x : ℕ) (k : model.Coding) → x < n → allowed x ≡ some k → k .distortion ≤ bound) → layer-from (combine aim.Total) (fronted drain line) 256 (priced prices) next ≡ planning.layer-from line n allowed next
-planning-layer drain line n allowed prices next h top stands small =
-    layer-same drain line h (combine aim.Total) 256 (priced prices) next
-    ∙ prices-stand (combine aim.Total) (combine-mono aim.Total) line n allowed prices next top stands small
-    ∙ planning-same line n allowed next
+pub layer-stands : (x : Aim) (drain : ℕ) (line : model.Line) (n : ℕ) (allowed : Allowed) (prices next : List ℕ) → ((y : ℕ) → y < length (line .rates) → getD (line .rates) y 0 ≤ drain) → line .decoder ≤ 255 → LeastOf 256 n (λ r x. price-at r (allowed x)) prices → ((x : ℕ) (k : model.Coding) → x < n → allowed x ≡ some k → k .distortion ≤ bound) → layer-from (combine x) (fronted drain line) 256 (priced prices) next ≡ layer-from (combine x) line n allowed next
+layer-stands x drain line n allowed prices next h top stands small =
+    layer-same drain line h (combine x) 256 (priced prices) next
+    ∙ prices-stand (combine x) (combine-mono x) line n allowed prices next top stands small

@@ -1,5 +1,4 @@
 -- What a rate offers to a block in the second pass: the shift of the inner bucket's levels, and the block that the outer bucket's level leads to.
--- Assumes nothing.
 use Prim.Native.Nat.{ℕ, _+_, _-_, _*_, _<_, _≤_, min}
 use mathlib.Core.Path.{_≡_, refl, _∙_, ap}
 use mathlib.Core.List.{List}

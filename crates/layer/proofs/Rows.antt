@@ -1,5 +1,4 @@
 -- A decoder level of a layer in the second pass: its blocks are made in place, from the last to the first, and are what the rates offer in the terms of levels.
--- Assumes nothing.
 use Prim.Native.Nat.{ℕ, zero, suc, _+_, _-_, _*_, _/_, _%_, _<_, _≤_}
 use mathlib.Core.Path.{_≡_, refl, sym, _∙_, ap}
 use mathlib.Core.Bool.{Bool, true, false}

@@ -1,5 +1,4 @@
 -- What the structs of this crate mean in the terms of `model`, and what its functions ask.
--- Assumes nothing.
 use Prim.Native.Nat.{ℕ, _+_, _≤_, max}
 use mathlib.Core.Path.{_≡_}
 use mathlib.Core.Bool.{Bool}
@@ -18,8 +17,8 @@ use Rattle.layer.specs.declared.Line.{Line}
 
 -- how a distortion and what follows it combine
 unfoldable pub combine : Aim → ℕ → ℕ → ℕ
-combine aim.Total a b = a + b
-combine aim.Greatest a b = max a b
+combine aim.Total = _+_
+combine aim.Greatest = max
 
 unfoldable pub bucket-is : Bucket → model.Bucket
 bucket-is k = record { size = k .size; drain = k .drain }

@@ -6,8 +6,8 @@ ghost use mathlib.Core.List.{_++_};
 ghost use Prim.Native.Nat.{_+_, _-_, _*_, _<_, _≤_, min, max};
 ghost use lib.ListN.{length, getD, take, drop};
 ghost use Rattle.model.specs.Table.{mark, bound, sizes, span, layerWords, stateAt, wordIn};
-ghost use Rattle.planning.specs.Passes.{least-below, arrived, word-if};
-ghost use Rattle.layer.specs.Rule.{charged, row-offer, layer-from};
+ghost use Rattle.planning.specs.Passes.{least-below, arrived, word-if, charged, row-offer};
+ghost use Rattle.planning.specs.Rule.{layer-from};
 ghost use Rattle.layer.specs.Answers.{combine, line-is, coding-if, price-open, priced, no-prices, price-at, LineFits};
 ghost use Rattle.layer.specs.Blocks.{Lessened, Lowered, LeastOf, Made, BlocksMade, level-read, rate-read};
 

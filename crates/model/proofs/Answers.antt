@@ -1,5 +1,4 @@
 -- A refusal is no other answer, and an answer has one number or value.
--- Assumes nothing.
 use Prim.Native.Nat.{ℕ}
 use mathlib.Core.Path.{_≡_}
 use native.Mathlib.Omega.{arith}

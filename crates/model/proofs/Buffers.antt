@@ -1,5 +1,4 @@
 -- The decoder's level is the effective buffer size less what the encoder holds: `EffectiveBuffers`. One size from the one before it: `RunningBuffers`.
--- Assumes nothing.
 use Prim.Native.Nat.{ℕ, zero, suc, _+_, _≤_}
 use mathlib.Core.Path.{_≡_, refl, sym, _∙_, ap}
 use mathlib.Core.List.{List}

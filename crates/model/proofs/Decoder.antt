@@ -1,5 +1,4 @@
 -- What the decoder may do in an interval, in inequalities: with signs for any plan, in natural numbers for a step.
--- Assumes nothing.
 use Prim.Native.Nat.{ℕ, _+_, _-_, _<_, _≤_}
 use mathlib.Core.Path.{_≡_, refl, sym, _∙_}
 use mathlib.Core.Bool.{Bool, true, false}

@@ -1,5 +1,4 @@
 -- Demand 2 of document 01: replay's levels are those of the equations, and it stops at the first violation.
--- Assumes nothing.
 use Prim.Native.Nat.{ℕ, zero, suc, _+_}
 use mathlib.Core.Path.{_≡_, refl, sym, ap}
 use mathlib.Core.Logic.{_↔_}

@@ -1,5 +1,4 @@
 -- The drain of a bucket, used and unused: `BucketSteps`, `DrainBalance`, `ReplayBalance`.
--- Assumes nothing.
 use Prim.Native.Nat.{ℕ, zero, suc, _+_, _*_, _<_}
 use mathlib.Core.Path.{_≡_, refl}
 use mathlib.Core.Logic.{_⊎_, inl, inr}

@@ -1,5 +1,4 @@
 -- The entries of an interval: those that fit it, each of them, and in tie order.
--- Assumes nothing.
 use Prim.Native.Nat.{ℕ, _<_}
 use mathlib.Core.Path.{_≡_, refl}
 use mathlib.Core.Logic.{_⊎_, inl, inr}

@@ -1,5 +1,4 @@
 -- Job A of document 01 and its neighbours: checks of the definitions.
--- Assumes nothing.
 use Prim.Native.Nat.{ℕ}
 use mathlib.Core.Path.{_≡_, refl}
 use mathlib.Core.Option.{none, some}

@@ -1,5 +1,4 @@
 -- A table whose layers follow the rule, place by place, follows it state by state.
--- Assumes nothing.
 use Prim.Native.Nat.{ℕ, suc, _+_, _*_}
 use mathlib.Core.Path.{_≡_, sym, _∙_, ap}
 use mathlib.Core.List.{List}

@@ -1,5 +1,4 @@
 -- Laws of a list that is lent: what stands where, and what a refusal leaves.
--- Assumes nothing.
 use Prim.Native.Nat.{ℕ, _+_, _<_, _≤_}
 use mathlib.Core.Path.{_≡_, refl, ap, _∙_}
 use mathlib.Core.Option.{Option, none, some}

@@ -1,5 +1,4 @@
 -- The equations from one interval on: what an interval of a plan ends with is what it ends with in the rest of the plan, from the levels that the first entry leads to.
--- Assumes nothing.
 use Prim.Native.Nat.{ℕ, zero, suc, _+_, _-_}
 use mathlib.Core.Path.{_≡_, refl, sym}
 use mathlib.Core.List.{List, [], _∷_, zipWith}

@@ -25,4 +25,5 @@ pub mod Layers
 pub mod Tables
 pub mod ReadOff
 pub mod Lines
+pub mod Neutral
 pub mod Examples

@@ -1,5 +1,4 @@
 -- The order of entries is strict, so that a set of plans has at most one best: `OneBest`.
--- Assumes nothing.
 use Prim.Native.Nat.{ℕ}
 use mathlib.Core.Path.{_≡_, sym}
 use mathlib.Core.Logic.{inl, inr}

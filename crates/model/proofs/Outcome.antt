@@ -1,5 +1,4 @@
 -- An interval's outcome, from natural levels, is what the limits ask for.
--- Assumes nothing.
 use Prim.Native.Nat.{ℕ}
 use mathlib.Core.Path.{_≡_, refl}
 use mathlib.Core.Option.{Option}

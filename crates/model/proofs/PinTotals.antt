@@ -1,5 +1,4 @@
 -- The totals of a map of pins: what a line that is filled or emptied changes, which codings they read, and how large they are.
--- Assumes nothing.
 use Prim.Native.Nat.{ℕ, zero, suc, _*_, _<_, _≤_}
 use mathlib.Core.Path.{_≡_, refl, sym, _∙_, ap}
 use mathlib.Core.Option.{Option, none, some}

@@ -1,5 +1,4 @@
 -- The value function and the best walk are what planning must answer: `Planning`.
--- Assumes nothing.
 use Prim.Native.Nat.{ℕ, _+_, _-_, _≤_}
 use mathlib.Core.Path.{_≡_, sym, _∙_}
 use mathlib.Core.Option.{some}

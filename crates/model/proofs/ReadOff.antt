@@ -1,5 +1,4 @@
 -- The best plan is read off the table, entry after entry: `ReadOff`.
--- Assumes nothing.
 use Prim.Native.Nat.{ℕ, suc, _+_, _-_, _<_}
 use mathlib.Core.Path.{_≡_, sym, _∙_, ap}
 use mathlib.Core.Option.{some}

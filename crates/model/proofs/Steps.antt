@@ -1,5 +1,4 @@
 -- A step without a violation leads from a state of a layer to a state of the next: `layer-closed`.
--- Assumes nothing.
 use Prim.Native.Nat.{ℕ, suc, _≤_}
 use mathlib.Core.Path.{_≡_, refl, ap}
 use mathlib.Core.Option.{Option, some}

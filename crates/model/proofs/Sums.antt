@@ -1,5 +1,4 @@
 -- Sums over the intervals of a plan: of its first entry, and of the rest from the levels that the first entry leads to.
--- Assumes nothing.
 use Prim.Native.Nat.{ℕ, zero, suc, _+_}
 use mathlib.Core.Path.{_≡_, refl, _∙_}
 use mathlib.Core.List.{List, [], _∷_, zipWith}

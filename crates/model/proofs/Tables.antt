@@ -1,5 +1,4 @@
 -- The table law: a list whose words follow the rule from layer to layer holds the least distortions, for any number of buckets.
--- Assumes nothing.
 use Prim.Native.Nat.{ℕ, suc, _+_, _-_, _*_, _<_, _≤_}
 use mathlib.Core.Option.{Option}
 use mathlib.Core.List.{[]}

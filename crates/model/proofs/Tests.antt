@@ -1,5 +1,4 @@
 -- What the definitions' tests decide: a branch, a difference of natural numbers, the first bucket over its size, a pin.
--- Assumes nothing.
 use Prim.Native.Nat.{ℕ, zero, suc, _-_, _<_, _≤_}
 use mathlib.Core.Path.{_≡_, refl, ap}
 use mathlib.Core.Bool.{Bool, true, false}

@@ -1,5 +1,4 @@
 -- Which unit an interval decodes, and which pin bears on it: `Units` and `PinnedUnits`.
--- Assumes nothing.
 use Prim.Native.Nat.{ℕ, zero, suc, _+_, _-_, _<_, _≤_}
 use mathlib.Core.Path.{_≡_, refl, ap}
 use mathlib.Core.Option.{Option, none, some}

@@ -1,5 +1,4 @@
 -- A sound interval violates nothing, and one that is not sound has one first violation.
--- Assumes nothing.
 use Prim.Native.Nat.{ℕ, suc, _<_}
 use mathlib.Core.Path.{_≡_, refl, sym, _∙_, ap}
 use mathlib.Core.List.{List}

@@ -1,5 +1,4 @@
 -- Replaying a plan and walking the trellis are one: a walk is a well-shaped plan whose replay is clean, and its totals are the distortions; the order of the entries does not change the values.
--- Assumes nothing.
 use Prim.Native.Nat.{ℕ, suc, _+_}
 use mathlib.Core.Path.{_≡_, refl, ap}
 use mathlib.Core.Option.{some, Option·some-injective, Option·none-ne-some}

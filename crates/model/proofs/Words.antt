@@ -1,5 +1,4 @@
 -- The table's words and their places in the form in which document 01 writes them: `WordsOfOne`.
--- Assumes nothing.
 use Prim.Native.Nat.{ℕ, _+_, _*_}
 use mathlib.Core.Path.{_≡_, sym, _∙_, ap}
 use mathlib.Core.List.{List, [], _∷_}

@@ -1,5 +1,4 @@
 -- What is asked of a plan: the limits kept by the levels of the equations and the pins held, and which limit is violated first. Nothing here knows replay or search.
--- Assumes nothing.
 use Prim.Native.Nat.{ℕ, suc, _+_, _<_, _≤_}
 use mathlib.Core.Path.{_≡_}
 use mathlib.Core.Option.{Option}

@@ -1,5 +1,4 @@
 -- Every number below n passes a test, tried one after another as a loop tries them.
--- Assumes nothing.
 use Prim.Native.Nat.{ℕ, zero, suc}
 use mathlib.Core.Bool.{Bool, true, false}
 use Rattle.model.specs.If.{if_then_else_}

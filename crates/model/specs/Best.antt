@@ -1,5 +1,4 @@
 -- The best plan: the trellis of a job with its pins, for the theory of the crate `trellis` (document 01, "The best plan").
--- Assumes nothing.
 use Prim.Native.Nat.{ℕ, suc, _+_, _-_, _<_}
 use mathlib.Core.Path.{_≡_}
 use mathlib.Core.Logic.{_⊎_}

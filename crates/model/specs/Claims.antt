@@ -1,6 +1,5 @@
 -- What is claimed of the definitions: each claim is a type, which a theorem of proofs/ inhabits. `Admissible` knows neither replay nor search.
 -- A plan here is the entries of the intervals after interval s, from the levels `start` there; s is 0 for a whole job.
--- Assumes nothing.
 use Prim.Native.Nat.{ℕ, suc, _+_, _*_, _-_, _<_, _≤_}
 use mathlib.Core.Path.{_≡_}
 use mathlib.Core.Logic.{_↔_, _⊎_}

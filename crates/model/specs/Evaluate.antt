@@ -1,5 +1,4 @@
 -- To unfold `evaluate` is to unfold all that the definitions compute through: for a worked example.
--- Assumes nothing.
 use mathlib.Core.List.{zipWith}
 use Rattle.trellis.specs.Trellis.{computes}
 use Rattle.trellis.specs.Pairs.{row, rows}

@@ -1,7 +1,6 @@
 -- A job as values: a sequence of coded units and the line that it is sent over (document 01, "The job's bytes").
 -- Sizes, rates and levels are counted in grains, a fixed count of bits (document 01's term).
 -- Units and intervals are counted from 1, rates, choices and buckets from 0.
--- Assumes nothing.
 use Prim.Native.Nat.{ℕ, suc, _+_, _-_, _<_, _≤_}
 use mathlib.Core.Path.{_≡_}
 use mathlib.Core.Option.{Option, none, some}

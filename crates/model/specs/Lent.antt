@@ -1,5 +1,4 @@
 -- A call that fills a list which the caller lends: its answer, and the list after it.
--- Assumes nothing.
 use Prim.Native.Nat.{ℕ}
 use mathlib.Core.Path.{_≡_}
 use mathlib.Core.Option.{Option, none, some}

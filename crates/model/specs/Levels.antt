@@ -1,6 +1,5 @@
 -- The levels of a plan, by the equations of source document 004, the drain that goes unused (document 02, E3), and the effective buffer sizes of (6).
 -- A plan here is the entries of the intervals after interval s; s is 0 for a whole job, and n counts intervals from there.
--- Assumes nothing.
 use Prim.Native.Nat.{ℕ, zero, suc, _+_, _-_}
 use mathlib.Core.Option.{none}
 use mathlib.Core.List.{List, [], _∷_, _++_, zipWith}

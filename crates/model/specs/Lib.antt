@@ -11,5 +11,6 @@ pub mod Step
 pub mod Replay
 pub mod Best
 pub mod Table
+pub mod Neutral
 pub mod Claims
 pub mod Evaluate

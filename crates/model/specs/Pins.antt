@@ -1,5 +1,4 @@
 -- The pins, as the book of document 01 keeps them: a line for each unit, with a choice or empty (document 01, "Pins").
--- Assumes nothing.
 use Prim.Native.Nat.{ℕ, zero, suc, _+_, _-_}
 use mathlib.Core.Bool.{Bool, true}
 use mathlib.Core.Option.{Option, none, some}

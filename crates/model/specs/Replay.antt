@@ -1,5 +1,4 @@
 -- Replaying a plan: interval by interval, up to the first violation (document 01, "Levels, interval by interval").
--- Assumes nothing.
 use Prim.Native.Nat.{ℕ, suc}
 use mathlib.Core.List.{List, [], _∷_}
 use lib.ListN.{length}

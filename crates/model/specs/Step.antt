@@ -1,5 +1,4 @@
 -- What an interval does to the levels: the levels at its end, or the first limit that it violates, tested in order (document 01, "Levels, interval by interval"; document 02, E2).
--- Assumes nothing.
 use Prim.Native.Nat.{ℕ, suc, _+_, _-_}
 use mathlib.Core.Bool.{Bool, true, false}
 use mathlib.Core.Option.{Option, none, some, Option·map}

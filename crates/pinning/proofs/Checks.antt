@@ -1,5 +1,4 @@
 -- The test of refusal 6 holds exactly where the set matches the job: `Checks`.
--- Assumes nothing.
 use Prim.Native.Nat.{ℕ, _<_, _≤_}
 use mathlib.Core.Path.{_≡_, refl}
 use mathlib.Core.Logic.{_⊎_, inl, inr}

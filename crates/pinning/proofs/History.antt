@@ -1,5 +1,4 @@
 -- A list of pins and lifts leaves exactly what the book of document 01 holds: `History`.
--- Assumes nothing.
 use Prim.Native.Nat.{ℕ, _-_, _<_, _≤_}
 use mathlib.Core.Path.{_≡_, refl, sym, _∙_, ap}
 use mathlib.Core.Logic.{_⊎_, inl, inr}

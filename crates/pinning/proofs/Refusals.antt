@@ -1,5 +1,4 @@
 -- A pin or a lift is refused in document 01's order, and then hands back the set as it came: `InOrder` and `Refusing`.
--- Assumes nothing.
 use Prim.Native.Nat.{ℕ, _-_}
 use mathlib.Core.Path.{_≡_, refl}
 use mathlib.Core.Option.{Option, none, some, Option·none-ne-some}

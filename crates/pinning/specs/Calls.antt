@@ -1,5 +1,4 @@
 -- What opening a job, a pin and a lift answer, and the set that they hand back (document 01, "Pins" and "Where each refusal is checked").
--- Assumes nothing.
 use Prim.Native.Nat.{ℕ, _+_, _-_}
 use mathlib.Core.Option.{Option, none, some}
 use mathlib.Core.List.{List, [], _∷_}

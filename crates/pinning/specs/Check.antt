@@ -1,5 +1,4 @@
 -- The check of a set against a job, refusal 6: "header differs; a pin byte is neither 255 nor below M; one past N is not 255; a total is not the sum over the pins".
--- Assumes nothing.
 use Prim.Native.Nat.{ℕ, suc, _<_, _≤_}
 use mathlib.Core.Path.{_≡_}
 use mathlib.Core.Logic.{_⊎_}

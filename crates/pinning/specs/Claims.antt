@@ -1,5 +1,4 @@
 -- What is claimed of sets of pins: each claim is a type, which a theorem of proofs/ inhabits.
--- Assumes nothing.
 use Prim.Native.Nat.{ℕ, _<_, _≤_}
 use mathlib.Core.Path.{_≡_}
 use mathlib.Core.Logic.{_↔_}

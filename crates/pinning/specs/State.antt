@@ -1,5 +1,4 @@
 -- What a set of pins holds (document 01, "Pins", where it is called the desk).
--- Assumes nothing.
 use Prim.Native.Nat.{ℕ}
 use mathlib.Core.List.{List, map}
 use lib.ListN.{take, replicate}

@@ -1,5 +1,4 @@
 -- The sums over the lines of the job's bytes, one line more.
--- Assumes nothing.
 use Prim.Native.Nat.{ℕ, _+_, _<_}
 use mathlib.Core.Path.{_≡_, _∙_, ap}
 use mathlib.Core.List.{List}

@@ -1,5 +1,4 @@
 -- What was read of a job that opens is the job's: its line, and the choices of an interval.
--- Assumes nothing.
 use Prim.Native.Nat.{ℕ, suc, _+_, _-_, _<_, _≤_}
 use mathlib.Core.Path.{_≡_, refl, sym, _∙_, ap}
 use mathlib.Core.Bool.{Bool, false}
@@ -55,7 +54,6 @@ line-read b h k rates o e f =
         rates = most;
         rate = λ y l. rw (← getD-take (h .rates) rates y 0 l, r) (job-limits b (plain h) o .rate y (omega (arith, n)));
         size = f .size-is;
-        small = λ y k. rw r (job-limits b (plain h) o .rate y (rw r at k));
       };
     })
 

@@ -1,12 +1,12 @@
 -- A layer is filled by the crate `layer`, of a line with a neutral bucket in front, from the least distortion of each size.
--- Assumes nothing.
-use Prim.Native.Nat.{ℕ, _≤_, _<_}
+use Prim.Native.Nat.{ℕ, _+_, _≤_, _<_}
 use mathlib.Core.Path.{_≡_, refl, sym, _∙_, ap}
 use mathlib.Core.Bool.{Bool, true, false}
 use mathlib.Core.Option.{some}
 use mathlib.Core.List.{List, _++_}
 use native.Mathlib.Omega.{arith}
-use lib.ListN.{getD, take, drop}
+use lib.ListN.{length, getD, take, drop, length-take}
+use lib.Seq.{getD-take}
 use Rattle.model.specs.If.{if_then_else_}
 use Rattle.model.specs.Job as model
 use Rattle.model.specs.Table.{bound, layerWords}
@@ -16,11 +16,9 @@ use Rattle.layer.specs.declared.Line as layer-line
 use Rattle.layer.specs.declared.Aim.the-variants.{Total}
 use Rattle.layer.specs.Answers.{combine, priced, price-at}
 use Rattle.layer.specs.Answers as layer-answers
-use Rattle.layer.specs.Rule as layer-rule
 use Rattle.layer.specs.Blocks.{LeastOf}
-use Rattle.layer.specs.Neutral.{fronted}
-use Rattle.layer.proofs.Neutral.{words-same}
-use Rattle.layer.proofs.Prices.{planning-layer}
+use Rattle.model.proofs.Neutral.{words-same}
+use Rattle.layer.proofs.Prices.{layer-stands}
 use Rattle.planner.specs.declared.Line.{Line}
 use Rattle.planner.specs.declared.Choices.{Choices}
 use Rattle.planner.specs.Answers.{line-is, coding-if, allowed-is, LineFits, ChoicesFit, LayerLine}
@@ -35,13 +33,17 @@ module _ (l : Line) (r : layer-line.Line) (a : LayerLine l r) where
   pub same-words : layerWords (layer-answers.line-is r) ≡ layerWords (line-is l)
   same-words = rw (a .is) (words-same 4095 (line-is l))
 
-  pub layer-made : LineFits l → (c : Choices) → ChoicesFit c → (part new prices : List ℕ) → LeastOf 256 (c .count) (λ s x. price-at s (allowed-is c x)) prices → new ≡ layer-rule.layer-from (combine Total) (layer-answers.line-is r) 256 (priced prices) (take (layerWords (layer-answers.line-is r)) (drop (layerWords (layer-answers.line-is r)) part)) ++ drop (layerWords (layer-answers.line-is r)) part → new ≡ layer-from (line-is l) (c .count) (allowed-is c) (take (layerWords (line-is l)) (drop (layerWords (line-is l)) part)) ++ drop (layerWords (line-is l)) part
+  pub layer-made : LineFits l → (c : Choices) → ChoicesFit c → (part new prices : List ℕ) → LeastOf 256 (c .count) (λ s x. price-at s (allowed-is c x)) prices → new ≡ layer-from (combine Total) (layer-answers.line-is r) 256 (priced prices) (take (layerWords (layer-answers.line-is r)) (drop (layerWords (layer-answers.line-is r)) part)) ++ drop (layerWords (layer-answers.line-is r)) part → new ≡ layer-from _+_ (line-is l) (c .count) (allowed-is c) (take (layerWords (line-is l)) (drop (layerWords (line-is l)) part)) ++ drop (layerWords (line-is l)) part
+  unfolding combine
   layer-made f c g part new prices p e =
       e
-      ∙ rw (a .is, words-same 4095 (line-is l), planning-layer 4095 (line-is l) (c .count) (allowed-is c) prices (take (layerWords (line-is l)) (drop (layerWords (line-is l)) part)) (f .small) decoder p (λ x k h t. small x k h t)) refl
+      ∙ rw (a .is, words-same 4095 (line-is l), layer-stands Total 4095 (line-is l) (c .count) (allowed-is c) prices (take (layerWords (line-is l)) (drop (layerWords (line-is l)) part)) rates decoder p (λ x k h t. small x k h t)) refl
     where
       decoder : line-is l .decoder ≤ 255
       decoder = unfold line-is line-of in f .decoder
+
+      rates : (y : ℕ) → y < length (line-is l .rates) → getD (line-is l .rates) y 0 ≤ 4095
+      rates y k = unfold line-is line-of in (let h : y < l .count = omega (arith, length-take (l .count) (l .rates)) in rw (getD-take (l .count) (l .rates) y 0 h) (f .rate y h))
 
       small : (x : ℕ) (k : model.Coding) → x < c .count → allowed-is c x ≡ some k → k .distortion ≤ 512000000
       small x k h t = open-small (getD (c .allowed) x false) (getD (c .sizes) x 0) (getD (c .distortions) x 0) k (g .small x h) (unfold allowed-is in t)

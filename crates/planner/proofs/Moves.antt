@@ -1,5 +1,4 @@
 -- The entry that is read off the table in a place is the first of the best plan, with what it does and where it leads.
--- Assumes nothing.
 use Prim.Native.Nat.{ℕ, suc, _+_, _<_, _≤_}
 use mathlib.Core.Path.{_≡_, refl, sym, _∙_, ap}
 use mathlib.Core.Bool.{Bool, true, false}
@@ -100,13 +99,13 @@ module _ (o : Order) (b : List ℕ) (h : Header) (l : Line) (pins table : List �
 
     -- the same, in the terms of the code
     abbrev First : Pair → Type 0
-    First a = first-at (pair-offer (line-is l) (allowed-is c) (wordIn (line-is l) (layerOf (line-is l) table (suc place))) (levels-of at)) (wordIn (line-is l) (layerOf (line-is l) table place) (levels-of at)) (pairs o (length (line-is l .rates)) (c .count)) ≡ some a
+    First a = first-at (pair-offer _+_ (line-is l) (allowed-is c) (wordIn (line-is l) (layerOf (line-is l) table (suc place))) (levels-of at)) (wordIn (line-is l) (layerOf (line-is l) table place) (levels-of at)) (pairs o (length (line-is l .rates)) (c .count)) ≡ some a
 
     move-first : First (first .pick)
     unfolding on-line
     move-first =
         rw word-here
-        (first-offer-cong (line-is l) (c .count) (allowed-is c) (allowed-in J M (suc place)) (wordIn (line-is l) (layerOf (line-is l) table (suc place))) (wordIn (line-is l) (layerOf (line-is l) table (suc place))) (levels-of at) (s .inside) (ch .each) (λ u i. refl) o (s .value)
+        (first-offer-cong _+_ (line-is l) (c .count) (allowed-is c) (allowed-in J M (suc place)) (wordIn (line-is l) (layerOf (line-is l) table (suc place))) (wordIn (line-is l) (layerOf (line-is l) table (suc place))) (levels-of at) (s .inside) (ch .each) (λ u i. refl) o (s .value)
         ∙ rw (ch .count) (first .first))
 
     -- what is asked of a search for it

@@ -1,6 +1,5 @@
 -- What a choice and a pair offer, from what the interval does.
--- Assumes nothing.
-use Prim.Native.Nat.{ℕ, _<_}
+use Prim.Native.Nat.{ℕ, _+_, _<_}
 use mathlib.Core.Path.{_≡_, refl, sym, _∙_}
 use mathlib.Core.Bool.{Bool, true, false}
 use mathlib.Core.Option.{none}
@@ -26,12 +25,12 @@ use Rattle.planner.specs.declared.Line.{Line}
 use Rattle.planner.specs.Answers.{line-is, coding-if, IntervalOf, step-of}
 
 -- a pair offers what its choice does with what its rate sends
-pub pair-offers : (l : Line) (c : Allowed) (W : model.Levels → ℕ) (s : model.Levels) (rate choice : ℕ) → rate < l .count → coding-offer (line-is l) W s (getD (l .rates) rate 0) (c choice) ≡ pair-offer (line-is l) c W s (pair rate choice)
+pub pair-offers : (l : Line) (c : Allowed) (W : model.Levels → ℕ) (s : model.Levels) (rate choice : ℕ) → rate < l .count → coding-offer _+_ (line-is l) W s (getD (l .rates) rate 0) (c choice) ≡ pair-offer _+_ (line-is l) c W s (pair rate choice)
 unfolding pair-offer line-is line-of
 pair-offers l c W s rate choice h = rw (getD-take (l .count) (l .rates) rate 0 h)
 
 -- a choice that the pin rules out
-pub barred-offers : (line : model.Line) (W : model.Levels → ℕ) (s : model.Levels) (sent : ℕ) (free : Bool) (size distortion : ℕ) → free ≡ false → mark ≡ coding-offer line W s sent (coding-if free size distortion)
+pub barred-offers : (line : model.Line) (W : model.Levels → ℕ) (s : model.Levels) (sent : ℕ) (free : Bool) (size distortion : ℕ) → free ≡ false → mark ≡ coding-offer _+_ line W s sent (coding-if free size distortion)
 unfolding coding-offer coding-if if_then_else_
 barred-offers line W s sent free size distortion e = rw e
 
@@ -47,10 +46,10 @@ module _ (l : Line) (from : Levels) (sent size distortion : ℕ) (x : Interval) 
 
   -- a choice that it leaves open
   module _ (W : model.Levels → ℕ) (free : Bool) (e : free ≡ true) where
-    pub violation-offers : (v : Violation) → step-of (l .buffers) from x ≡ violates v → mark ≡ coding-offer (line-is l) W (levels-of from) sent (coding-if free size distortion)
+    pub violation-offers : (v : Violation) → step-of (l .buffers) from x ≡ violates v → mark ≡ coding-offer _+_ (line-is l) W (levels-of from) sent (coding-if free size distortion)
     unfolding coding-offer coding-if if_then_else_ fare reached
     violation-offers v h = rw (e, sym line-steps ∙ h)
 
-    pub reached-offers : (to : Levels) → step-of (l .buffers) from x ≡ reaches (levels-of to) → charged distortion (W (levels-of to)) ≡ coding-offer (line-is l) W (levels-of from) sent (coding-if free size distortion)
+    pub reached-offers : (to : Levels) → step-of (l .buffers) from x ≡ reaches (levels-of to) → charged _+_ distortion (W (levels-of to)) ≡ coding-offer _+_ (line-is l) W (levels-of from) sent (coding-if free size distortion)
     unfolding coding-offer coding-if if_then_else_ fare reached charged
     reached-offers to h = rw (e, sym line-steps ∙ h)

@@ -1,5 +1,4 @@
 -- Where the layers on both sides of an interval stand in a table, and what is read of them.
--- Assumes nothing.
 use Prim.Native.Nat.{ℕ, suc, _+_, _*_, _-_, _<_, _≤_}
 use mathlib.Core.Path.{_≡_}
 use mathlib.Core.Option.{some}
@@ -64,5 +63,5 @@ module _ (o : Order) (words : List ℕ) (l : Line) (c : Choices) (place : ℕ) (
   pub offered : Offers (next-part words place size) l c × Attained o (line-is l) (c .count) (allowed-is c) (next-part words place size) s (getD words (place * size + i) 0)
   offered = rw (part-layer, here-word) (record { line = a .line; choices = a .choices; whole = next-size }, a .attained)
 
-  pub first-found : (pairs : List Pair) (p : Pair) → first-at (pair-offer (line-is l) (allowed-is c) (wordIn (line-is l) (next-part words place size)) s) (getD words (place * size + i) 0) pairs ≡ some p → first-at (pair-offer (line-is l) (allowed-is c) (wordIn (line-is l) (layerOf (line-is l) words (suc place))) s) (wordIn (line-is l) (layerOf (line-is l) words place) s) pairs ≡ some p
+  pub first-found : (pairs : List Pair) (p : Pair) → first-at (pair-offer _+_ (line-is l) (allowed-is c) (wordIn (line-is l) (next-part words place size)) s) (getD words (place * size + i) 0) pairs ≡ some p → first-at (pair-offer _+_ (line-is l) (allowed-is c) (wordIn (line-is l) (layerOf (line-is l) words (suc place))) s) (wordIn (line-is l) (layerOf (line-is l) words place) s) pairs ≡ some p
   first-found pairs p f = rw (part-layer, here-word) at f

@@ -1,5 +1,4 @@
 -- The table while layers are made anew, the last first: one layer more, and all of them.
--- Assumes nothing.
 use Prim.Native.Nat.{ℕ, zero, suc, _+_, _-_, _*_, _<_, _≤_}
 use mathlib.Core.Path.{_≡_, refl, sym, _∙_, ap}
 use mathlib.Core.List.{List, [], _++_, append-nil}
@@ -104,14 +103,14 @@ module _ (j : Job) (m : PinMap) (last : ℕ) (w₀ : List ℕ) where
         begins : start - W ≡ (place - 1) * W
         begins = omega (arith, less-one place W (omega arith), f .at)
 
-        by-rule : layer-from line n a (take W (drop start w)) ≡ layer-from (j .line) (width j (suc (place - 1))) (allowed-in j m (suc (place - 1))) (layerOf (j .line) w (suc (place - 1)))
+        by-rule : layer-from _+_ line n a (take W (drop start w)) ≡ layer-from _+_ (j .line) (width j (suc (place - 1))) (allowed-in j m (suc (place - 1))) (layerOf (j .line) w (suc (place - 1)))
         unfolding layerOf
         by-rule =
             let b = allowed-in j m (suc (place - 1)) in
             let k : start ≡ suc (place - 1) * W = f .at ∙ ap (λ (i : ℕ). i * W) (sym one) in
-            rw e (layer-from-cong (j .line) n a b (take W (drop start w)) same)
-            ∙ ap (λ (i : ℕ). layer-from (j .line) i b (take W (drop start w))) q
-            ∙ ap (λ (i : ℕ). layer-from (j .line) (width j (suc (place - 1))) b (take W (drop i w))) k
+            rw e (layer-from-cong _+_ (j .line) n a b (take W (drop start w)) same)
+            ∙ ap (λ (i : ℕ). layer-from _+_ (j .line) i b (take W (drop start w))) q
+            ∙ ap (λ (i : ℕ). layer-from _+_ (j .line) (width j (suc (place - 1))) b (take W (drop i w))) k
 
         again : refill j m (place - 1) w ≡ refilled j m (place - 1) (last - (place - 1)) w₀
         unfolding refilled
@@ -119,17 +118,17 @@ module _ (j : Job) (m : PinMap) (last : ℕ) (w₀ : List ℕ) where
             let k : last - (place - 1) ≡ suc (last - place) = omega (arith, f .high) in
             rw k (ap (refill j m (place - 1)) (f .is ∙ ap (λ (i : ℕ). refilled j m i (last - place) w₀) (sym one)))
 
-        module _ (ys : List ℕ) (y : ys ≡ layer-from line n a (take (layerWords line) (drop (layerWords line) (take (length w - (start - size)) (drop (start - size) w)))) ++ drop (layerWords line) (take (length w - (start - size)) (drop (start - size) w))) where
+        module _ (ys : List ℕ) (y : ys ≡ layer-from _+_ line n a (take (layerWords line) (drop (layerWords line) (take (length w - (start - size)) (drop (start - size) w)))) ++ drop (layerWords line) (take (length w - (start - size)) (drop (start - size) w))) where
           made : take (start - W) w ++ ys ≡ refill j m (place - 1) w
           unfolding refill
           made =
               let g : layerWords line ≡ W = ap layerWords e in
               let k : start ≡ suc (place - 1) * W = f .at ∙ ap (λ (i : ℕ). i * W) (sym one) in
-              let filled : ys ≡ layer-from line n a (take W (drop start w)) ++ drop start w = y ∙ rw (z, g, next) in
+              let filled : ys ≡ layer-from _+_ line n a (take W (drop start w)) ++ drop start w = y ∙ rw (z, g, next) in
               ap (λ (l : List ℕ). take (start - W) w ++ l) filled
-              ∙ ap (λ (i : ℕ). take i w ++ (layer-from line n a (take W (drop start w)) ++ drop start w)) begins
+              ∙ ap (λ (i : ℕ). take i w ++ (layer-from _+_ line n a (take W (drop start w)) ++ drop start w)) begins
               ∙ ap (λ (l : List ℕ). take ((place - 1) * W) w ++ (l ++ drop start w)) by-rule
-              ∙ ap (λ (i : ℕ). take ((place - 1) * W) w ++ (layer-from (j .line) (width j (suc (place - 1))) (allowed-in j m (suc (place - 1))) (layerOf (j .line) w (suc (place - 1))) ++ drop i w)) k
+              ∙ ap (λ (i : ℕ). take ((place - 1) * W) w ++ (layer-from _+_ (j .line) (width j (suc (place - 1))) (allowed-in j m (suc (place - 1))) (layerOf (j .line) w (suc (place - 1))) ++ drop i w)) k
 
           pub filling-more : Filling first (place - 1) (start - size) (putMid (start - size) (length w - (start - size)) w ys)
           filling-more = rw z (record {

@@ -1,5 +1,4 @@
 -- What the structs and answers of this crate mean in the terms of `model` and `planning`, case by case, and what its private functions say and ask.
--- Assumes nothing.
 use Prim.Native.Nat.{ℕ, suc, _+_, _-_, _*_, _<_, _≤_}
 use mathlib.Core.Path.{_≡_}
 use mathlib.Core.Bool.{Bool, false}
@@ -35,7 +34,7 @@ use Rattle.planning.specs.Words.{layer}
 use Rattle.planning.specs.Calls as calls
 use Rattle.layer.specs.declared.Line as layer-line
 use Rattle.layer.specs.Answers as layer-answers
-use Rattle.layer.specs.Neutral.{fronted}
+use Rattle.model.specs.Neutral.{fronted}
 use Rattle.planner.specs.declared.Planned.{Planned}
 use Rattle.planner.specs.declared.Planned.the-variants as p
 use Rattle.planner.specs.declared.Line.{Line}
@@ -86,7 +85,6 @@ pub record LineFits (l : Line) : Type 0 where
   pub rates : l .count ≤ 16
   pub rate : (y : ℕ) → y < l .count → getD (l .rates) y 0 ≤ 4095
   pub size : length (l .rates) ≡ 16
-  pub small : (y : ℕ) → y < length (line-is l .rates) → getD (line-is l .rates) y 0 ≤ 4095
 
 -- the line with a bucket in front that drains every rate
 pub record LayerLine (l : Line) (r : layer-line.Line) : Type 0 where
@@ -110,7 +108,7 @@ pub record Offers (next : List ℕ) (l : Line) (c : Choices) : Type 0 where
 -- some pair attains the word
 pub record Attained (o : model-best.Order) (line : model.Line) (n : ℕ) (allowed : Allowed) (next : List ℕ) (s : model.Levels) (word : ℕ) : Type 0 where
   pub pick : Pair
-  pub first : first-at (pair-offer line allowed (wordIn line next) s) word (pairs o (length (line .rates)) n) ≡ some pick
+  pub first : first-at (pair-offer _+_ line allowed (wordIn line next) s) word (pairs o (length (line .rates)) n) ≡ some pick
 
 -- the line of the job that stands in bytes
 pub record LineOf (b : List ℕ) (l : Line) : Type 0 where

@@ -102,7 +102,7 @@ fn word_place(line: Line, at: Levels) -> usize
 // A distortion and a word of the next layer, or none where the word cannot be completed.
 fn charged(word: u32, distortion: u32) -> u32
     requires { ⌜ distortion ≤ 1000000 ⌝ }
-    ensures { λ r. ⌜ r ≡ charged distortion word ⌝ }
+    ensures { λ r. ⌜ r ≡ charged _+_ distortion word ⌝ }
 {
     if word <= LARGEST {
         distortion + word
@@ -135,7 +135,7 @@ fn offer(
     distortion: u32,
 ) -> u32
     requires { ⌜ (length (now next) ≡ layerWords (line-is line)) × (distortion ≤ 1000000) ⌝ }
-    ensures { λ r. ⌜ r ≡ coding-offer (line-is line) (wordIn (line-is line) (now (next .entry))) (levels-of from) sent (coding-if free size distortion) ⌝ }
+    ensures { λ r. ⌜ r ≡ coding-offer _+_ (line-is line) (wordIn (line-is line) (now (next .entry))) (levels-of from) sent (coding-if free size distortion) ⌝ }
 {
     if !free {
         return NONE;
@@ -191,7 +191,7 @@ fn prices_of(choices: Choices) -> [u32; 256]
 // Fills one interval's layer, which is the part's first, from the next, which follows it. Levels that are never reached from the start are filled too.
 fn fill_layer(part: &mut [u32], line: Line, choices: Choices)
     requires { ⌜ LineFits line × ChoicesFit choices × (layerWords (line-is line) + layerWords (line-is line) ≤ length (now part)) ⌝ }
-    ensures { λ _. ⌜ now (part .exit) ≡ layer-from (line-is line) (choices .count) (allowed-is choices) (take (layerWords (line-is line)) (drop (layerWords (line-is line)) (now (part .entry)))) ++ drop (layerWords (line-is line)) (now (part .entry)) ⌝ }
+    ensures { λ _. ⌜ now (part .exit) ≡ layer-from _+_ (line-is line) (choices .count) (allowed-is choices) (take (layerWords (line-is line)) (drop (layerWords (line-is line)) (now (part .entry)))) ++ drop (layerWords (line-is line)) (now (part .entry)) ⌝ }
 {
     let prices = prices_of(choices);
     layer::fill_layer(part, layer_line(line), &prices, Aim::Total);
@@ -228,7 +228,7 @@ fn first_entry(
     word: u32,
 ) -> Pick
     requires { ⌜ Offers (now next) line choices × Attained (order-is order) (line-is line) (choices .count) (allowed-is choices) (now next) (levels-of from) word ⌝ }
-    ensures { λ r. ⌜ first-at (pair-offer (line-is line) (allowed-is choices) (wordIn (line-is line) (now (next .entry))) (levels-of from)) word (pairs (order-is order) (length (line-is line .rates)) (choices .count)) ≡ some (pair (r .rate) (r .choice)) ⌝ }
+    ensures { λ r. ⌜ first-at (pair-offer _+_ (line-is line) (allowed-is choices) (wordIn (line-is line) (now (next .entry))) (levels-of from)) word (pairs (order-is order) (length (line-is line .rates)) (choices .count)) ≡ some (pair (r .rate) (r .choice)) ⌝ }
 {
     let rates = line.count as usize;
     let count = choices.count;
@@ -368,7 +368,7 @@ fn best_entry(
     at: Levels,
 ) -> Pick
     requires { ⌜ Layered (order-is order) (now table) line choices place (levels-of at) ⌝ }
-    ensures { λ r. ⌜ first-at (pair-offer (line-is line) (allowed-is choices) (wordIn (line-is line) (layerOf (line-is line) (now (table .entry)) (suc place))) (levels-of at)) (wordIn (line-is line) (layerOf (line-is line) (now (table .entry)) place) (levels-of at)) (pairs (order-is order) (length (line-is line .rates)) (choices .count)) ≡ some (pair (r .rate) (r .choice)) ⌝ }
+    ensures { λ r. ⌜ first-at (pair-offer _+_ (line-is line) (allowed-is choices) (wordIn (line-is line) (layerOf (line-is line) (now (table .entry)) (suc place))) (levels-of at)) (wordIn (line-is line) (layerOf (line-is line) (now (table .entry)) place) (levels-of at)) (pairs (order-is order) (length (line-is line .rates)) (choices .count)) ≡ some (pair (r .rate) (r .choice)) ⌝ }
 {
     let size = layer_words(line);
     let here = place * size + word_place(line, at);

@@ -1,5 +1,4 @@
 -- The tables of document 01's cases of planning and of commands, computed, and what the first says of each case.
--- Assumes nothing.
 use Prim.Native.Nat.{ℕ, _<_}
 use mathlib.Core.Path.{_≡_, refl}
 use lib.ListN.{length, getD}

@@ -1,5 +1,4 @@
 -- Commands behind a job, and what the program plans: `Commands`, `Inputs` and `InputRefusals`.
--- Assumes nothing.
 use Prim.Native.Nat.{ℕ, zero, suc, _<_, _≤_}
 use mathlib.Core.Path.{_≡_, refl, sym}
 use mathlib.Core.Bool.{false}

@@ -1,5 +1,4 @@
 -- Every list of calls with the planning after it: `DemandThree`.
--- Assumes nothing.
 use Prim.Native.Nat.{ℕ, _-_, _*_, _≤_}
 use mathlib.Core.Path.{_≡_, refl, _∙_}
 use mathlib.Core.Option.{Option, none, some}

@@ -1,5 +1,4 @@
 -- The layers of a job's table: their sizes, their places, and each from the next.
--- Assumes nothing.
 use Prim.Native.Nat.{ℕ, zero, suc, _+_, _-_, _*_, _<_, _≤_}
 use mathlib.Core.Path.{_≡_, refl, sym, _∙_, ap}
 use mathlib.Core.List.{List, _++_, append-assoc}
@@ -137,9 +136,9 @@ module _ (j : Job) (m : PinMap) where
               (word-of (suc t) u inside, λ v r. small .values (intervals j - suc t) (suc t) u v q inside r);
         })))
 
-    pub layer-step : layer j m t ≡ layer-from (j .line) (width j (suc t)) (allowed-in j m (suc t)) (layer j m (suc t))
+    pub layer-step : layer j m t ≡ layer-from _+_ (j .line) (width j (suc t)) (allowed-in j m (suc t)) (layer j m (suc t))
     unfolding layer-from
-    layer-step = layer-as ∙ build-cong (layerWords (j .line)) _ _ (λ i k. state-word (stateAt (j .line) i) (state-in-layer (j .line) i k) ∙ stage-is j m t (wordIn (j .line) (layer j m (suc t))) (stateAt (j .line) i))
+    layer-step = layer-as ∙ build-cong (layerWords (j .line)) _ _ (λ i k. state-word (stateAt (j .line) i) (state-in-layer (j .line) i k) ∙ stage-is _+_ j m t (wordIn (j .line) (layer j m (suc t))) (stateAt (j .line) i))
       where
         layer-as : layer j m t ≡ build (layerWords (j .line)) (λ i. encode mark (least-total j m t (stateAt (j .line) i)))
         layer-as = unfold layer in refl

@@ -1,5 +1,4 @@
 -- Calls as numbers: exactly which are refused, and what is read: `CallNumbers`.
--- Assumes nothing.
 use Prim.Native.Nat.{ℕ, zero, suc, _+_, _*_, _/_, _%_, _<_}
 use mathlib.Core.Path.{_≡_, refl, sym, _∙_, ap}
 use mathlib.Core.Logic.{_↔_}

@@ -1,6 +1,5 @@
 -- The best plan is read off a table by pairs: the first pair that offers a state's word by way of the next layer.
--- Assumes nothing.
-use Prim.Native.Nat.{ℕ, suc, _<_}
+use Prim.Native.Nat.{ℕ, suc, _+_, _<_}
 use mathlib.Core.Path.{_≡_, refl, sym, _∙_}
 use mathlib.Core.Bool.{true}
 use mathlib.Core.Option.{Option, none, some, Option·map, Option·some-injective, Option·none-ne-some}
@@ -28,7 +27,7 @@ use Rattle.planning.proofs.Offers.{first-is, first-offer-cong, held-ste
 pub record FirstPair (j : Job) (m : PinMap) (o : Order) (table : List ℕ) (t : ℕ) (s : Levels) (v : ℕ) : Type 0 where
   pub pick : Pair
   pub end : Levels
-  pub first : first-at (pair-offer (j .line) (allowed-in j m (suc t)) (wordIn (j .line) (layerOf (j .line) table (suc t))) s) v (pairs o (length (j .line .rates)) (width j (suc t))) ≡ some pick
+  pub first : first-at (pair-offer _+_ (j .line) (allowed-in j m (suc t)) (wordIn (j .line) (layerOf (j .line) table (suc t))) s) v (pairs o (length (j .line .rates)) (width j (suc t))) ≡ some pick
   pub inner : pick .inner < width j (suc t)
   pub fits : EntryFits j (suc t) (entry j (suc t) pick)
   pub allowed : allowed-in j m (suc t) (pick .inner) ≡ some (coding j (suc t) (entry j (suc t) pick .choice))
@@ -53,11 +52,11 @@ module _ (j : Job) (m : PinMap) (o : Order) (table : List ℕ) (t : ℕ) (s : Le
   claim = read-off j m o table t s v bounded tab h inside value
 
   -- the pair of its entry
-  picked : (a : Pair) × (first-at (pair-offer (j .line) (allowed-in j m (suc t)) (wordAt j table (suc t)) s) v (pairs o (length (j .line .rates)) (width j (suc t))) ≡ some a) × (entry j (suc t) a ≡ claim .entry)
-  picked = mapped (entry j (suc t)) (first-at (pair-offer (j .line) (allowed-in j m (suc t)) (wordAt j table (suc t)) s) v (pairs o (length (j .line .rates)) (width j (suc t)))) (claim .entry) (sym (first-is j m t (wordAt j table (suc t)) s o v) ∙ claim .first)
+  picked : (a : Pair) × (first-at (pair-offer _+_ (j .line) (allowed-in j m (suc t)) (wordAt j table (suc t)) s) v (pairs o (length (j .line .rates)) (width j (suc t))) ≡ some a) × (entry j (suc t) a ≡ claim .entry)
+  picked = mapped (entry j (suc t)) (first-at (pair-offer _+_ (j .line) (allowed-in j m (suc t)) (wordAt j table (suc t)) s) v (pairs o (length (j .line .rates)) (width j (suc t)))) (claim .entry) (sym (first-is _+_ j m t (wordAt j table (suc t)) s o v) ∙ claim .first)
 
-  found : first-at (pair-offer (j .line) (allowed-in j m (suc t)) (wordIn (j .line) (layerOf (j .line) table (suc t))) s) v (pairs o (length (j .line .rates)) (width j (suc t))) ≡ some (picked .0)
-  found = sym (first-offer-cong (j .line) (width j (suc t)) (allowed-in j m (suc t)) (allowed-in j m (suc t)) (wordAt j table (suc t)) (wordIn (j .line) (layerOf (j .line) table (suc t))) s inside (λ x k. refl) (λ u k. word-in-layer j table (suc t) u k) o v) ∙ picked .1
+  found : first-at (pair-offer _+_ (j .line) (allowed-in j m (suc t)) (wordIn (j .line) (layerOf (j .line) table (suc t))) s) v (pairs o (length (j .line .rates)) (width j (suc t))) ≡ some (picked .0)
+  found = sym (first-offer-cong _+_ (j .line) (width j (suc t)) (allowed-in j m (suc t)) (allowed-in j m (suc t)) (wordAt j table (suc t)) (wordIn (j .line) (layerOf (j .line) table (suc t))) s inside (λ x k. refl) (λ u k. word-in-layer j table (suc t) u k) o v) ∙ picked .1
 
   lands : outcome j m (suc t) s (entry j (suc t) (picked .0)) ≡ reaches (claim .end)
   lands = rw (picked .2) (claim .reached)

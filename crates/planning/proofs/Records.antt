@@ -1,5 +1,4 @@
 -- The command record: in which order it is refused, what is read, and that exactly the records of calls are taken: `CommandRecords`, `CommandReadsBack` and `CommandWritesBack`.
--- Assumes nothing.
 use Prim.Native.Nat.{ℕ, _+_, _≤_, _<_}
 use mathlib.Core.Path.{_≡_, refl, sym, _∙_, ap, ap₂}
 use mathlib.Core.Bool.{Bool, true, false, _&&_}

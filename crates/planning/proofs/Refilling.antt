@@ -1,5 +1,4 @@
 -- Layers made anew: what is kept, that each follows from the next, and that they are the job's where the layer behind them is.
--- Assumes nothing.
 use Prim.Native.Nat.{ℕ, zero, suc, _+_, _-_, _*_, _<_, _≤_}
 use mathlib.Core.Path.{_≡_, refl, sym, _∙_, ap}
 use mathlib.Core.List.{List, _++_, append-assoc}
@@ -28,7 +27,7 @@ module _ (j : Job) (m : PinMap) where
 
   -- a layer by the rule, from words of the next
   by-rule : ℕ → List ℕ → List ℕ
-  by-rule t next = layer-from (j .line) (width j (suc t)) (allowed-in j m (suc t)) next
+  by-rule t next = layer-from _+_ (j .line) (width j (suc t)) (allowed-in j m (suc t)) next
 
   rule-length : (t : ℕ) (next : List ℕ) → length (by-rule t next) ≡ W
   unfolding by-rule layer-from
@@ -114,7 +113,7 @@ module _ (j : Job) (m : PinMap) where
       ∙ take-take (t * W) (suc t * W) table k
 
   -- each follows from the next
-  pub refilled-rule : (n t : ℕ) (table : List ℕ) → (t + n) * W ≤ length table → (u : ℕ) → t ≤ u → u < t + n → layerOf (j .line) (refilled j m t n table) u ≡ layer-from (j .line) (width j (suc u)) (allowed-in j m (suc u)) (layerOf (j .line) (refilled j m t n table) (suc u))
+  pub refilled-rule : (n t : ℕ) (table : List ℕ) → (t + n) * W ≤ length table → (u : ℕ) → t ≤ u → u < t + n → layerOf (j .line) (refilled j m t n table) u ≡ layer-from _+_ (j .line) (width j (suc u)) (allowed-in j m (suc u)) (layerOf (j .line) (refilled j m t n table) (suc u))
   unfolding refilled by-rule
   refilled-rule zero t table room u h l = absurd (omega arith)
   refilled-rule (suc n) t table room u h l = go (first-room n t table room) (λ r. refilled-rule n (suc t) table r u) (decLt t u)

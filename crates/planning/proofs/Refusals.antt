@@ -1,5 +1,4 @@
 -- In which order planning refuses, and what a refusal leaves: `Refusals`.
--- Assumes nothing.
 use Prim.Native.Nat.{ℕ, _-_, _*_}
 use mathlib.Core.Path.{_≡_, refl, sym}
 use mathlib.Core.Option.{Option, none, some}

@@ -1,5 +1,4 @@
 -- A whole sitting: `Sittings` and `SittingRefusals`; and a replay after calls: `ReplaySittings` and `ReplaySittingRefusals`.
--- Assumes nothing.
 use Prim.Native.Nat.{ℕ, _*_, _/_, _≤_}
 use mathlib.Core.Path.{_≡_, refl, sym, _∙_, ap}
 use mathlib.Core.Option.{Option, none, some}

@@ -1,5 +1,4 @@
 -- What planning answers, and what it leaves in the two lists that were lent (document 01, "The best plan" and "Where each refusal is checked").
--- Assumes nothing.
 use Prim.Native.Nat.{ℕ, _-_, _*_}
 use mathlib.Core.Option.{Option, none, some}
 use mathlib.Core.List.{List}

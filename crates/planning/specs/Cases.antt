@@ -1,5 +1,4 @@
 -- Document 01's cases of Job A that are marked (m), those of planning, and cases of Job A with another delay and of commands worked out by hand: what is asked, and what document 01 says, or by document 02, E2 and E3, would.
--- Assumes nothing.
 use Prim.Native.Nat.{ℕ}
 use mathlib.Core.Path.{_≡_}
 use mathlib.Core.List.{List, [], _∷_, _++_, map}

@@ -1,5 +1,4 @@
 -- What is claimed of planning: each claim is a type, which a theorem of proofs/ inhabits. The plans are judged by `Admissible`, which knows neither replay nor search.
--- Assumes nothing.
 use Prim.Native.Nat.{ℕ, _+_, _-_, _*_, _/_, _%_, _<_, _≤_}
 use mathlib.Core.Path.{_≡_}
 use mathlib.Core.Logic.{_↔_}

@@ -1,5 +1,4 @@
 -- Pins and lifts as numbers: command records behind a job's bytes, and lists of three numbers a call (document 01, "The printed plan").
--- Assumes nothing.
 use Prim.Native.Nat.{ℕ, zero, suc, _+_, _*_, _/_, _%_}
 use mathlib.Core.Bool.{Bool, true, _&&_}
 use mathlib.Core.Option.{Option, none, some}

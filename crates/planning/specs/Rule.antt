@@ -1,5 +1,4 @@
 -- One layer of the table from the next, of a line and the codings that may be chosen in the interval between them: no job, no pins (document 01, "The best plan"). Then layers made anew in a list, of a job with its pins.
--- Assumes nothing.
 use Prim.Native.Nat.{ℕ, zero, suc, _+_, _*_}
 use mathlib.Core.Option.{Option, none, some}
 use mathlib.Core.List.{List, _++_}
@@ -18,22 +17,24 @@ use Rattle.model.specs.Table.{mark, bound, layerWords, stateAt, layerOf, wordIn
 abbrev pub Allowed : Type 0
 Allowed = ℕ → Option Coding
 
--- what an interval that sends c and decodes this coding offers to a state: the coding's distortion and the word of the levels that it leads to, or the mark. The pins are in the coding already
-unfoldable pub coding-offer : Line → (Levels → ℕ) → Levels → ℕ → Option Coding → ℕ
-coding-offer line W s c none = mark
-coding-offer line W s c (some k) = fare mark bound _+_ (k .distortion) (reached (outcome-of line none none (s .decoder) (s .buckets) c (k .size))) W
+-- over how a distortion and what follows it combine: by their sum, or by the larger of the two (document 02, E7)
+module _ (_⊕_ : ℕ → ℕ → ℕ) where
+  -- what an interval that sends c and decodes this coding offers to a state: the coding's distortion and the word of the levels that it leads to, or the mark. The pins are in the coding already
+  unfoldable pub coding-offer : Line → (Levels → ℕ) → Levels → ℕ → Option Coding → ℕ
+  coding-offer line W s c none = mark
+  coding-offer line W s c (some k) = fare mark bound _⊕_ (k .distortion) (reached (outcome-of line none none (s .decoder) (s .buckets) c (k .size))) W
 
--- of a rate index and a choice index
-unfoldable pub pair-offer : Line → Allowed → (Levels → ℕ) → Levels → Pair → ℕ
-pair-offer line allowed W s a = coding-offer line W s (getD (line .rates) (a .outer) 0) (allowed (a .inner))
+  -- of a rate index and a choice index
+  unfoldable pub pair-offer : Line → Allowed → (Levels → ℕ) → Levels → Pair → ℕ
+  pair-offer line allowed W s a = coding-offer line W s (getD (line .rates) (a .outer) 0) (allowed (a .inner))
 
--- a state's word: the least that the rates and n choices offer
-unfoldable pub least-offer : Line → ℕ → Allowed → (Levels → ℕ) → Levels → ℕ
-least-offer line n allowed W s = lowest mark (pair-offer line allowed W s) (pairs late (length (line .rates)) n)
+  -- a state's word: the least that the rates and n choices offer
+  unfoldable pub least-offer : Line → ℕ → Allowed → (Levels → ℕ) → Levels → ℕ
+  least-offer line n allowed W s = lowest mark (pair-offer line allowed W s) (pairs late (length (line .rates)) n)
 
--- a layer's words, from those of the next
-unfoldable pub layer-from : Line → ℕ → Allowed → List ℕ → List ℕ
-layer-from line n allowed next = build (layerWords line) (λ i. least-offer line n allowed (wordIn line next) (stateAt line i))
+  -- a layer's words, from those of the next
+  unfoldable pub layer-from : Line → ℕ → Allowed → List ℕ → List ℕ
+  layer-from line n allowed next = build (layerWords line) (λ i. least-offer line n allowed (wordIn line next) (stateAt line i))
 
 -- the choice that an index names in interval t, and its coding where the pin of the interval is held
 unfoldable pub choice-in : Job → ℕ → ℕ → Option ℕ
@@ -46,7 +47,7 @@ allowed-in j m t x = if pin-held (pinAt j m t) (choice-in j t x) then some (codi
 unfoldable pub refill : Job → PinMap → ℕ → List ℕ → List ℕ
 refill j m t table =
     take (t * layerWords (j .line)) table
-    ++ (layer-from (j .line) (width j (suc t)) (allowed-in j m (suc t)) (layerOf (j .line) table (suc t))
+    ++ (layer-from _+_ (j .line) (width j (suc t)) (allowed-in j m (suc t)) (layerOf (j .line) table (suc t))
     ++ drop (suc t * layerWords (j .line)) table)
 
 -- n layers made anew, from that of t on: the last of them first, and each from the next

@@ -1,5 +1,4 @@
 -- A whole sitting: calls in turn from the set that opening answers, refused ones included, and the planning after them; and the same for the bytes that the program reads.
--- Assumes nothing.
 use Prim.Native.Nat.{ℕ, _*_, _/_}
 use mathlib.Core.Option.{Option, none, some}
 use mathlib.Core.List.{List, map}

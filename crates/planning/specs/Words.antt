@@ -1,5 +1,4 @@
 -- The table of a job with its pins, word after word: no search, only the least totals (document 01, "The best plan").
--- Assumes nothing.
 use Prim.Native.Nat.{ℕ, zero, suc, _-_, _*_}
 use mathlib.Core.List.{List, [], _++_}
 use lib.ListN.{take, drop}

@@ -1,5 +1,4 @@
 -- Totals added up interval after interval, as replay and planning do: what is added and what is left.
--- Assumes nothing.
 use Prim.Native.Nat.{ℕ, suc, _+_, _*_, _≤_}
 use mathlib.Core.Path.{_≡_, refl, sym, _∙_, ap}
 use mathlib.Core.List.{List, [], _∷_, zipWith}

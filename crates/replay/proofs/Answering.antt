@@ -1,5 +1,4 @@
 -- What replay and the report answer and leave, from what reading the job, the check and the tests answered.
--- Assumes nothing.
 use Prim.Native.Nat.{ℕ, suc, _+_, _*_, _<_, _≤_}
 use mathlib.Core.Path.{_≡_, sym, _∙_, ap}
 use mathlib.Core.Bool.{true, false}

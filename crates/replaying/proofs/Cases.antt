@@ -1,5 +1,4 @@
 -- The table of document 01's cases, computed, and what it says of each.
--- Assumes nothing.
 use Prim.Native.Nat.{ℕ, zero, suc, _<_}
 use mathlib.Core.Path.{_≡_, refl}
 use mathlib.Core.List.{List, [], _∷_, map}

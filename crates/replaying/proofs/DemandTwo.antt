@@ -1,5 +1,4 @@
 -- Replay answers and writes what demand 2 asks: `ReplayCalls`; and how many numbers that is: `LevelNumbers`.
--- Assumes nothing.
 use Prim.Native.Nat.{ℕ, suc, _+_, _*_, _-_, _≤_}
 use mathlib.Core.Path.{_≡_, refl, sym, _∙_, ap}
 use mathlib.Core.Logic.{_↔_}

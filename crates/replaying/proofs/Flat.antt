@@ -1,5 +1,4 @@
 -- Levels as one list of numbers: how many they are, and where each stands with one bucket.
--- Assumes nothing.
 use Prim.Native.Nat.{ℕ, zero, suc, _+_, _*_, _<_}
 use mathlib.Core.Path.{_≡_, refl, sym, ap}
 use mathlib.Core.List.{List, [], _∷_}

@@ -1,5 +1,4 @@
 -- The report writes the effective buffer sizes of (6): `Reports`; and in which order replay and report refuse, and that a refusal keeps the list: `Refusals`.
--- Assumes nothing.
 use Prim.Native.Nat.{ℕ, suc, _≤_}
 use mathlib.Core.Path.{_≡_, refl, _∙_}
 use mathlib.Core.Bool.{Bool, true, false}

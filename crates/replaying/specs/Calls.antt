@@ -1,5 +1,4 @@
 -- What replay and the effective buffer report answer, and what they leave in the list that was lent (document 01, "Levels, interval by interval" and "Where each refusal is checked").
--- Assumes nothing.
 use Prim.Native.Nat.{ℕ, suc, _*_}
 use mathlib.Core.List.{List, [], _∷_, _++_}
 use lib.Dec.{ltb}

@@ -1,5 +1,4 @@
 -- A plan as bytes: two for each interval, the rate index and the choice index, which is 255 where no unit is decoded (document 01, "Levels, interval by interval").
--- Assumes nothing.
 use Prim.Native.Nat.{ℕ, zero, suc, _+_, _*_}
 use mathlib.Core.Bool.{Bool, false}
 use mathlib.Core.List.{List, [], _∷_}

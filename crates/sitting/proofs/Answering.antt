@@ -1,5 +1,4 @@
 -- What a sitting and a replay after calls answer and leave, from what the reader, the tests and the calls answered.
--- Assumes nothing.
 use Prim.Native.Nat.{ℕ, _+_, _*_, _/_, _<_, _≤_}
 use mathlib.Core.Path.{_≡_, sym, _∙_, ap}
 use mathlib.Core.Option.{none, some}

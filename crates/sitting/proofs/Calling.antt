@@ -1,5 +1,4 @@
 -- Calls as numbers: their kinds, what refuses them and the call in a place.
--- Assumes nothing.
 use Prim.Native.Nat.{ℕ, _+_, _*_, _/_, _%_, _<_}
 use mathlib.Core.Path.{_≡_}
 use mathlib.Core.Bool.{true, false}

@@ -1,5 +1,4 @@
 -- The job before the commands and the planning after them, from what opening and the commands answered.
--- Assumes nothing.
 use Prim.Native.Nat.{ℕ, _<_, _≤_}
 use mathlib.Core.Path.{_≡_, refl, sym, _∙_, ap}
 use mathlib.Core.List.{List}

@@ -1,5 +1,4 @@
 -- Command records: what reading one answers, test by test.
--- Assumes nothing.
 use Prim.Native.Nat.{ℕ, _<_, _≤_}
 use mathlib.Core.Path.{_≡_}
 use mathlib.Core.List.{List}

@@ -1,5 +1,4 @@
 -- What the structs and answers of this crate mean in the terms of `planning`, case by case, and what its private functions say and ask.
--- Assumes nothing.
 use Prim.Native.Nat.{ℕ, _+_}
 use mathlib.Core.Path.{_≡_}
 use mathlib.Core.Option.{Option, some}

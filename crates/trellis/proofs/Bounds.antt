@@ -1,5 +1,4 @@
 -- A bound of the value function: sums stay within a budget that each move leaves enough of.
--- Assumes nothing.
 use Prim.Native.Nat.{ℕ, suc, _+_, _≤_, _<_}
 use mathlib.Core.Path.{_≡_}
 use mathlib.Core.Option.{some}

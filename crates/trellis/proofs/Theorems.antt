@@ -1,5 +1,4 @@
 -- The claims of specs/Claims, each by its law.
--- Assumes nothing.
 use Rattle.trellis.specs.Claims.{Value, Ties, TableLaw, Simulation}
 use Rattle.trellis.proofs.Optimality.{none-iff, best-optimal, optimal-value}
 use Rattle.trellis.proofs.TieOrder.{best-foremost, foremost-best}

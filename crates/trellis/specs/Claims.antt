@@ -1,5 +1,4 @@
 -- What is claimed of every trellis: each claim is a type, which a theorem of proofs/Theorems inhabits.
--- Assumes nothing.
 use Prim.Native.Nat.{ℕ, _+_}
 use mathlib.Core.Path.{_≡_}
 use mathlib.Core.Logic.{_↔_}

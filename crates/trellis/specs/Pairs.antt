@@ -1,6 +1,5 @@
 -- The pairs of two indices, in rows: the first index is that of the row, and the second rises.
 -- The lists grow at their ends, as two nested loops go through them.
--- Assumes nothing.
 use Prim.Native.Nat.{ℕ, zero, suc}
 use mathlib.Core.List.{List, [], _∷_, _++_}
 

@@ -1,5 +1,4 @@
 -- A trellis: stages, a state at each, and moves from a stage to the next. Interval t + 1 lies between stage t and stage t + 1.
--- Assumes nothing.
 use Prim.Native.Nat.{ℕ, zero, suc, _≤_}
 use mathlib.Core.Path.{_≡_}
 use mathlib.Core.Option.{Option, none, some}

@@ -1,5 +1,4 @@
 -- What the exported calls answer and leave, from what the calls within them answered.
--- Assumes nothing.
 use Prim.Native.Nat.{ℕ, _<_, _≤_}
 use mathlib.Core.Path.{_≡_}
 use mathlib.Core.List.{List, [], _∷_}

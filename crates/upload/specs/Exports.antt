@@ -1,5 +1,4 @@
 -- What the exported calls answer and leave: the inner calls' answers as a number, 0 where a call is not refused, and values in a list.
--- Assumes nothing.
 use Prim.Native.Nat.{ℕ, _+_}
 use mathlib.Core.List.{List, [], _∷_}
 use lib.Dec.{ltb, eqb}

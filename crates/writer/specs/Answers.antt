@@ -1,5 +1,4 @@
 -- What the writer's answers mean in the terms of the crates below, case by case.
--- Assumes nothing.
 use Prim.Native.Nat.{ℕ, _+_, _*_}
 use mathlib.Core.List.{List, [], _∷_, _++_}
 use lib.Seq.{sets}

@@ -1,5 +1,4 @@
 -- Worked examples: Job A of document 01, written from its header and lists, and one refusal of each number.
--- Assumes nothing.
 use Prim.Native.Nat.{ℕ}
 use mathlib.Core.Path.{_≡_, refl}
 use mathlib.Core.List.{List, [], _∷_, _++_, map, zipWith}

@@ -1,5 +1,4 @@
 -- The limits of header, lengths, rates and codings, looked at in this order: which group decides.
--- Assumes nothing.
 use Prim.Native.Nat.{ℕ}
 use mathlib.Core.Path.{_≡_, _∙_}
 use mathlib.Core.Option.{some}

@@ -1,5 +1,4 @@
 -- In which order the writer refuses, and that a refusal leaves the bytes as they came.
--- Assumes nothing.
 use Prim.Native.Nat.{ℕ, _<_, _≤_}
 use mathlib.Core.Path.{_≡_, refl, ap, _∙_}
 use mathlib.Core.Option.{some}

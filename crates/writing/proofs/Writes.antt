@@ -1,5 +1,4 @@
 -- What is written opens and holds what was given, and a job that opens is rewritten to its bytes: the round trips of `parse` and `encode`, of a job from lists.
--- Assumes nothing.
 use Prim.Native.Nat.{ℕ, _*_, _≤_}
 use mathlib.Core.Path.{_≡_, refl, sym, ap, _∙_}
 use mathlib.Core.Option.{Option, none, some}

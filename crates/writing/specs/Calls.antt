@@ -1,5 +1,4 @@
 -- What writing a job answers, and what it leaves in the list of bytes that was lent (document 02, E1).
--- Assumes nothing.
 use Prim.Native.Nat.{ℕ, _*_}
 use mathlib.Core.List.{List, [], _∷_, _++_}
 use lib.Dec.{ltb}

@@ -1,5 +1,4 @@
 -- What is claimed of writing a job: each claim is a type, which a theorem of proofs/ inhabits.
--- Assumes nothing.
 use Prim.Native.Nat.{ℕ, _<_, _≤_}
 use mathlib.Core.Path.{_≡_}
 use mathlib.Core.List.{List, _++_}

@@ -1,5 +1,4 @@
 -- A job as a header and three lists: the rates, and the sizes and the distortions by unit and choice, unit after unit (document 02, E1).
--- Assumes nothing.
 use Prim.Native.Nat.{ℕ, zero, suc}
 use mathlib.Core.List.{List, [], _∷_, _++_, map, zipWith}
 use lib.ListN.{take, drop}

@@ -1,5 +1,4 @@
 -- `job::bytes_before` meets its contract: at most 65,535 units stand before another.
--- Assumes nothing.
 use mathlib.Core.Path.{refl}
 use native.Mathlib.Omega.{arith}
 use native.Mathlib.Nat.{zero-mul, lt-of-le-of-lt, mul-le-mul-right}

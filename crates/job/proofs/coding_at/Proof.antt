@@ -1,5 +1,4 @@
 -- `job::coding_at` meets its contract: the place that it computes is the definition's.
--- Assumes nothing.
 use native.Mathlib.Omega.{arith}
 use borrow.Author.Needs.{needs}
 use Rattle.format.specs.Places.{coding-place}

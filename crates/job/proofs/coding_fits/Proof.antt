@@ -1,5 +1,4 @@
 -- `job::coding_fits` meets its contract: its three ends against the two limits.
--- Assumes nothing.
 use native.Mathlib.Omega.{arith}
 use Rattle.job.proofs.Verdicts.{both, not-first, not-second}
 use Rattle.job.proofs.coding_fits.Statement.{statement}

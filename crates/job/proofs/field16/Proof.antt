@@ -1,5 +1,4 @@
 -- `job::field16` meets its contract, by where the bytes end.
--- Assumes nothing.
 use mathlib.Core.Path.{sym, _∙_}
 use native.Mathlib.Omega.{arith}
 use borrow.Author.Needs.{needs}

@@ -1,5 +1,4 @@
 -- `job::head_verdict` meets its contract: for each record that may be due, the kind and then the length.
--- Assumes nothing.
 use mathlib.Core.Path.{refl}
 use native.Mathlib.Omega.{arith}
 use borrow.Author.Needs.{needs}

@@ -1,5 +1,4 @@
 -- `job::rate_at` meets its contract: the rate's place is computed as the definition computes it.
--- Assumes nothing.
 use borrow.Author.Needs.{needs}
 use Rattle.format.specs.Places.{rate-place, rate-at}
 use Rattle.job.proofs.rate_at.Statement.{statement}

@@ -1,5 +1,4 @@
 -- `job::rate_fits` meets its contract: a rate that is not too large is kept if it is large enough.
--- Assumes nothing.
 use mathlib.Core.Path.{sym}
 use native.Mathlib.Omega.{arith}
 use Rattle.format.proofs.Limits.{not-kept, kept-under}

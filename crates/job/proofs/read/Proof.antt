@@ -1,5 +1,4 @@
 -- `job::read` meets its contract: the header's record, the rates' record and the units, each from the verdict on it.
--- Assumes nothing.
 use native.Mathlib.Omega.{arith}
 use borrow.Author.Needs.{needs}
 use Rattle.job.specs.Answers.{plain}

@@ -1,5 +1,4 @@
 -- `job::read_units` meets its contract: the units that are left to read decide, whichever turn the loop is at.
--- Assumes nothing.
 use Prim.Native.Nat.{_-_, _≤_}
 use mathlib.Core.Path.{_≡_, sym, _∙_}
 use native.Mathlib.Omega.{arith}

@@ -1,5 +1,4 @@
 -- `job::record_verdict` meets its contract: the record's shape, then the fields of its kind.
--- Assumes nothing.
 use mathlib.Core.Path.{ap, _∙_}
 use native.Mathlib.Omega.{arith}
 use borrow.Author.Needs.{needs}

@@ -1,5 +1,4 @@
 -- `job::same_length` meets its contract: a limit whose two ends are one number.
--- Assumes nothing.
 use mathlib.Core.Path.{refl}
 use native.Mathlib.Omega.{arith}
 use Rattle.job.proofs.Verdicts.{refuses, fits}

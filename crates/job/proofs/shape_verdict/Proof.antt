@@ -1,5 +1,4 @@
 -- `job::shape_verdict` meets its contract: the head's presence, the head, the body's presence, in this order.
--- Assumes nothing.
 use native.Mathlib.Omega.{arith}
 use borrow.Author.Needs.{needs}
 use Rattle.job.proofs.Records.{shape-short, shape-refused, body-absent, body-there}

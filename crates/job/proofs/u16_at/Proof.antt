@@ -1,5 +1,4 @@
 -- `job::u16_at` meets its contract: two bytes at a place are a number.
--- Assumes nothing.
 use mathlib.Core.Path.{sym, _∙_}
 use borrow.Author.Needs.{needs}
 use Rattle.format.proofs.Fields.{two-at}

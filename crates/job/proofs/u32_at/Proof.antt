@@ -1,5 +1,4 @@
 -- `job::u32_at` meets its contract: four bytes are two pairs.
--- Assumes nothing.
 use mathlib.Core.Path.{sym, _∙_}
 use borrow.Author.Needs.{needs}
 use Rattle.format.proofs.Fields.{four-at}

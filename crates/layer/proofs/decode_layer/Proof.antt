@@ -1,9 +1,8 @@
 use Rattle.layer.proofs.Blocks.{made-none, made-next}
 use Rattle.layer.proofs.Rows.{block-made}
 use Rattle.layer.specs.Blocks.{Made}
-use Rattle.layer.specs.Rule.{row-offer}
+use Rattle.planning.specs.Passes.{row-offer, least-below}
 use Rattle.layer.specs.Answers.{combine, priced}
-use Rattle.planning.specs.Passes.{least-below}
 use mathlib.Core.Path.{_≡_, refl, _∙_}
 use lib.ListN.{length, take, drop}
 use Prim.Native.Nat.{_≤_, _-_, _+_}

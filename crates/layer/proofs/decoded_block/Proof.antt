@@ -1,6 +1,6 @@
 use Rattle.layer.proofs.Blocks.{least-none, least-more}
 use Rattle.layer.specs.Blocks.{LeastOf}
-use Rattle.layer.specs.Rule.{row-offer}
+use Rattle.planning.specs.Passes.{row-offer}
 use Rattle.layer.specs.Answers.{combine, priced}
 use mathlib.Core.Path.{_≡_}
 use Prim.Native.Nat.{_≤_, _-_, _+_}

@@ -7,7 +7,7 @@ use mathlib.Core.Path.{_≡_, _∙_}
 use Prim.Native.Nat.{_≤_, _-_}
 use native.Mathlib.Omega.{arith}
 use borrow.Author.Needs.{needs}
-use Rattle.layer.specs.Rule.{charged}
+use Rattle.planning.specs.Passes.{charged}
 use Rattle.layer.proofs.lessen_raised.Statement.{statement}
 use Rattle.layer.proofs.lessen_raised.Tie as tie
 

@@ -1,5 +1,5 @@
 use Rattle.layer.specs.Answers.{combine}
-use Rattle.layer.specs.Rule.{charged}
+use Rattle.planning.specs.Passes.{charged}
 use Rattle.model.specs.Table.{bound}
 use Rattle.trellis.specs.Table.{charge}
 use borrow.Author.Tests.{le-leb, lt-leb}

@@ -12,20 +12,20 @@ use Rattle.trellis.specs.Pairs.{row, rows}
 use mathlib.Core.List.{_++_, append-nil}
 use mathlib.Core.Option.{none, Option·none-ne-some}
 use mathlib.Core.Path.{_≡_, sym, _∙_}
-use Prim.Native.Nat.{_<_, _≤_, _-_}
+use Prim.Native.Nat.{_+_, _<_, _≤_, _-_}
 use native.Mathlib.Omega.{arith}
 use borrow.Author.Needs.{needs}
 use Rattle.planner.proofs.first_entry.Statement.{statement}
 use Rattle.planner.proofs.first_entry.Tie as tie
 
 abbrev Inv-loop : tie.InvT-loop
-Inv-loop order next from word line choices rates count found₀ at rate sent choice₀ found choice = (choice ≤ count) × (first-at (pair-offer (line-is line) (allowed-is choices) (wordIn (line-is line) next) (levels-of from)) word (rows (turn (order-is order) rates) at count ++ row rate choice) ≡ none)
+Inv-loop order next from word line choices rates count found₀ at rate sent choice₀ found choice = (choice ≤ count) × (first-at (pair-offer _+_ (line-is line) (allowed-is choices) (wordIn (line-is line) next) (levels-of from)) word (rows (turn (order-is order) rates) at count ++ row rate choice) ≡ none)
 
 abbrev μ-loop : tie.MeasureT-loop
 μ-loop order next from word line choices rates count found₀ at rate sent choice₀ found choice = count - choice
 
 abbrev Inv-search : tie.InvT-search
-Inv-search order next from word line choices rates count found₀ at₀ found at = (at ≤ rates) × (first-at (pair-offer (line-is line) (allowed-is choices) (wordIn (line-is line) next) (levels-of from)) word (rows (turn (order-is order) rates) at count) ≡ none)
+Inv-search order next from word line choices rates count found₀ at₀ found at = (at ≤ rates) × (first-at (pair-offer _+_ (line-is line) (allowed-is choices) (wordIn (line-is line) next) (levels-of from)) word (rows (turn (order-is order) rates) at count) ≡ none)
 
 abbrev μ-search : tie.MeasureT-search
 μ-search order next from word line choices rates count found₀ at₀ found at = rates - at

@@ -2,7 +2,7 @@ use mathlib.Core.Path.{refl}
 use native.Mathlib.Omega.{arith}
 use Rattle.planner.specs.Answers.{line-is}
 use Rattle.replay.specs.Answers.{line-of}
-use Rattle.layer.specs.Neutral.{fronted, neutral}
+use Rattle.model.specs.Neutral.{fronted, neutral}
 use Rattle.layer.specs.Answers.{bucket-is}
 use Rattle.layer.specs.Answers as layer-answers
 use Rattle.planner.proofs.layer_line.Statement.{statement}

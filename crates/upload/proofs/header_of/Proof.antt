@@ -1,5 +1,4 @@
 -- `upload::header_of` meets its contract.
--- Assumes nothing.
 use Rattle.format.specs.JobBytes.{header-of}
 use Rattle.job.specs.Answers.{plain}
 use mathlib.Core.Path.{refl}

@@ -1,5 +1,4 @@
 -- `upload::upload_write` meets its contract.
--- Assumes nothing.
 use Rattle.upload.proofs.Answering.{write-12, write-3, write-refused, write-done}
 use Rattle.model.proofs.Lent.{stored}
 use mathlib.Core.List.{[], _∷_}

@@ -1,5 +1,4 @@
 -- `writer::codings_verdict` meets its contract: the codings that are left to check decide, whichever turn the loop is at.
--- Assumes nothing.
 use Rattle.format.specs.Limits.{broken}
 use Rattle.format.specs.JobBytes.{coding-limits}
 use Rattle.format.proofs.Left.{codings-left, codings-start, codings-end, codings-step, codings-here}

@@ -1,5 +1,4 @@
 -- `writer::job_size` meets its contract.
--- Assumes nothing.
 use Rattle.writer.proofs.Setting.{product-fits, sum-fits}
 use Rattle.job.specs.Answers.{plain}
 use native.Mathlib.Omega.{arith}

@@ -1,5 +1,4 @@
 -- `writer::lengths_verdict` meets its contract.
--- Assumes nothing.
 use Rattle.writer.proofs.Setting.{product-fits}
 use Rattle.job.specs.Answers.{plain}
 use Rattle.job.proofs.Verdicts.{refuses, fits}

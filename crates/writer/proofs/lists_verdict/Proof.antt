@@ -1,5 +1,4 @@
 -- `writer::lists_verdict` meets its contract.
--- Assumes nothing.
 use Rattle.format.proofs.Limits.{all-kept}
 use Rattle.job.specs.Answers.{verdict}
 use Rattle.writing.proofs.Order.{at-header, at-lengths, at-rates, at-codings}

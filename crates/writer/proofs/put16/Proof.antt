@@ -1,5 +1,4 @@
 -- `writer::put16` meets its contract.
--- Assumes nothing.
 use Rattle.writer.proofs.Setting.{two-bytes}
 use Rattle.writer.specs.Answers.{put-at}
 use native.Mathlib.Numerals.{add-one}

@@ -1,5 +1,4 @@
 -- `writer::put32` meets its contract.
--- Assumes nothing.
 use Rattle.writer.proofs.Setting.{put-four}
 use borrow.Author.Needs.{needs}
 use Rattle.writer.proofs.put32.Statement.{statement}

@@ -1,5 +1,4 @@
 -- `writer::put_codings` meets its contract: what is left to write decides, whichever turn the loop is at.
--- Assumes nothing.
 use Rattle.writer.proofs.Setting.{codings-left, codings-start, codings-step, codings-end, put-size}
 use Rattle.writing.specs.Lists.{codings-from}
 use Rattle.writing.proofs.Lists.{codings-count, coding-in}

@@ -1,5 +1,4 @@
 -- `writer::put_front` meets its contract.
--- Assumes nothing.
 use Rattle.format.specs.JobBytes.{header-values}
 use Rattle.job.specs.Answers.{plain}
 use Rattle.writer.specs.Answers.{front-numbers}

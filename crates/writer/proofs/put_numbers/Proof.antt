@@ -1,5 +1,4 @@
 -- `writer::put_numbers` meets its contract: what is left to write decides, whichever turn the loop is at.
--- Assumes nothing.
 use Rattle.writer.proofs.Setting.{numbers-left, numbers-start, numbers-step, numbers-end, put-size}
 use Prim.Native.Nat.{_+_, _-_, _*_, _≤_}
 use mathlib.Core.Path.{_≡_, refl, sym, _∙_}

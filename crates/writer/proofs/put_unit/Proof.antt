@@ -1,5 +1,4 @@
 -- `writer::put_unit` meets its contract.
--- Assumes nothing.
 use Rattle.writer.proofs.Records.{put-unit}
 use lib.ListN.{length}
 use borrow.Author.Needs.{needs}

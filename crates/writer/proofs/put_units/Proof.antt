@@ -1,5 +1,4 @@
 -- `writer::put_units` meets its contract: what is left to write decides, whichever turn the loop is at.
--- Assumes nothing.
 use Rattle.writer.proofs.Setting.{put-size}
 use Rattle.writer.proofs.Records.{part-length, unit-part, units-left, units-start, units-step, units-end, room}
 use Rattle.writing.specs.Lists.{codings-from}

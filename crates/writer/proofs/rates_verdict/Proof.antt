@@ -1,5 +1,4 @@
 -- `writer::rates_verdict` meets its contract: the rates that are left to check decide, whichever turn the loop is at.
--- Assumes nothing.
 use Rattle.format.specs.Limits.{broken}
 use Rattle.format.specs.JobBytes.{rate-limits}
 use Rattle.format.proofs.Limits.{of-kept}

@@ -1,5 +1,4 @@
 -- `writer::write_job` meets its contract.
--- Assumes nothing.
 use Rattle.writer.proofs.Answering.{write-refused, write-accepted, write-short, write-done}
 use Rattle.writing.proofs.Order.{Accepted}
 use Rattle.model.specs.Answer.{gives}

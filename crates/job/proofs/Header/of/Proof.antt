@@ -1,5 +1,4 @@
 -- `job::Header::of` meets its contract: nine fields make a header.
--- Assumes nothing.
 use borrow.Author.Needs.{needs}
 use Rattle.job.specs.Answers.{plain}
 use Rattle.job.proofs.Fields.{header-made}

@@ -1,5 +1,4 @@
 -- `job::Header::same` meets its contract: the code and the definition compare the same fields in the same order.
--- Assumes nothing.
 use mathlib.Core.Path.{refl}
 use Rattle.format.specs.JobBytes.{same-header}
 use Rattle.job.specs.Answers.{plain}

@@ -1,5 +1,4 @@
 -- `job::Header::verdict` meets its contract: each test that fails breaks a limit, and where none fails all are kept.
--- Assumes nothing.
 use native.Mathlib.Omega.{arith}
 use Rattle.job.specs.Answers.{plain}
 use Rattle.job.proofs.Verdicts.{header-refused, fits}

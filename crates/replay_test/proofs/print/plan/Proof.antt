@@ -1,5 +1,4 @@
 -- The loop that prints the bytes of a plan stays within them and ends.
--- Assumes nothing.
 use Prim.Native.Nat.{_≤_, _-_}
 use borrow.Author.Needs.{needs}
 use Rattle.replay_test.proofs.print.plan.Statement.{statement}

@@ -1,5 +1,4 @@
--- A neutral bucket in front of a line's buckets changes nothing: the words of a layer, the places of states, an interval's outcome and the layer from the next are those of the line without it.
--- Assumes nothing.
+-- A neutral bucket in front of a line's buckets changes nothing: the words of a layer, the places of states and an interval's outcome are those of the line without it.
 use Prim.Native.Nat.{ℕ, suc, _+_, _-_, _%_, _<_, _≤_}
 use mathlib.Core.Path.{_≡_, refl, _∙_, ap}
 use mathlib.Core.Bool.{Bool, true, false}
@@ -10,20 +9,16 @@ use native.Mathlib.Omega.{arith}
 use lib.ListN.{length, getD}
 use lib.IntN.{pos, natAbs, _+ℤ_, _-ℤ_}
 use lib.Signed.{ltZ, nonNeg}
-use Rattle.trellis.specs.Table.{fare}
-use Rattle.trellis.proofs.Congruence.{lowest-cong}
 use Rattle.model.specs.If.{if_then_else_}
 use Rattle.model.specs.Job.{Line, Coding, Levels}
 use Rattle.model.specs.Admissible.{breaks, holds, verify, decoder-overflow, decoder-underflow, pin-not-held}
 use Rattle.model.specs.Step.{Outcome, violates, reaches, decoder-step, bucket-step, poured, overfull, pin-held, or-overflow, after-decoder, outcome-of}
 use Rattle.model.specs.Best.{late, pairs, reached}
 use Rattle.model.specs.Table.{mark, bound, sizes, tops, flat, span, place, levelsAt, layerWords, stateAt, wordIn}
 use Rattle.model.proofs.Builds.{build-cong}
 use Rattle.model.proofs.Places.{span-positive}
 use Rattle.model.proofs.Entries.{pairs-member}
-use Rattle.planning.specs.Rule.{Allowed}
-use Rattle.layer.specs.Rule.{coding-offer, pair-offer, least-offer, layer-from}
-use Rattle.layer.specs.Neutral.{neutral, fronted, front, front-violation, front-outcome}
+use Rattle.model.specs.Neutral.{neutral, fronted, front, front-violation, front-outcome}
 
 module _ (drain : ℕ) (line : Line) where
   pub words-same : layerWords (fronted drain line) ≡ layerWords line
@@ -74,23 +69,3 @@ module _ (drain : ℕ) (line : Line) where
         go : (o : Outcome) → reached (front-outcome o) ≡ Option·map front (reached o)
         go (violates v) = unfold reached front-outcome in refl
         go (reaches u) = unfold reached front-outcome in refl
-
-    pub offer-same : (_⊕_ : ℕ → ℕ → ℕ) (next : List ℕ) (s : Levels) (k : Option Coding) → coding-offer _⊕_ (fronted drain line) (wordIn (fronted drain line) next) (front s) c k ≡ coding-offer _⊕_ line (wordIn line next) s c k
-    unfolding coding-offer front
-    offer-same _⊕_ next s none = refl
-    offer-same _⊕_ next s (some k) = rw (reached-same s (k .size)) (go (reached (outcome-of line none none (s .decoder) (s .buckets) c (k .size))))
-      where
-        go : (o : Option Levels) → fare mark bound _⊕_ (k .distortion) (Option·map front o) (wordIn (fronted drain line) next) ≡ fare mark bound _⊕_ (k .distortion) o (wordIn line next)
-        go none = unfold fare in refl
-        go (some u) = unfold fare in rw (word-same next u)
-
-  -- the layer from the next, where the bucket drains every rate
-  pub layer-same : ((y : ℕ) → y < length (line .rates) → getD (line .rates) y 0 ≤ drain) → (_⊕_ : ℕ → ℕ → ℕ) (n : ℕ) (allowed : Allowed) (next : List ℕ) → layer-from _⊕_ (fronted drain line) n allowed next ≡ layer-from _⊕_ line n allowed next
-  unfolding layer-from least-offer
-  layer-same h _⊕_ n allowed next =
-      rw words-same
-      (build-cong (layerWords line) _ _ (λ i k.
-      ap (λ (s : Levels). least-offer _⊕_ (fronted drain line) n allowed (wordIn (fronted drain line) next) s) (state-same i) ∙ each (stateAt line i)))
-    where
-      each : (s : Levels) → least-offer _⊕_ (fronted drain line) n allowed (wordIn (fronted drain line) next) (front s) ≡ least-offer _⊕_ line n allowed (wordIn line next) s
-      each s = unfold least-offer fronted pair-offer in lowest-cong mark _ _ (pairs late (length (line .rates)) n) (λ a k. offer-same (getD (line .rates) (a .outer) 0) (h (a .outer) (pairs-member late (length (line .rates)) n a k .0)) _⊕_ next s (allowed (a .inner)))

@@ -1,10 +1,9 @@
--- A bucket of size 0 that drains whatever is sent, in front of a line's buckets: it is always empty.
--- Assumes nothing.
+-- A bucket of size 0 that drains whatever is sent, in front of a line's buckets: it is always empty, and a line with one bucket can be treated as one with two.
 use Prim.Native.Nat.{ℕ, suc}
 use mathlib.Core.List.{_∷_}
 use Rattle.model.specs.Job.{Bucket, Line, Levels}
 use Rattle.model.specs.Admissible.{Violation, decoder-overflow, decoder-underflow, bucket-overflow, pin-not-held}
 use Rattle.model.specs.Step.{Outcome, violates, reaches}
 
 unfoldable pub neutral : ℕ → Bucket
 neutral drain = record { size = 0; drain = drain }
