@@ -1,5 +1,5 @@
 -- Blocks of words: lessened word after word, then by one size or one rate after another, and written into the layer.
-use Prim.Native.Nat.{ℕ, _+_, _-_, _*_, _<_, _≤_, min}
+use Prim.Native.Nat.{ℕ, zero, suc, _+_, _-_, _*_, _<_, _≤_, min}
 use mathlib.Core.Path.{_≡_, refl, sym, _∙_, ap}
 use mathlib.Core.List.{List, _++_}
 use native.Mathlib.Decide.{decLt}
@@ -140,6 +140,19 @@ least-more n m f old new a b = record {
   size = b .size ∙ a .size;
   each = λ i k. let e = a .each i k in b .each i k (omega (arith, e, least-marked m (f i))) ∙ rw (add-one m, e);
 }
+
+-- those behind offer nothing
+least-rest : (n m : ℕ) (f : ℕ → ℕ) → m ≤ n → ((x : ℕ) → m ≤ x → x < n → f x ≡ mark) → least-below n f ≡ least-below m f
+unfolding least-below
+least-rest zero m f h e = let z : m ≡ 0 = omega arith in rw z refl
+least-rest (suc n) m f h e = go (λ k. least-rest n m f k (λ x a b. e x a (omega arith))) (decLt n m)
+  where
+    go : (m ≤ n → least-below n f ≡ least-below m f) → Dec (n < m) → min (least-below n f) (f n) ≡ least-below m f
+    go ih (yes b) = let z : m ≡ suc n = omega arith in rw z refl
+    go ih (no b) = let q = ih (omega arith) in omega (arith, e n (omega arith) (omega arith), least-marked n f)
+
+pub least-all : (n m k : ℕ) (f : ℕ → ℕ → ℕ) (block : List ℕ) → m ≤ k → ((i x : ℕ) → i < n → m ≤ x → x < k → f i x ≡ mark) → LeastOf n m f block → LeastOf n k f block
+least-all n m k f block h e a = record { size = a .size; each = λ i b. a .each i b ∙ sym (least-rest k m (f i) h (λ x c d. e i x b c d)) }
 
 -- a part of words, word by word
 pub part-at : (from n : ℕ) (l : List ℕ) (i : ℕ) → i < n → getD (take (from + n - from) (drop from l)) i 0 ≡ getD l (from + i) 0

@@ -2,6 +2,7 @@
 use Prim.Native.Nat.{ℕ, _+_, _-_, _*_, _<_, _≤_, min}
 use mathlib.Core.Path.{_≡_, refl, _∙_, ap}
 use mathlib.Core.Bool.{Bool, true, false}
+use mathlib.Core.Option.{none, some}
 use mathlib.Core.List.{List}
 use native.Mathlib.Decide.{decLt, ℕ-discrete}
 use native.Mathlib.Omega.{arith}
@@ -12,7 +13,7 @@ use lib.Seq.{getD-set-same, getD-set-other}
 use Rattle.model.specs.If.{if_then_else_}
 use Rattle.model.specs.Table.{mark, bound}
 use Rattle.planning.specs.Passes.{charged, row-offer}
-use Rattle.layer.specs.Answers.{coding-if, price-open, price-at}
+use Rattle.layer.specs.Answers.{coding-if, price-open, priced, price-at}
 use Rattle.layer.specs.Blocks.{Lessened, Lowered}
 use Rattle.layer.proofs.Blocks.{part-at, part-size}
 
@@ -54,6 +55,15 @@ module _ (_⊕_ : ℕ → ℕ → ℕ) where
     size-made old new skip from n p q r a =
         let m : n ≡ count - (back - start) = r ∙ ap (λ (k : ℕ). count - k) p in
         choice-lowered old new (rw (m, p, q) at a)
+
+  -- a size that is more than the decoder holds at a place
+  pub past-rows : (width : ℕ) (next prices : List ℕ) (i size : ℕ) → i < size * width → row-offer _⊕_ width next i (priced prices size) ≡ mark
+  unfolding priced price-open row-offer if_then_else_
+  past-rows width next prices i size h = go (ltb bound (getD prices size 0))
+    where
+      go : (t : Bool) → row-offer _⊕_ width next i (if t then none else some (record { size = size; distortion = getD prices size 0 })) ≡ mark
+      go true = refl
+      go false = rw (lt-ltb i (size * width) h)
 
 -- a choice that a pin rules out, or that is too large for any decoder, leaves the prices
 pub closed-priced : (prices : List ℕ) (free : Bool) (size distortion : ℕ) → free ≡ false → Lowered 256 (λ r. price-at r (coding-if free size distortion)) prices prices

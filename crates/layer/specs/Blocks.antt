@@ -26,6 +26,11 @@ pub record LeastOf (n m : ℕ) (f : ℕ → ℕ → ℕ) (block : List ℕ) : Ty
   pub size : length block ≡ 256
   pub each : (i : ℕ) → i < n → getD block i 0 ≡ least-below m (f i)
 
+-- every size from n on takes more rows than stand before the place
+pub record SizesWithin (end width n : ℕ) : Type 0 where
+  pub few : n ≤ 256
+  pub larger : (size : ℕ) → n ≤ size → size < 256 → end < size * width
+
 -- the words from one place to another are made anew, the others kept
 pub record Made (low high : ℕ) (f : ℕ → ℕ) (old new : List ℕ) : Type 0 where
   pub size : length new ≡ length old

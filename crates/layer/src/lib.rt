@@ -9,7 +9,7 @@ ghost use Rattle.model.specs.Table.{mark, bound, sizes, span, layerWords, state
 ghost use Rattle.planning.specs.Passes.{least-below, arrived, word-if, charged, row-offer};
 ghost use Rattle.planning.specs.Rule.{layer-from};
 ghost use Rattle.layer.specs.Answers.{combine, line-is, coding-if, price-open, priced, no-prices, price-at, LineFits};
-ghost use Rattle.layer.specs.Blocks.{Lessened, Lowered, LeastOf, Made, BlocksMade, level-read, rate-read};
+ghost use Rattle.layer.specs.Blocks.{Lessened, Lowered, LeastOf, SizesWithin, Made, BlocksMade, level-read, rate-read};
 
 // A leaky bucket: its size, and what it drains in an interval.
 pub struct Bucket {
@@ -204,7 +204,19 @@ fn with_size(
     lessen_charged(block, skip, &next[from..end], distortion, aim);
 }
 
-// The words that stand in the layer from `start` on.
+// How many sizes the decoder holds at some of the places before `end`: a larger one takes more rows than there are.
+fn sizes_within(end: usize, width: usize) -> usize
+    requires { ⌜ 0 < width ⌝ }
+    ensures { λ r. ⌜ SizesWithin end width r ⌝ }
+{
+    let rows = end / width;
+    if BLOCK <= rows {
+        return BLOCK;
+    }
+    rows + 1
+}
+
+// The words that stand in the layer from `start` on. A size is looked at only where the decoder holds as much somewhere in the block.
 fn decoded_block(
     block: &mut [u32; 256],
     next: &[u32],
@@ -214,11 +226,12 @@ fn decoded_block(
     start: usize,
     count: usize,
 )
-    requires { ⌜ (length (now block) ≡ 256) × (length (now prices) ≡ 256) × (count ≤ 256) × (width ≤ 65536) × (start + count ≤ length (now next)) ⌝ }
+    requires { ⌜ (length (now block) ≡ 256) × (length (now prices) ≡ 256) × (count ≤ 256) × (0 < width) × (width ≤ 65536) × (start + count ≤ length (now next)) ⌝ }
     ensures { λ _. ⌜ LeastOf count 256 (λ i x. row-offer (combine aim) width (now (next .entry)) (start + i) (priced (now (prices .entry)) x)) (now (block .exit)) ⌝ }
 {
     clear_words(block, count);
-    for size in 0..BLOCK {
+    let end = sizes_within(start + count, width);
+    for size in 0..end {
         let distortion = prices[size];
         with_size(block, count, next, width, start, size, distortion, aim);
     }
@@ -226,7 +239,7 @@ fn decoded_block(
 
 // The whole pass: from the next layer to the place of this one.
 fn decode_layer(part: &mut [u32], size: usize, width: usize, prices: &[u32; 256], aim: Aim)
-    requires { ⌜ (length (now prices) ≡ 256) × (width ≤ 65536) × (size + size ≤ length (now part)) ⌝ }
+    requires { ⌜ (length (now prices) ≡ 256) × (0 < width) × (width ≤ 65536) × (size + size ≤ length (now part)) ⌝ }
     ensures { λ _. ⌜ Made 0 size (λ i. least-below 256 (λ x. row-offer (combine aim) width (take size (drop size (now (part .entry)))) i (priced (now (prices .entry)) x))) (now (part .entry)) (now (part .exit)) ⌝ }
 {
     let end = size + size;

@@ -61,7 +61,7 @@ loop-again c =
     let l = m .before .before in
     let a = l .before .before in
     let k : (a .args .size + a .args .size) - a .args .size ≡ a .args .size = omega arith in
-    let n = made-next (l .loop .start) (a .args .size) (a .args .size) _ (a .args .part .now) (l .loop .part) (l .loop .inv .0) (a .pre .2) (l .loop .inv .3) in
+    let n = made-next (l .loop .start) (a .args .size) (a .args .size) _ (a .args .part .now) (l .loop .part) (l .loop .inv .0) (a .pre .3) (l .loop .inv .3) in
     (omega (arith, m .smaller .ensures), d .decoded-block .ensures .size, w .put-words .kept .0 ∙ l .loop .inv .2, block-made _ (a .args .part .now) (l .loop .part) (w .put-words .last .0) (d .decoded-block .last .0) (l .loop .start) (m .smaller .result) (l .loop .inv .3) (w .put-words .ensures) (λ i h. d .decoded-block .ensures .each i h ∙ rw (k, n)))
 
 same-length : tie.Need-same-length Inv-loop μ-loop

@@ -1,4 +1,5 @@
-use Rattle.layer.proofs.Blocks.{least-none, least-more}
+use Rattle.layer.proofs.Blocks.{least-none, least-more, least-all}
+use Rattle.layer.proofs.Choices.{past-rows}
 use Rattle.layer.specs.Blocks.{LeastOf}
 use Rattle.planning.specs.Passes.{row-offer}
 use Rattle.layer.specs.Answers.{combine, priced}
@@ -10,16 +11,22 @@ use Rattle.layer.proofs.decoded_block.Statement.{statement}
 use Rattle.layer.proofs.decoded_block.Tie as tie
 
 abbrev Inv-loop : tie.InvT-loop
-Inv-loop block₀ next width prices aim start count size₀ block size = (size ≤ 256) × LeastOf count size (λ i x. row-offer (combine aim) width next (start + i) (priced prices x)) block
+Inv-loop block₀ next width prices aim start count end size₀ block size = (size ≤ end) × LeastOf count size (λ i x. row-offer (combine aim) width next (start + i) (priced prices x)) block
 
 abbrev μ-loop : tie.MeasureT-loop
-μ-loop block₀ next width prices aim start count size₀ block size = 256 - size
+μ-loop block₀ next width prices aim start count end size₀ block size = end - size
 
 clear-words-requires : tie.Need-clear-words-requires Inv-loop μ-loop
 clear-words-requires c κs = search needs
 
+add-sizes-within : tie.Need-add-sizes-within Inv-loop μ-loop
+add-sizes-within c = search needs
+
+sizes-within-requires : tie.Need-sizes-within-requires Inv-loop μ-loop
+sizes-within-requires c κs = search needs
+
 loop-holds : tie.Need-loop-holds Inv-loop μ-loop
-loop-holds c = (search needs, least-none _ _ _ _ (c .before .before .before .pre .0) (c .clear-words .ensures))
+loop-holds c = (search needs, least-none _ _ _ _ (c .before .before .before .before .pre .0) (c .before .clear-words .ensures))
 
 mul-distortion : tie.Need-mul-distortion Inv-loop μ-loop
 mul-distortion c = search needs
@@ -28,11 +35,7 @@ element-copy-out-distortion : tie.Need-element-copy-out-distortion Inv-loop μ-l
 element-copy-out-distortion c = search needs
 
 with-size-requires : tie.Need-with-size-requires Inv-loop μ-loop
-with-size-requires c κs =
-    let t = c .before .before in
-    let l = t .before in
-    let a = l .before .before .before .before in
-    (l .loop .inv .1 .size, a .pre .2, a .pre .3, a .pre .4, t .loop-test .taken)
+with-size-requires c κs = search needs
 
 add-size : tie.Need-add-size Inv-loop μ-loop
 add-size c = search needs
@@ -49,8 +52,9 @@ loop-again c =
 returns : tie.Need-returns Inv-loop μ-loop
 returns c =
     let l = c .before in
-    let e : l .loop .size ≡ 256 = omega arith in
-    rw e at (l .loop .inv .1)
+    let w = l .before .sizes-within .ensures in
+    let e : l .loop .size ≡ l .before .sizes-within .result = omega arith in
+    least-all _ _ 256 _ _ (w .few) (λ i x h k b. past-rows _ _ _ _ _ x (omega (arith, w .larger x k b))) (rw e at (l .loop .inv .1))
 
 pub decoded-block-spec : {M : Type 1} → statement M
 decoded-block-spec =
@@ -59,6 +63,8 @@ decoded-block-spec =
     Inv-loop
     μ-loop
     clear-words-requires
+    add-sizes-within
+    sizes-within-requires
     loop-holds
     mul-distortion
     element-copy-out-distortion

@@ -2,6 +2,8 @@ use native.Mathlib.Omega.{arith}
 use Rattle.layer.specs.Answers.{combine, line-is, priced}
 use Rattle.layer.proofs.Sizes.{row-small}
 use Rattle.layer.proofs.Passes.{passes-make}
+use Rattle.model.specs.Table.{sizes}
+use Rattle.model.proofs.Places.{span-positive}
 use borrow.Author.Needs.{needs}
 use Rattle.layer.proofs.fill_layer.Statement.{statement}
 use Rattle.layer.proofs.fill_layer.Tie as tie
@@ -15,7 +17,7 @@ row-words-requires c κs = search needs
 decode-layer-requires : tie.Need-decode-layer-requires
 decode-layer-requires c κs =
     let a = c .before .before .before .before in
-    (a .pre .1, rw (c .row-words .ensures) (row-small (a .args .line) (a .pre .0)), rw (c .before .layer-words .ensures) (a .pre .2))
+    (a .pre .1, rw (c .row-words .ensures) (span-positive (sizes (line-is (a .args .line)))), rw (c .row-words .ensures) (row-small (a .args .line) (a .pre .0)), rw (c .before .layer-words .ensures) (a .pre .2))
 
 send-layer-requires : tie.Need-send-layer-requires
 send-layer-requires c κs = search needs
