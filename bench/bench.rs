@@ -5,6 +5,10 @@
 //! A ratio is the library's time over the plain program's: below 1 the library
 //! is faster. Growth is the time over that of the line before it, beside how
 //! much the work grew.
+//!
+//! Planning stands beside two plain programs: four nested loops, and the two
+//! passes of the library written plainly. All three must give the same table,
+//! plan and least distortion.
 
 use std::hint::black_box;
 use std::time::{Duration, Instant};
@@ -119,7 +123,7 @@ fn plain_level(before: usize, sent: usize, taken: usize, size: usize) -> Option<
     peak.checked_sub(taken)
 }
 
-/// The book of pins.
+/// The pins that a list of calls leaves, and the answer to each call.
 fn plain_calls(read: &Read, calls: &[u16], answers: &mut [u8]) -> Vec<Option<usize>> {
     let mut pins = vec![None; read.header[0]];
     for (call, answer) in calls.chunks_exact(3).zip(answers) {
@@ -144,9 +148,124 @@ fn plain_calls(read: &Read, calls: &[u16], answers: &mut [u8]) -> Vec<Option<usi
     pins
 }
 
-/// Four loops: decoder levels, bucket levels, rates, choices. Then the best
-/// plan read off from the start.
+/// What receiver and carrier fix.
+struct PlainLine {
+    decoder: usize,
+    bucket: usize,
+    drain: usize,
+    rates: Vec<usize>,
+}
+
+/// How a plain program fills a layer from the next one.
+#[derive(Clone, Copy, PartialEq)]
+enum Filling {
+    /// Loops over decoder levels, bucket levels, rates and choices.
+    FourLoops,
+    /// A pass over sizes and a pass over rates, as the library does it.
+    TwoPasses,
+}
+
+impl PlainLine {
+    /// Every state with every rate and choice.
+    fn four_loops(&self, options: &[(u8, usize, u32)], layer: &mut [u32], next: &[u32]) {
+        let width = self.bucket + 1;
+        for b in 0..=self.decoder {
+            for l in 0..=self.bucket {
+                let mut best = NEVER;
+                for &sent in &self.rates {
+                    let filled = (l + sent).saturating_sub(self.drain);
+                    if filled > self.bucket {
+                        continue;
+                    }
+                    for &(_, grains, distortion) in options {
+                        if let Some(level) = plain_level(b, sent, grains, self.decoder) {
+                            let rest = next[level * width + filled];
+                            if rest != NEVER && rest + distortion < best {
+                                best = rest + distortion;
+                            }
+                        }
+                    }
+                }
+                layer[b * width + l] = best;
+            }
+        }
+    }
+
+    /// The least distortion of each size that the decoder holds, by size.
+    fn prices(&self, options: &[(u8, usize, u32)]) -> Vec<(usize, i32)> {
+        let mut least = [FAR; 256];
+        for &(_, grains, distortion) in options {
+            if grains <= self.decoder {
+                least[grains] = least[grains].min(distortion as i32);
+            }
+        }
+        let sizes = 0..=self.decoder;
+        sizes.map(|size| (size, least[size])).filter(|price| price.1 < FAR).collect()
+    }
+}
+
+/// More than two distortions come to, and not so much that adding one overflows:
+/// in place of `NEVER` it needs no test before the sum.
+const FAR: i32 = 1_600_000_000;
+
+/// Two layers of numbers: the next one's, and those between arrival and decoding.
+struct Passes {
+    next: Vec<i32>,
+    between: Vec<i32>,
+}
+
+impl Passes {
+    fn new(layer: usize) -> Passes {
+        Passes { next: vec![FAR; layer], between: vec![FAR; layer] }
+    }
+
+    /// First, for each level between arrival and decoding, the least over sizes;
+    /// then, for each level before, the least over rates. Row by row, a row being
+    /// the bucket levels of one decoder level.
+    fn fill(
+        &mut self,
+        line: &PlainLine,
+        options: &[(u8, usize, u32)],
+        layer: &mut [u32],
+        next: &[u32],
+    ) {
+        let width = line.bucket + 1;
+        for (number, &word) in self.next.iter_mut().zip(next) {
+            *number = if word == NEVER { FAR } else { word as i32 };
+        }
+        let prices = line.prices(options);
+        for (peak, row) in self.between.chunks_exact_mut(width).enumerate() {
+            row.fill(FAR);
+            for &(size, distortion) in prices.iter().take_while(|price| price.0 <= peak) {
+                let from = &self.next[(peak - size) * width..][..width];
+                for (least, rest) in row.iter_mut().zip(from) {
+                    *least = (*least).min(rest + distortion);
+                }
+            }
+        }
+        // What the next layer was is not needed any more.
+        let rows = self.next.chunks_exact_mut(width).zip(layer.chunks_exact_mut(width));
+        for (level, (row, words)) in rows.enumerate() {
+            row.fill(FAR);
+            for &sent in line.rates.iter().take_while(|sent| level + **sent <= line.decoder) {
+                let from = &self.between[(level + sent) * width..][..width];
+                let low = line.drain.saturating_sub(sent).min(width);
+                let high = sent.saturating_sub(line.drain).min(width);
+                row[..low].iter_mut().for_each(|least| *least = (*least).min(from[0]));
+                for (least, rest) in row[low..].iter_mut().zip(&from[high..]) {
+                    *least = (*least).min(*rest);
+                }
+            }
+            for (word, number) in words.iter_mut().zip(row) {
+                *word = if *number < FAR { *number as u32 } else { NEVER };
+            }
+        }
+    }
+}
+
+/// Fills the table from the last layer on, then reads the best plan off from the start.
 fn plain_plan(
+    filling: Filling,
     job: &[u8],
     calls: &[u16],
     answers: &mut [u8],
@@ -156,33 +275,19 @@ fn plain_plan(
     let read = plain_open(job)?;
     let pins = plain_calls(&read, calls, answers);
     let [_, _, decoder, bucket, drain, start_decoder, start_bucket, rates, _] = read.header;
-    let rates: Vec<usize> = (0..rates).map(|rate| read.rate(rate)).collect();
+    let rates = (0..rates).map(|rate| read.rate(rate)).collect();
+    let line = PlainLine { decoder, bucket, drain, rates };
     let width = bucket + 1;
     let layer = (decoder + 1) * width;
+    let mut passes = Passes::new(if filling == Filling::TwoPasses { layer } else { 0 });
     table[read.intervals() * layer..read.words()].fill(0);
     for t in (1..=read.intervals()).rev() {
         let options = read.options(&pins, t);
         let (before, next) = table.split_at_mut(t * layer);
-        let filling = &mut before[(t - 1) * layer..];
-        for b in 0..=decoder {
-            for l in 0..=bucket {
-                let mut best = NEVER;
-                for &sent in &rates {
-                    let filled = (l + sent).saturating_sub(drain);
-                    if filled > bucket {
-                        continue;
-                    }
-                    for &(_, grains, distortion) in &options {
-                        if let Some(level) = plain_level(b, sent, grains, decoder) {
-                            let rest = next[level * width + filled];
-                            if rest != NEVER && rest + distortion < best {
-                                best = rest + distortion;
-                            }
-                        }
-                    }
-                }
-                filling[b * width + l] = best;
-            }
+        let before = &mut before[(t - 1) * layer..];
+        match filling {
+            Filling::FourLoops => line.four_loops(&options, before, next),
+            Filling::TwoPasses => passes.fill(&line, &options, before, next),
         }
     }
     let (mut b, mut l, mut total) = (start_decoder, start_bucket, 0);
@@ -192,13 +297,8 @@ fn plain_plan(
             return None;
         }
         let options = read.options(&pins, t);
-        let (rate, choice, level, filled, distortion) = plain_entry(
-            &rates,
-            &options,
-            [b, l, decoder, bucket, drain],
-            due,
-            &table[t * layer..],
-        )?;
+        let (rate, choice, level, filled, distortion) =
+            plain_entry(&line, &options, [b, l], due, &table[t * layer..])?;
         entries[2 * t - 2..2 * t].copy_from_slice(&[rate, choice]);
         total += distortion as u64;
         (b, l) = (level, filled);
@@ -206,19 +306,20 @@ fn plain_plan(
     Some(total)
 }
 
+/// The first entry that attains what is due from these levels.
 fn plain_entry(
-    rates: &[usize],
+    line: &PlainLine,
     options: &[(u8, usize, u32)],
-    [b, l, decoder, bucket, drain]: [usize; 5],
+    [b, l]: [usize; 2],
     due: u32,
     next: &[u32],
 ) -> Option<(u8, u8, usize, usize, u32)> {
-    for (rate, &sent) in rates.iter().enumerate() {
-        let filled = (l + sent).saturating_sub(drain);
+    for (rate, &sent) in line.rates.iter().enumerate() {
+        let filled = (l + sent).saturating_sub(line.drain);
         for &(choice, grains, distortion) in options {
-            let Some(level) = plain_level(b, sent, grains, decoder) else { continue };
-            if filled <= bucket {
-                let rest = next[level * (bucket + 1) + filled];
+            let Some(level) = plain_level(b, sent, grains, line.decoder) else { continue };
+            if filled <= line.bucket {
+                let rest = next[level * (line.bucket + 1) + filled];
                 if rest != NEVER && rest + distortion == due {
                     return Some((rate as u8, choice, level, filled, distortion));
                 }
@@ -324,8 +425,14 @@ fn plain_write(lists: &Lists, job: &mut [u8]) -> Option<usize> {
 // ---------------------------------------------------------------------------
 
 impl Size {
-    /// States times rates times choices, over all intervals that decode.
-    fn work(&self) -> f64 {
+    /// States times rates and choices, over all intervals: the steps of two passes.
+    fn steps(&self) -> f64 {
+        let layer = (self.decoder + 1) * (self.bucket + 1);
+        (layer * (self.units * self.choices + self.delay + self.intervals() * self.rates)) as f64
+    }
+
+    /// States times rates times choices: the moves that four loops try.
+    fn moves(&self) -> f64 {
         let layer = (self.decoder + 1) * (self.bucket + 1) * self.rates;
         (layer * (self.units * self.choices + self.delay)) as f64
     }
@@ -344,14 +451,15 @@ fn job_of(size: &Size) -> Vec<u8> {
     draft_of(size).bytes()
 }
 
-/// Units of fine and coarse codings around what the line carries.
+/// Units of fine and coarse codings around what the line carries; the coarsest
+/// takes nothing, so that every job has a plan.
 fn draft_of(size: &Size) -> Draft {
     let mut rng = Rng(1);
     let rates: Vec<u16> = (0..size.rates).map(|i| (i * 40 / size.rates) as u16).collect();
     let mut unit = |_| {
         let finest = if rng.one_in(12) { rng.from(80, 200) } else { rng.from(10, 50) };
         let coding = |choice: usize| {
-            let grains = finest * (size.choices - choice) / size.choices;
+            let grains = finest * (size.choices - 1 - choice) / (size.choices - 1).max(1);
             let lost = finest - grains;
             (grains as u16, (lost * lost * rng.from(3, 9) + rng.from(0, 60)) as u32)
         };
@@ -360,6 +468,33 @@ fn draft_of(size: &Size) -> Draft {
     let units: Vec<_> = (0..size.units).map(&mut unit).collect();
     let levels = [size.delay, size.decoder, size.bucket, 20, size.decoder / 3, size.bucket / 2];
     Draft::new(levels.map(|level| level as u16), &rates, &units)
+}
+
+/// A programme as an encoder gives it: each quantizer takes about a tenth less
+/// than the one before it and loses about an eighth more. Of the decoder the finest
+/// coding takes a fifth to nine tenths, the drain about a sixth and the largest
+/// rate a half; a grain is what one of so many in the decoder comes to.
+fn programme(units: usize, decoder: usize) -> (Size, Vec<u8>) {
+    let mut rng = Rng(2);
+    let size = Size { units, delay: 4, decoder, bucket: decoder, rates: 16, choices: 31 };
+    let rates: Vec<u16> = (0..16).map(|i| (i * decoder / 30).max(i) as u16).collect();
+    let mut unit = |_| {
+        let (mut millis, mut lost) = (rng.from(200, 400) * decoder, rng.from(600, 1300));
+        if rng.one_in(8) {
+            millis = rng.from(400, 900) * decoder;
+        }
+        let coding = |_| {
+            let grains = millis.div_ceil(1000) as u16;
+            let distortion = lost as u32;
+            millis = millis * rng.from(88, 93) / 100;
+            lost = lost * rng.from(110, 116) / 100;
+            (grains, distortion)
+        };
+        (0..size.choices).map(coding).collect::<Vec<(u16, u32)>>()
+    };
+    let units: Vec<_> = (0..units).map(&mut unit).collect();
+    let levels = [size.delay, decoder, decoder, (decoder * 3).div_ceil(20), 0, 0];
+    (size, Draft::new(levels.map(|level| level as u16), &rates, &units).bytes())
 }
 
 // ---------------------------------------------------------------------------
@@ -456,38 +591,143 @@ impl Table {
 // The functions, each at several sizes.
 // ---------------------------------------------------------------------------
 
-/// Both plan the job; their plans and tables must be the same.
-fn time_plan(size: &Size) -> [f64; 2] {
-    let job = job_of(size);
-    let opened = upload_planner::open(&job).expect("a job");
-    let mut tables = [vec![0; opened.table_words], vec![0; opened.table_words]];
-    let mut entries = [vec![0; 2 * opened.intervals], vec![0; 2 * opened.intervals]];
-    let mut totals = [None, None];
-    let rounds = if size.work() * 30.0 < FULL.work() { 3 } else { 1 };
-    let [our_table, plain_table] = &mut tables;
-    let [our_entries, plain_entries] = &mut entries;
-    let [our_total, plain_total] = &mut totals;
-    let times = in_turn(
-        rounds,
-        || {
-            let found = upload_planner::plan(&job, &[], &mut [], our_table, our_entries);
-            *our_total = found.ok().map(|totals| totals.distortion);
-        },
-        || *plain_total = plain_plan(&job, &[], &mut [], plain_table, plain_entries),
-    );
-    assert!(totals[0].is_some() && totals[0] == totals[1], "the plans differ: {totals:?}");
-    assert!(tables[0] == tables[1] && entries[0] == entries[1], "the tables or plans differ");
-    times
+/// What one of the programs leaves.
+#[derive(PartialEq)]
+struct Left {
+    table: Vec<u32>,
+    entries: Vec<u8>,
+    total: Option<u64>,
+}
+
+const PROGRAMS: usize = 3;
+
+/// The library, two passes, four loops.
+fn run_plan(program: usize, job: &[u8], left: &mut Left) {
+    let Left { table, entries, .. } = left;
+    left.total = match program {
+        0 => upload_planner::plan(job, &[], &mut [], table, entries).ok().map(|t| t.distortion),
+        1 => plain_plan(Filling::TwoPasses, job, &[], &mut [], table, entries),
+        _ => plain_plan(Filling::FourLoops, job, &[], &mut [], table, entries),
+    };
+}
+
+/// The least time of each in several rounds, in turn, each over as many repeats as
+/// fill some milliseconds; what takes seconds is timed once. All must leave the same.
+fn time_plan(job: &[u8], with_loops: bool) -> [Option<f64>; PROGRAMS] {
+    let opened = upload_planner::open(job).expect("a job");
+    let fresh = || Left {
+        table: vec![0; opened.table_words],
+        entries: vec![0; 2 * opened.intervals],
+        total: None,
+    };
+    let (mut ours, mut plain) = (fresh(), fresh());
+    let mut least = [None; PROGRAMS];
+    for program in 0..PROGRAMS - !with_loops as usize {
+        let left = if program == 0 { &mut ours } else { &mut plain };
+        let start = Instant::now();
+        run_plan(program, job, left);
+        least[program] = Some(start.elapsed().as_secs_f64());
+        assert!(ours.total.is_some(), "no plan");
+        assert!(program == 0 || ours == plain, "program {program} has another table or plan");
+        plain.table.fill(1);
+    }
+    for _ in 0..7 {
+        for (program, least) in least.iter_mut().enumerate() {
+            let Some(best) = least.filter(|best| *best < 2.0) else { continue };
+            let repeats = (0.004 / best).ceil();
+            let left = if program == 0 { &mut ours } else { &mut plain };
+            let start = Instant::now();
+            (0..repeats as usize).for_each(|_| run_plan(program, black_box(job), left));
+            *least = Some(best.min(start.elapsed().as_secs_f64() / repeats));
+        }
+    }
+    least
+}
+
+/// Times of planning, each line printed as soon as it is measured.
+struct Plans {
+    /// In a table by one number: time and steps of the line before.
+    last: Option<(f64, f64)>,
+    grows: bool,
+}
+
+impl Plans {
+    fn new(title: &str, grows: bool) -> Plans {
+        println!("\n{title}");
+        println!(
+            "  {:<38} {:>10} {:>10} {:>10} {:>9} {:>8} {:>7} {:>7}",
+            "",
+            "library",
+            "two passes",
+            "four loops",
+            "to passes",
+            "loops to",
+            if grows { "grows" } else { "" },
+            if grows { "work" } else { "" },
+        );
+        Plans { last: None, grows }
+    }
+
+    fn add(&mut self, name: impl Into<String>, size: &Size, job: &[u8], with_loops: bool) {
+        let times = time_plan(job, with_loops);
+        let [Some(ours), Some(passes), loops] = times else { panic!("a time is missing") };
+        let growth = self.last.map_or(["".into(), "".into()], |(time, steps)| {
+            [ours / time, size.steps() / steps].map(|ratio| format!("x{ratio:.2}"))
+        });
+        println!(
+            "  {:<38} {:>10} {:>10} {:>10} {:>9.2} {:>8} {:>7} {:>7}",
+            name.into(),
+            shown(ours),
+            shown(passes),
+            loops.map_or("-".into(), shown),
+            ours / passes,
+            loops.map_or("-".into(), |loops| format!("{:.1}", loops / ours)),
+            growth[0],
+            growth[1]
+        );
+        self.last = self.grows.then_some((ours, size.steps()));
+    }
+}
+
+/// Whether four loops take seconds at most.
+fn loops_are_short(size: &Size) -> bool {
+    size.moves() * 4.0 < FULL.moves()
 }
 
 fn plan_tables(with_full: bool) {
-    let mut table = Table::new("planning, by length (1 is 512 units, delay 64)", "move");
+    println!("\nto passes: the library's time over that of two passes written plainly;");
+    println!("loops to: the time of four loops over the library's, how many times faster it is");
+    let mut plans = Plans::new("planning, the largest job that opens", false);
+    plans.add("512 units, delay 64, decoder 255", &FULL, &job_of(&FULL), with_full);
+
+    let mut plans = Plans::new("planning, a programme of 512 units, 31 quantizers", false);
+    for decoder in [255, 127, 60, 51, 25, 12] {
+        let (size, job) = programme(512, decoder);
+        let name = format!("decoder and bucket of {decoder}");
+        plans.add(name, &size, &job, loops_are_short(&size));
+    }
+
+    let mut plans =
+        Plans::new("planning, a row or a column of one word: 512 units, delay 64", false);
+    for (decoder, bucket) in [(255, 0), (60, 0), (0, 255), (0, 60), (0, 0)] {
+        let size = Size { decoder, bucket, ..FULL };
+        let name = format!("decoder {decoder}, bucket {bucket}");
+        plans.add(name, &size, &job_of(&size), true);
+    }
+
+    let mut plans = Plans::new("planning, four units, delay 1", false);
+    for grains in [255, 60, 25, 12, 4] {
+        let size = Size { units: 4, delay: 1, decoder: grains, bucket: grains, ..FULL };
+        plans.add(format!("decoder and bucket of {grains}"), &size, &job_of(&size), true);
+    }
+    let size = Size { units: 2, delay: 1, decoder: 4, bucket: 3, rates: 3, choices: 2 };
+    plans.add("two units, 20 states, 6 moves each", &size, &job_of(&size), true);
+
+    let mut plans = Plans::new("planning, by length (1 is 512 units, delay 64)", true);
     for part in [64, 32, 16, 8, 4, 2, 1] {
-        if part > 1 || with_full {
-            let size = FULL.part(part);
-            let name = format!("1/{part}: {} units, delay {}", size.units, size.delay);
-            table.add(line(name, size.work(), time_plan(&size)));
-        }
+        let size = FULL.part(part);
+        let name = format!("1/{part}: {} units, delay {}", size.units, size.delay);
+        plans.add(name, &size, &job_of(&size), loops_are_short(&size));
     }
     let base = Size { units: 64, delay: 8, decoder: 63, bucket: 63, rates: 4, choices: 8 };
     let rows: [(&str, fn(&mut Size, usize), [usize; 4]); 5] = [
@@ -498,11 +738,11 @@ fn plan_tables(with_full: bool) {
         ("delay", |size, value| size.delay = value, [8, 16, 32, 64]),
     ];
     for (name, set, values) in rows {
-        let mut table = Table::new(&format!("planning, by {name}"), "move");
+        let mut plans = Plans::new(&format!("planning, by {name}"), true);
         for value in values {
             let mut size = base;
             set(&mut size, value);
-            table.add(line(format!("{value}"), size.work(), time_plan(&size)));
+            plans.add(format!("{value}"), &size, &job_of(&size), true);
         }
     }
 }
@@ -526,7 +766,8 @@ fn call_tables() {
             },
             || {
                 let lent = (&mut spare.0, &mut spare.1, &mut spare.2);
-                black_box(plain_plan(&job, black_box(&calls), lent.0, lent.1, lent.2));
+                let filling = Filling::FourLoops;
+                black_box(plain_plan(filling, &job, black_box(&calls), lent.0, lent.1, lent.2));
             },
         );
         assert!(answers == spare.0, "the answers differ");
@@ -661,17 +902,21 @@ fn time_report(size: &Size, job: &[u8]) -> [f64; 2] {
 }
 
 fn main() {
-    let arguments: Vec<String> = std::env::args().skip(1).collect();
-    let with_full = match arguments.iter().map(String::as_str).collect::<Vec<_>>()[..] {
-        [] => true,
-        ["--no-full"] => false,
-        _ => {
-            println!("usage: bench/run [--no-full]");
-            std::process::exit(2);
+    let (mut with_full, mut all) = (true, true);
+    for argument in std::env::args().skip(1) {
+        match argument.as_str() {
+            "--no-full" => with_full = false,
+            "--planning" => all = false,
+            _ => {
+                println!("usage: bench/run [--planning] [--no-full]");
+                std::process::exit(2);
+            }
         }
-    };
+    }
     println!("ratio: the library's time over that of a plain program; below 1 it is faster");
-    call_tables();
-    other_tables();
+    if all {
+        call_tables();
+        other_tables();
+    }
     plan_tables(with_full);
 }

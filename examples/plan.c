@@ -98,10 +98,10 @@ int main(void)
     };
     const struct {
         size_t from, count;
-    } sittings[] = {{0, 0}, {0, 3}, {0, 6}, {6, 6}};
+    } sessions[] = {{0, 0}, {0, 3}, {0, 6}, {6, 6}};
 
-    for (size_t i = 0; i < sizeof sittings / sizeof *sittings; i++) {
-        uint32_t refusal = plan(calls + sittings[i].from, sittings[i].count);
+    for (size_t i = 0; i < sizeof sessions / sizeof *sessions; i++) {
+        uint32_t refusal = plan(calls + sessions[i].from, sessions[i].count);
         if (refusal != UPLOAD_OK)
             printf("refused %" PRIu32 "\n", refusal);
     }

@@ -28,9 +28,10 @@
    values. A pointer is never null, also where the count is 0, and is aligned
    for its type. A list that is written overlaps no other list.
 
-   Each function answers 0, or the number of the refusal. A refusal writes
-   nothing, with one exception: UPLOAD_NO_PLAN comes after the search and leaves
-   `answers` and `table` written. */
+   Each function answers 0, or the number of the refusal. Wherever a job is read,
+   its own numbers, 1 to 5, come first. A refusal writes nothing, with one
+   exception: UPLOAD_NO_PLAN comes after the search and leaves `table` written,
+   and no other list. */
 
 #ifndef UPLOAD_H
 #define UPLOAD_H
@@ -92,6 +93,7 @@ enum upload_violation {
 
 /* How many numbers the `values` lists need. */
 #define UPLOAD_OPEN_VALUES 4
+#define UPLOAD_CALLS_VALUES 3
 #define UPLOAD_PLAN_VALUES 4
 #define UPLOAD_REPLAY_VALUES 6
 #define UPLOAD_WRITE_VALUES 1
@@ -104,16 +106,32 @@ enum upload_violation {
    values: 4 numbers written: the bytes that the job took, N, T, and the words
    of the table, (T + 1) x (decoder size + 1) x (bucket size + 1).
 
-   Refusals in order: 12 where `values` is too short; 1 to 5. */
+   Refusals in order: 1 to 5; 12 where `values` is too short. */
 uint32_t upload_open(const uint8_t *job, size_t job_len,
                      uint64_t *values, size_t values_len);
 
-/* Makes the calls in turn on a fresh set of pins, refused ones included, then
-   plans with the pins that stand at the end.
+/* Makes the calls in turn on a fresh set of pins, refused ones included.
 
    calls:   three numbers a call.
    answers: one byte a call written: 0 where it was taken, otherwise its number,
             7 to 10. A refused call changes no pin.
+   values:  3 numbers written: how many pins stand at the end, the sum of the
+            grains that their units take at the pinned choices, and the sum of
+            the distortions of these choices.
+
+   Refusals in order: 1 to 5 for the job; 2 for a call of another kind, then 1
+   where the last call is cut; 12 where `answers`, then where `values` is too
+   short. A call that is refused is not a refusal of the function. */
+uint32_t upload_calls(const uint8_t *job, size_t job_len,
+                      const uint16_t *calls, size_t calls_len,
+                      uint8_t *answers, size_t answers_len,
+                      uint64_t *values, size_t values_len);
+
+/* Makes the calls as upload_calls does, then plans with the pins that stand at
+   the end.
+
+   calls:   three numbers a call.
+   answers: one byte a call written, as upload_calls writes them.
    table:   the words that upload_open names are written. Word
             (t x (decoder size + 1) + b) x (bucket size + 1) + l is the least
             distortion that intervals t + 1 to T can add from decoder level b
@@ -127,10 +145,10 @@ uint32_t upload_open(const uint8_t *job, size_t job_len,
             level before it less what it sends). The bucket's starting level +
             channel grains + unused grains = T x drain + its last level.
 
-   Refusals in order: 12 where `values` is too short; 1 to 5 for the job; 2 for
-   a call of another kind, then 1 where the last call is cut; 11; 12 where
-   `answers` or `entries` is too short; 13, which leaves `answers` and `table`
-   written, `entries` and `values` as they were. */
+   Refusals in order: 1 to 5 for the job; 2 for a call of another kind, then 1
+   where the last call is cut; 11; 12 where `answers`, `entries` or `values` is
+   too short; 13, which leaves `table` written, and `answers`, `entries` and
+   `values` as they were; upload_calls says what the calls met with. */
 uint32_t upload_plan(const uint8_t *job, size_t job_len,
                      const uint16_t *calls, size_t calls_len,
                      uint8_t *answers, size_t answers_len,
@@ -138,7 +156,7 @@ uint32_t upload_plan(const uint8_t *job, size_t job_len,
                      uint8_t *entries, size_t entries_len,
                      uint64_t *values, size_t values_len);
 
-/* Makes the calls as upload_plan does, then follows a plan interval by interval
+/* Makes the calls as upload_calls does, then follows a plan interval by interval
    up to its first violation.
 
    entries: exactly 2 x T bytes, as upload_plan writes them.
@@ -149,9 +167,9 @@ uint32_t upload_plan(const uint8_t *job, size_t job_len,
             then the 4 numbers of upload_plan, each 0 where there is a
             violation.
 
-   Refusals in order: 12 where `values` is too short; 1 to 5 for the job; 2 for
-   a call of another kind, then 1 where the last call is cut; 14; 12 where
-   `levels` is too short. A plan with a violation is not a refusal. */
+   Refusals in order: 1 to 5 for the job; 2 for a call of another kind, then 1
+   where the last call is cut; 14; 12 where `levels` or `values` is too short. A
+   plan with a violation is not a refusal. */
 uint32_t upload_replay(const uint8_t *job, size_t job_len,
                        const uint16_t *calls, size_t calls_len,
                        const uint8_t *entries, size_t entries_len,
@@ -187,9 +205,9 @@ uint32_t upload_report(const uint8_t *job, size_t job_len,
                 97,338.
    values:      1 number written: how many bytes the job took.
 
-   Refusals in order: 12 where `values` is too short; 3 where `fields` is not
-   nine numbers or one of them is out of range; 16 where `rates`, `sizes` or
-   `distortions` has another length; 4; 5; 12 where `job` is too short. */
+   Refusals in order: 3 where `fields` is not nine numbers or one of them is out
+   of range; 16 where `rates`, `sizes` or `distortions` has another length; 4; 5;
+   12 where `job` or `values` is too short. */
 uint32_t upload_write(const uint16_t *fields, size_t fields_len,
                       const uint16_t *rates, size_t rates_len,
                       const uint16_t *sizes, size_t sizes_len,

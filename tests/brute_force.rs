@@ -40,18 +40,18 @@ use reference::*;
 // ---------------------------------------------------------------------------
 
 fn planned_text(input: &[u8]) -> Result<String, Refusal> {
-    let (job, book) = read_input(input)?;
+    let (job, pins) = read_input(input)?;
     if job.words() > WORKSPACE_WORDS {
         return Err(11);
     }
-    let plan = best_plan(&job, &book).ok_or(13)?;
-    Ok(print_plan(&job, &book, &plan))
+    let plan = best_plan(&job, &pins).ok_or(13)?;
+    Ok(print_plan(&job, &pins, &plan))
 }
 
-fn print_plan(job: &Job, book: &Book, plan: &Plan) -> String {
+fn print_plan(job: &Job, pins: &Pins, plan: &Plan) -> String {
     let mut text = format!("plan {} {} {}\n", job.units.len(), job.intervals(), job.words());
     let mut t = 0;
-    let totals = replay(job, book, plan, |decoder, bucket| {
+    let totals = replay(job, pins, plan, |decoder, bucket| {
         let (rate, choice) = plan[t];
         t += 1;
         let shown = if choice == NO_CHOICE { "-".to_string() } else { choice.to_string() };
@@ -468,32 +468,13 @@ fn command_order_group() -> Group {
     group("order of commands", cases)
 }
 
-/// Every list of up to three commands from a set with each refusal in it, and
-/// every list of four from those that can be taken.
+/// Every short list of commands.
 fn command_lists_group() -> Group {
-    let good = [Pin(1, 0), Pin(1, 1), Pin(2, 0), Pin(2, 1), Lift(1), Lift(2)];
-    let bad = [Pin(0, 0), Pin(3, 1), Pin(1, 2), Pin(0, 2), Pin(3, 2), Lift(0), Lift(3)];
-    let mixed = [&good[..], &bad[..]].concat();
-    let mut lists = vec![Vec::new()];
-    lists.extend((1..=3).flat_map(|length| all_lists(&mixed, length)));
-    lists.extend(all_lists(&good, 4));
     // Roomier than Job A: each pair of pins has a plan of its own.
     let units = [vec![(3, 10), (1, 30)], vec![(4, 12), (2, 40)]];
     let job = Draft::new([1, 4, 3, 2, 0, 0], &[0, 2, 3], &units);
     let make = |list: &Vec<Command>| case(describe(list), job.commanded(list).bytes(), Nothing);
-    group("command lists", lists.iter().map(make).collect())
-}
-
-fn all_lists(letters: &[Command], length: usize) -> Vec<Vec<Command>> {
-    let mut lists = vec![Vec::new()];
-    for _ in 0..length {
-        let longer = |list: &Vec<Command>| {
-            let list = list.clone();
-            letters.iter().map(move |letter| [&list[..], &[*letter]].concat()).collect::<Vec<_>>()
-        };
-        lists = lists.iter().flat_map(longer).collect();
-    }
-    lists
+    group("command lists", command_lists().iter().map(make).collect())
 }
 
 fn describe(list: &[Command]) -> String {
@@ -1057,8 +1038,8 @@ fn report_group(group: &Group, failures: Vec<Failure>, tally: BTreeMap<String, u
 fn told_apart(mistakes: Mistakes, cases: &[Case]) -> Told {
     let mut told = Told::new(mistakes);
     for case in cases {
-        if let Ok((job, book)) = read_input(&case.input) {
-            told.count(&job, &book, dynamic(&job, &book).as_ref());
+        if let Ok((job, pins)) = read_input(&case.input) {
+            told.count(&job, &pins, dynamic(&job, &pins).as_ref());
         }
     }
     told
@@ -1077,11 +1058,11 @@ fn searches_agree(new_seed: u64) -> bool {
                 _ => random_tight_job(&mut rng, &TIGHT[0]),
             };
             let input = draft.bytes();
-            let Ok((job, book)) = read_input(&input) else {
+            let Ok((job, pins)) = read_input(&input) else {
                 continue;
             };
-            let all = enumerate(&job, &book);
-            if all.best != dynamic(&job, &book) {
+            let all = enumerate(&job, &pins);
+            if all.best != dynamic(&job, &pins) {
                 println!(
                     "FAILED enumeration and dynamic program: job {index}, seed {seed}: {}",
                     hex(&input)

@@ -28,7 +28,7 @@ use std::process::ExitCode;
 use std::sync::atomic::{AtomicBool, Ordering};
 use std::time::{Duration, Instant};
 
-use upload_planner::{numbers, Call, Header, Replayed, Totals, Violation};
+use upload_planner::{numbers, Call, Header, PinTotals, Replayed, Totals, Violation};
 
 #[allow(dead_code)]
 mod reference;
@@ -37,6 +37,8 @@ use reference::*;
 /// The word of a state that cannot be completed.
 const NEVER: u32 = 4_294_967_295;
 
+/// How many values calls alone write: the pins held, their grains and distortions.
+const CALLS_VALUES: usize = 3;
 /// How many values planning writes: distortion, source, channel and unused grains.
 const PLAN_VALUES: usize = 4;
 /// How many replay writes: the violation and its interval, then the same four.
@@ -139,7 +141,7 @@ fn filler<T: Number>(key: u64, at: usize) -> T {
 }
 
 // ---------------------------------------------------------------------------
-// What is asked: a job's bytes and calls, with the book they lead to.
+// What is asked: a job's bytes and calls, with the pins they leave.
 // ---------------------------------------------------------------------------
 
 struct Asked {
@@ -147,8 +149,10 @@ struct Asked {
     job: Job,
     /// Three numbers a call.
     calls: Vec<u16>,
+    /// What each call meets with: 0 or its number.
     answers: Vec<u8>,
-    book: Book,
+    /// The pins held after the last call.
+    pins: Pins,
 }
 
 impl Asked {
@@ -162,8 +166,14 @@ impl Asked {
         }
         bytes.shrink_to_fit();
         let calls = call_numbers(rng, &draft.commands);
-        let (answers, book) = keep_book(&job, &calls);
-        Asked { bytes, job, calls, answers, book }
+        Asked::with(bytes, job, calls)
+    }
+
+    fn with(bytes: Vec<u8>, job: Job, mut calls: Vec<u16>) -> Asked {
+        calls.shrink_to_fit();
+        let mut pins = vec![None; job.units.len()];
+        let answers = calls.chunks(3).map(|call| make_call(&job, &mut pins, call)).collect();
+        Asked { bytes, job, calls, answers, pins }
     }
 
     fn intervals(&self) -> usize {
@@ -196,18 +206,12 @@ fn typed_call(call: &[u16]) -> Call {
     }
 }
 
-/// The book of pins: each call's number, and the lines after the last.
-fn keep_book(job: &Job, calls: &[u16]) -> (Vec<u8>, Book) {
-    let mut book = vec![None; job.units.len()];
-    let answers = calls.chunks(3).map(|call| step_book(job, &mut book, call)).collect();
-    (answers, book)
-}
-
-fn step_book(job: &Job, book: &mut Book, call: &[u16]) -> u8 {
+/// Gives 0, or the number that refuses the call.
+fn make_call(job: &Job, pins: &mut Pins, call: &[u16]) -> u8 {
     let unit = call[1] as usize;
     let taken = match call[0] {
-        6 => pin(book, job.choices(), unit, call[2] as usize),
-        _ => lift(book, unit),
+        6 => pin(pins, job.choices(), unit, call[2] as usize),
+        _ => lift(pins, unit),
     };
     taken.err().unwrap_or(0)
 }
@@ -218,8 +222,88 @@ fn plan_bytes(plan: &Plan) -> Vec<u8> {
 
 /// The totals of an admissible plan, step by step.
 fn totals_of(asked: &Asked, plan: &Plan) -> Option<[u64; PLAN_VALUES]> {
-    let totals = replay(&asked.job, &asked.book, plan, |_, _| ())?;
+    let totals = replay(&asked.job, &asked.pins, plan, |_, _| ())?;
     Some(totals.numbers().map(|total| total as u64))
+}
+
+// ---------------------------------------------------------------------------
+// Calls alone.
+// ---------------------------------------------------------------------------
+
+/// Lends lists of just enough or somewhat more, and then each of them one short.
+fn check_calls(rng: &mut Rng, asked: &Asked) -> Checked {
+    let totals = pin_totals(&asked.job, &asked.pins);
+    let count = asked.answers.len();
+    let lengths = [count, CALLS_VALUES].map(|need| need + slack(rng));
+    let mut lent = CallLists::new(rng, lengths);
+    same("calls", 0, lent.make(&asked.bytes, &asked.calls))?;
+    lent.wrote(&asked.answers, &totals)?;
+    for which in 0..2 {
+        let Some(lengths) = one_short([count, CALLS_VALUES], which) else { continue };
+        let mut lent = CallLists::new(rng, lengths);
+        same("calls, a list one short", 12, lent.make(&asked.bytes, &asked.calls))?;
+        lent.kept()?;
+    }
+
+    let calls = asked.typed_calls();
+    let room = count + slack(rng);
+    let mut answers = Lent::new(rng, room);
+    let found = upload_planner::calls(&asked.bytes, &calls, answers.list());
+    same("typed calls", Ok(typed_pins(totals)), found)?;
+    answers.wrote("typed answers of calls", &asked.answers)?;
+    let owned =
+        upload_planner::called(&asked.bytes, &calls).map_err(|refusal| refusal.to_string())?;
+    same("owned totals of calls", typed_pins(totals), owned.totals)?;
+    same("owned answers of calls", &asked.answers, &answer_numbers(&owned.answers))
+}
+
+struct CallLists {
+    answers: Lent<u8>,
+    values: Lent<u64>,
+}
+
+impl CallLists {
+    /// `lengths`: answers, values.
+    fn new(rng: &mut Rng, lengths: [usize; 2]) -> CallLists {
+        CallLists { answers: Lent::new(rng, lengths[0]), values: Lent::new(rng, lengths[1]) }
+    }
+
+    fn make(&mut self, job: &[u8], calls: &[u16]) -> u32 {
+        numbers::calls(job, calls, self.answers.list(), self.values.list())
+    }
+
+    fn wrote(&self, answers: &[u8], values: &[u64]) -> Checked {
+        self.answers.wrote("answers of calls", answers)?;
+        self.values.wrote("values of calls", values)
+    }
+
+    fn kept(&self) -> Checked {
+        self.wrote(&[], &[])
+    }
+}
+
+fn typed_pins([count, grains, distortion]: [u64; CALLS_VALUES]) -> PinTotals {
+    PinTotals { count: count as usize, grains, distortion }
+}
+
+fn answer_numbers(answers: &[Result<(), upload_planner::Refusal>]) -> Vec<u8> {
+    let number = |refusal: upload_planner::Refusal| refusal.number() as u8;
+    answers.iter().map(|answer| answer.err().map_or(0, number)).collect()
+}
+
+/// How much longer a list is than it needs to be.
+fn slack(rng: &mut Rng) -> usize {
+    if rng.one_in(3) {
+        0
+    } else {
+        rng.from(1, 9)
+    }
+}
+
+/// The lengths with one of them less by one, if it is not 0.
+fn one_short<const N: usize>(mut lengths: [usize; N], which: usize) -> Option<[usize; N]> {
+    lengths[which] = lengths[which].checked_sub(1)?;
+    Some(lengths)
 }
 
 // ---------------------------------------------------------------------------
@@ -229,8 +313,8 @@ fn totals_of(asked: &Asked, plan: &Plan) -> Option<[u64; PLAN_VALUES]> {
 /// What each interval may decode: choice, grains, distortion.
 type Options = Vec<Vec<(usize, i64, i64)>>;
 
-fn all_options(job: &Job, book: &Book) -> Options {
-    (1..=job.intervals()).map(|t| options(job, book, t)).collect()
+fn all_options(job: &Job, pins: &Pins) -> Options {
+    (1..=job.intervals()).map(|t| options(job, pins, t)).collect()
 }
 
 /// Tries every completion of the levels after interval t.
@@ -254,8 +338,8 @@ fn least(job: &Job, options: &Options, t: usize, decoder: i64, bucket: i64) -> O
     found
 }
 
-fn brute_table(job: &Job, book: &Book) -> Vec<u32> {
-    let options = all_options(job, book);
+fn brute_table(job: &Job, pins: &Pins) -> Vec<u32> {
+    let options = all_options(job, pins);
     let mut table = Vec::new();
     for t in 0..=job.intervals() {
         for decoder in 0..=job.decoder_size {
@@ -277,13 +361,13 @@ const FAR: u32 = 1 << 30;
 /// decoder has between sending and decoding, then the least over rates. Both
 /// limits of the decoder lie in the rows: no peak past its size has one, and a
 /// unit is taken from no row below its own size.
-fn fast_table(job: &Job, book: &Book) -> Vec<u32> {
+fn fast_table(job: &Job, pins: &Pins) -> Vec<u32> {
     let (rows, width) = (job.decoder_size as usize + 1, job.bucket_size as usize + 1);
     let layer = rows * width;
     let mut table = vec![0; (job.intervals() + 1) * layer];
     let mut next = vec![0; layer];
     for t in (1..=job.intervals()).rev() {
-        let decoded = decode_layer(&options(job, book, t), &next, width);
+        let decoded = decode_layer(&options(job, pins, t), &next, width);
         next = send_layer(job, &decoded, rows, width);
         let words = next.iter().map(|&value| if value >= FAR { NEVER } else { value });
         let place = &mut table[(t - 1) * layer..t * layer];
@@ -336,7 +420,7 @@ fn send_row(best: &mut [u32], from: &[u32], rise: i64) {
 }
 
 /// The first plan in order whose every entry attains the table's word.
-fn read_off(job: &Job, book: &Book, table: &[u32]) -> Option<Plan> {
+fn read_off(job: &Job, pins: &Pins, table: &[u32]) -> Option<Plan> {
     let word = |t: usize, decoder: i64, bucket: i64| {
         let row = t as i64 * (job.decoder_size + 1) + decoder;
         table[(row * (job.bucket_size + 1) + bucket) as usize]
@@ -350,7 +434,7 @@ fn read_off(job: &Job, book: &Book, table: &[u32]) -> Option<Plan> {
         let due = word(t - 1, decoder, bucket);
         let mut taken = None;
         for (rate, &sent) in job.rates.iter().enumerate() {
-            for (choice, grains, distortion) in options(job, book, t) {
+            for (choice, grains, distortion) in options(job, pins, t) {
                 let Some(level) = by_peak(job, decoder, sent, grains) else { continue };
                 let (filled, _) = bucket_step(job, bucket, sent);
                 if taken.is_none() && filled <= job.bucket_size {
@@ -372,26 +456,29 @@ fn read_off(job: &Job, book: &Book, table: &[u32]) -> Option<Plan> {
 // Planning.
 // ---------------------------------------------------------------------------
 
-/// Lends lists of just enough or somewhat more and compares all of them. A plan
-/// that was found replays under the same calls.
+/// Lends lists of just enough or somewhat more and compares all of them; before
+/// that, where the table is not large, with one of the lists one short. The calls
+/// alone meet with the same, and a plan that was found replays under them.
 fn check_plan(rng: &mut Rng, asked: &Asked, table: &[u32], plan: &Option<Plan>) -> Checked {
-    let mut slack = || if rng.one_in(3) { 0 } else { rng.from(1, 9) };
-    let lengths = [
-        asked.answers.len() + slack(),
-        table.len() + slack(),
-        2 * asked.intervals() + slack(),
-        PLAN_VALUES + slack(),
-    ];
+    check_calls(rng, asked)?;
+    let needs = [asked.answers.len(), table.len(), 2 * asked.intervals(), PLAN_VALUES];
+    let which = rng.from(0, 3);
+    if let (Some(lengths), true) = (one_short(needs, which), table.len() < 5000) {
+        let mut lent = PlanLists::new(rng, lengths);
+        let due = if which == 1 { 11 } else { 12 };
+        same("plan, a list one short", due, lent.plan(&asked.bytes, &asked.calls))?;
+        lent.kept()?;
+    }
+    let lengths = needs.map(|need| need + slack(rng));
     let mut lent = PlanLists::new(rng, lengths);
     let number = lent.plan(&asked.bytes, &asked.calls);
-    lent.answers.wrote("answers", &asked.answers)?;
     lent.table.wrote("table", table)?;
     let Some(plan) = plan else {
         same("plan", 13, number)?;
-        lent.entries.kept("entries")?;
-        return lent.values.kept("values");
+        return lent.kept_but_table();
     };
     same("plan", 0, number)?;
+    lent.answers.wrote("answers", &asked.answers)?;
     lent.entries.wrote("entries", &plan_bytes(plan))?;
     let totals = totals_of(asked, plan).ok_or("the plan due is not admissible")?;
     lent.values.wrote("values", &totals)?;
@@ -428,8 +515,12 @@ impl PlanLists {
     }
 
     fn kept(&self) -> Checked {
-        self.answers.kept("answers")?;
         self.table.kept("table")?;
+        self.kept_but_table()
+    }
+
+    fn kept_but_table(&self) -> Checked {
+        self.answers.kept("answers")?;
         self.entries.kept("entries")?;
         self.values.kept("values")
     }
@@ -449,28 +540,26 @@ fn check_open(rng: &mut Rng, asked: &Asked) -> Checked {
 fn check_typed(asked: &Asked, table: &[u32], plan: &Option<Plan>) -> Checked {
     let calls = asked.typed_calls();
     let opened = upload_planner::open(&asked.bytes).map_err(|refusal| refusal.to_string())?;
-    let mut answers = vec![0; calls.len()];
+    let mut answers = vec![99; calls.len()];
     let mut words = vec![0; opened.table_words];
     let mut entries = vec![0; 2 * opened.intervals];
     let found = upload_planner::plan(&asked.bytes, &calls, &mut answers, &mut words, &mut entries);
     let owned = upload_planner::best_plan(&asked.bytes, &calls);
-    same("typed answers", &asked.answers, &answers)?;
     ensure!(words == table, "the typed table is another");
     let Some(plan) = plan else {
         same("typed plan", Err(13), found.map_err(|refusal| refusal.number()))?;
+        same("typed answers after 13", vec![99; calls.len()], answers)?;
         return same("owned plan", Some(13), owned.err().map(|refusal| refusal.number()));
     };
     let found = found.map_err(|refusal| refusal.to_string())?;
     let owned = owned.map_err(|refusal| refusal.to_string())?;
     same("typed totals", totals_of(asked, plan).map(typed_totals), Some(found))?;
+    same("typed answers", &asked.answers, &answers)?;
     same("typed entries", plan_bytes(plan), entries)?;
     same("owned totals", found, owned.totals)?;
     same("owned entries", plan_bytes(plan), owned.entries)?;
     ensure!(owned.table == table, "the owned table is another");
-    let answer = |answer: Result<(), upload_planner::Refusal>| {
-        answer.err().map_or(0, |refusal| refusal.number() as u8)
-    };
-    same("owned answers", &asked.answers, &owned.answers.into_iter().map(answer).collect())
+    same("owned answers", &asked.answers, &answer_numbers(&owned.answers))
 }
 
 /// Each job's table by trying all completions, its plan by trying all plans;
@@ -482,12 +571,12 @@ fn tiny_group(seed: u64, asks: bool) -> Result<String, String> {
     for index in 1..=jobs {
         let draft = random_job(&mut rng, &TINY);
         let asked = Asked::new(&mut rng, &draft);
-        let table = brute_table(&asked.job, &asked.book);
-        let all = enumerate(&asked.job, &asked.book);
+        let table = brute_table(&asked.job, &asked.pins);
+        let all = enumerate(&asked.job, &asked.pins);
         let check = |rng: &mut Rng| -> Checked {
-            same("fast table", &table, &fast_table(&asked.job, &asked.book))?;
-            same("plan read off", &all.best, &read_off(&asked.job, &asked.book, &table))?;
-            same("dynamic program", &all.best, &dynamic(&asked.job, &asked.book))?;
+            same("fast table", &table, &fast_table(&asked.job, &asked.pins))?;
+            same("plan read off", &all.best, &read_off(&asked.job, &asked.pins, &table))?;
+            same("dynamic program", &all.best, &dynamic(&asked.job, &asked.pins))?;
             check_open(rng, &asked)?;
             check_plan(rng, &asked, &table, &all.best)?;
             check_typed(&asked, &table, &all.best)
@@ -521,10 +610,10 @@ fn larger_group(seed: u64, asks: bool) -> Result<String, String> {
         let draft =
             if index <= medium { random_job(&mut rng, &MEDIUM) } else { random_long_job(&mut rng) };
         let asked = Asked::new(&mut rng, &draft);
-        let table = fast_table(&asked.job, &asked.book);
-        let plan = dynamic(&asked.job, &asked.book);
+        let table = fast_table(&asked.job, &asked.pins);
+        let plan = dynamic(&asked.job, &asked.pins);
         let check = |rng: &mut Rng| -> Checked {
-            same("plan read off", &plan, &read_off(&asked.job, &asked.book, &table))?;
+            same("plan read off", &plan, &read_off(&asked.job, &asked.pins, &table))?;
             check_open(rng, &asked)?;
             check_plan(rng, &asked, &table, &plan)
         };
@@ -541,14 +630,14 @@ fn larger_group(seed: u64, asks: bool) -> Result<String, String> {
 // Replay and report.
 // ---------------------------------------------------------------------------
 
-/// Levels up to the first breach, and the values due.
+/// Levels up to the first violation, and the values due.
 struct Followed {
     levels: Vec<u16>,
     values: [u64; REPLAY_VALUES],
     /// What the decoder holds just before and just after the unit leaves, up to
-    /// the first breach and in its interval too.
+    /// the first violation and in its interval too.
     decoder: Vec<(i64, i64)>,
-    /// The unused drain before the first breach.
+    /// The unused drain before the first violation.
     unused: i64,
 }
 
@@ -565,7 +654,7 @@ const NOT_HELD: u64 = 4;
 /// 0 after each interval, is the larger of its start and all rises, and all rises
 /// since some interval. Its unused drain is the most by which its start and all
 /// rises up to some interval have fallen below 0: so much was never there.
-fn follow(job: &Job, book: &Book, plan: &Plan) -> Followed {
+fn follow(job: &Job, pins: &Pins, plan: &Plan) -> Followed {
     let sent = |t: usize| job.rates[plan[t - 1].0];
     let unit = |t: usize| t.checked_sub(job.delay + 1);
     let choice = |t: usize| unit(t).map(|unit| &job.units[unit][plan[t - 1].1]);
@@ -580,14 +669,14 @@ fn follow(job: &Job, book: &Book, plan: &Plan) -> Followed {
         let risen = (1..=t).map(since).max().expect("an interval");
         let uncut = job.start_bucket + since(0);
         let bucket = risen.max(uncut);
-        let pinned = unit(t).and_then(|unit| book[unit]);
-        let breaches = [
+        let pinned = unit(t).and_then(|unit| pins[unit]);
+        let violations = [
             (OVER, peak > job.decoder_size),
             (SHORT, level < 0),
             (BUCKET_OVER, bucket > job.bucket_size),
             (NOT_HELD, pinned.is_some_and(|pinned| pinned != plan[t - 1].1)),
         ];
-        if let Some((first, _)) = breaches.into_iter().find(|(_, breach)| *breach) {
+        if let Some((first, _)) = violations.into_iter().find(|(_, found)| *found) {
             return Followed { levels, values: [first, t as u64, 0, 0, 0, 0], decoder, unused };
         }
         levels.extend([level as u16, bucket as u16]);
@@ -600,11 +689,20 @@ fn follow(job: &Job, book: &Book, plan: &Plan) -> Followed {
 }
 
 fn check_replay(rng: &mut Rng, asked: &Asked, plan: &Plan) -> Checked {
-    let due = follow(&asked.job, &asked.book, plan);
+    let due = follow(&asked.job, &asked.pins, plan);
     let [violation, _, totals @ ..] = due.values;
     same("step by step", (violation == 0).then_some(totals), totals_of(asked, plan))?;
     let entries = plan_bytes(plan);
-    let (room, more) = (2 * asked.intervals() + rng.from(0, 7), REPLAY_VALUES + rng.from(0, 3));
+    let needs = [2 * asked.intervals(), REPLAY_VALUES];
+    let [room, more] = one_short(needs, rng.from(0, 1)).expect("needed");
+    let mut levels: Lent<u16> = Lent::new(rng, room);
+    let mut values: Lent<u64> = Lent::new(rng, more);
+    let found = numbers::replay(&asked.bytes, &asked.calls, &entries, levels.list(), values.list());
+    same("replay, a list one short", 12, found)?;
+    levels.kept("levels after 12")?;
+    values.kept("values of replay after 12")?;
+
+    let [room, more] = needs.map(|need| need + slack(rng));
     let mut levels = Lent::new(rng, room);
     let mut values = Lent::new(rng, more);
     let found = numbers::replay(&asked.bytes, &asked.calls, &entries, levels.list(), values.list());
@@ -640,7 +738,7 @@ fn typed_replay([kind, interval, totals @ ..]: [u64; REPLAY_VALUES]) -> Replayed
         BUCKET_OVER => Violation::BucketOver,
         _ => Violation::PinNotHeld,
     };
-    Replayed::Breach { violation, interval: interval as usize }
+    Replayed::Violated { violation, interval: interval as usize }
 }
 
 /// For i from 0 to N what intervals i + 1 to i + d send, each sum added anew.
@@ -662,9 +760,9 @@ fn random_entry(rng: &mut Rng, job: &Job, t: usize) -> Entry {
     (rng.from(0, job.rates.len() - 1), choice)
 }
 
-/// Entries drawn until one goes on without a breach, for some tries; now and
-/// then one that is not tried, so that breaches stand deep in the plan too.
-fn random_plan(rng: &mut Rng, job: &Job, book: &Book) -> Plan {
+/// Entries drawn until one goes on without a violation, for some tries; now and
+/// then one that is not tried, so that violations stand deep in the plan too.
+fn random_plan(rng: &mut Rng, job: &Job, pins: &Pins) -> Plan {
     let tries = rng.pick(&[1, 3, 30, 30, 300]);
     let careless = rng.pick(&[2, 10, 1000]);
     let regards_pins = !rng.one_in(3);
@@ -678,7 +776,7 @@ fn random_plan(rng: &mut Rng, job: &Job, book: &Book) -> Plan {
             let taken = unit.map_or(0, |unit| job.units[unit][entry.1].grains);
             let level = by_peak(job, decoder, sent, taken);
             let (filled, _) = bucket_step(job, bucket, sent);
-            let pinned = unit.and_then(|unit| book[unit]).unwrap_or(entry.1);
+            let pinned = unit.and_then(|unit| pins[unit]).unwrap_or(entry.1);
             let held = pinned == entry.1 || !regards_pins;
             if let (Some(level), true) = (level, held && filled <= job.bucket_size) {
                 (decoder, bucket) = (level, filled);
@@ -702,7 +800,7 @@ fn replay_group(seed: u64, asks: bool) -> Result<String, String> {
             if index % 60 == 1 { random_long_job(&mut rng) } else { random_job(&mut rng, shape) };
         let asked = Asked::new(&mut rng, &draft);
         for _ in 0..10 {
-            let plan = random_plan(&mut rng, &asked.job, &asked.book);
+            let plan = random_plan(&mut rng, &asked.job, &asked.pins);
             let check = |rng: &mut Rng| -> Checked {
                 check_replay(rng, &asked, &plan)?;
                 check_report(rng, &asked, &plan)?;
@@ -711,7 +809,7 @@ fn replay_group(seed: u64, asks: bool) -> Result<String, String> {
             let named = |trouble: String| format!("{trouble}\n  plan {plan:?}");
             let checked = check(&mut rng).map_err(named);
             checked.map_err(|trouble| failed(seed, index, &trouble, &asked))?;
-            let due = follow(&asked.job, &asked.book, &plan).values;
+            let due = follow(&asked.job, &asked.pins, &plan).values;
             tally[due[0] as usize] += 1;
             deep += (due[1] > 2) as usize;
         }
@@ -719,7 +817,7 @@ fn replay_group(seed: u64, asks: bool) -> Result<String, String> {
     let [clean, short, over, bucket, pin] = tally;
     let counts = format!(
         "{} plans: {clean} clean, {short} decoder short, {over} decoder over, {bucket} bucket \
-         over, {pin} pin not held; {deep} breaches past interval 2",
+         over, {pin} pin not held; {deep} violations past interval 2",
         10 * jobs
     );
     let worthwhile = tally.iter().all(|count| count * 50 > jobs) && deep * 10 > jobs;
@@ -954,7 +1052,7 @@ fn peaks_group() -> Result<String, String> {
     ] {
         let asked = Asked::new(&mut rng, &draft.with(START_DECODER, start));
         let what = format!("from {start} with {plan:?}");
-        same(&what, due, follow(&asked.job, &asked.book, &vec![plan]).values)?;
+        same(&what, due, follow(&asked.job, &asked.pins, &vec![plan]).values)?;
         check_replay(&mut rng, &asked, &vec![plan])
             .map_err(|trouble| format!("{what}: {trouble}"))?;
     }
@@ -962,7 +1060,7 @@ fn peaks_group() -> Result<String, String> {
     // As many grains as a plan can come to, more than sixteen bits count.
     let units = vec![vec![(255, 1_000_000)]; 512];
     let asked = Asked::new(&mut rng, &Draft::new([0, 255, 0, 255, 0, 0], &[255], &units));
-    let (table, plan) = (fast_table(&asked.job, &asked.book), vec![(0, 0); 512]);
+    let (table, plan) = (fast_table(&asked.job, &asked.pins), vec![(0, 0); 512]);
     let due = Some([512_000_000, 130_560, 130_560, 0]);
     same("512 full units", due, totals_of(&asked, &plan))?;
     check_plan(&mut rng, &asked, &table, &Some(plan))?;
@@ -1032,7 +1130,7 @@ fn check_violations(
         0 => [0, 0, 5 + 5, 0, sent as u64, unused],
         _ => [first as u64, t as u64, 0, 0, 0, 0],
     };
-    same("followed", due, follow(&asked.job, &asked.book, &plan).values)?;
+    same("followed", due, follow(&asked.job, &asked.pins, &plan).values)?;
     check_replay(rng, &asked, &plan)
 }
 
@@ -1092,17 +1190,17 @@ fn telling_jobs(
         let shape = (index > counts[0]) as usize + (index > counts[0] + counts[1]) as usize;
         let draft = random_tight_job(&mut rng, &shapes[shape]);
         let asked = Asked::new(&mut rng, &draft);
-        let plan = dynamic(&asked.job, &asked.book);
+        let plan = dynamic(&asked.job, &asked.pins);
         let mut check = || -> Checked {
-            let table = fast_table(&asked.job, &asked.book);
+            let table = fast_table(&asked.job, &asked.pins);
             if shape == 0 {
-                same("fast table", &brute_table(&asked.job, &asked.book), &table)?;
-                same("plan of all", &enumerate(&asked.job, &asked.book).best, &plan)?;
+                same("fast table", &brute_table(&asked.job, &asked.pins), &table)?;
+                same("plan of all", &enumerate(&asked.job, &asked.pins).best, &plan)?;
             }
-            same("plan read off", &plan, &read_off(&asked.job, &asked.book, &table))?;
+            same("plan read off", &plan, &read_off(&asked.job, &asked.pins, &table))?;
             check_plan(&mut rng, &asked, &table, &plan)?;
             for _ in 0..PLANS_A_JOB {
-                let tight = tight_plan(&mut rng, &asked.job, &asked.book);
+                let tight = tight_plan(&mut rng, &asked.job, &asked.pins);
                 check_replay(&mut rng, &asked, &tight)
                     .map_err(|trouble| format!("{trouble}\n  plan {tight:?}"))?;
                 see(&asked, &tight);
@@ -1111,7 +1209,7 @@ fn telling_jobs(
         };
         check().map_err(|trouble| failed(seed, index, &trouble, &asked))?;
         plans += plan.is_some() as usize;
-        told.count(&asked.job, &asked.book, plan.as_ref());
+        told.count(&asked.job, &asked.pins, plan.as_ref());
     }
     Ok(Telling { jobs, plans, told })
 }
@@ -1132,7 +1230,7 @@ struct Sharp {
 impl Sharp {
     fn count(&mut self, asked: &Asked, plan: &Plan) {
         let size = asked.job.decoder_size;
-        let Followed { values, decoder, .. } = follow(&asked.job, &asked.book, plan);
+        let Followed { values, decoder, .. } = follow(&asked.job, &asked.pins, plan);
         for (t, &(peak, level)) in (1..).zip(&decoder) {
             let breaks = values[1] == t as u64;
             self.full += (!breaks && peak == size && level < peak) as usize;
@@ -1144,9 +1242,9 @@ impl Sharp {
     }
 }
 
-/// Goes on without a breach where that is possible, half of the time with the
+/// Goes on without a violation where that is possible, half of the time with the
 /// highest peak; now and then any entry.
-fn tight_plan(rng: &mut Rng, job: &Job, book: &Book) -> Plan {
+fn tight_plan(rng: &mut Rng, job: &Job, pins: &Pins) -> Plan {
     let slip = rng.pick(&[2, 8, 1000]);
     let (mut decoder, mut bucket) = (job.start_decoder, job.start_bucket);
     let mut plan = Vec::new();
@@ -1154,7 +1252,7 @@ fn tight_plan(rng: &mut Rng, job: &Job, book: &Book) -> Plan {
         let mut going = Vec::new();
         for (rate, &sent) in job.rates.iter().enumerate() {
             let (filled, _) = bucket_step(job, bucket, sent);
-            for (choice, grains, _) in options(job, book, t) {
+            for (choice, grains, _) in options(job, pins, t) {
                 let level = by_peak(job, decoder, sent, grains);
                 if let (Some(level), true) = (level, filled <= job.bucket_size) {
                     going.push((decoder + sent, (rate, choice), level, filled));
@@ -1186,8 +1284,8 @@ fn unused_group() -> Result<String, String> {
     let rows = unused_by_hand();
     for (what, draft, unused) in &rows {
         let asked = Asked::new(&mut rng, draft);
-        let table = fast_table(&asked.job, &asked.book);
-        let plan = read_off(&asked.job, &asked.book, &table);
+        let table = fast_table(&asked.job, &asked.pins);
+        let plan = read_off(&asked.job, &asked.pins, &table);
         // Every unit has a distortion of 1, and takes what its interval sends.
         let sent: u64 = draft.units.iter().map(|unit| unit[0].0 as u64).sum();
         let due = [asked.job.units.len() as u64, sent, sent, *unused as u64];
@@ -1203,7 +1301,7 @@ fn unused_group() -> Result<String, String> {
 fn idle_group(seed: u64, asks: bool) -> Result<String, String> {
     let (mut idle, mut busy, mut hidden) = (0, 0, 0);
     let see = |asked: &Asked, plan: &Plan| {
-        let Followed { values, unused, .. } = follow(&asked.job, &asked.book, plan);
+        let Followed { values, unused, .. } = follow(&asked.job, &asked.pins, plan);
         match (values[0], unused) {
             (0, 0) => busy += 1,
             (0, _) => idle += 1,
@@ -1222,10 +1320,10 @@ fn idle_group(seed: u64, asks: bool) -> Result<String, String> {
 }
 
 // ---------------------------------------------------------------------------
-// Long sittings.
+// Long sessions.
 // ---------------------------------------------------------------------------
 
-const SITTING: Shape = Shape {
+const SESSION: Shape = Shape {
     units: (1, 40),
     delay: (0, 4),
     decoder: 9,
@@ -1237,24 +1335,24 @@ const SITTING: Shape = Shape {
     commands: 0,
 };
 
-/// Calls of which about a third are refused. In half of the sittings
+/// Calls of which about a third are refused. In half of the sessions
 /// the last calls lift most of what is pinned, so that there is a plan.
 fn long_list(rng: &mut Rng, job: &Job, count: usize) -> Vec<u16> {
-    let mut book: Book = vec![None; job.units.len()];
+    let mut pins: Pins = vec![None; job.units.len()];
     let mut calls = Vec::new();
     let light = rng.one_in(2);
     for _ in 0..count {
         let call = if rng.one_in(3) {
-            bad_call(rng, job, &book)
+            bad_call(rng, job, &pins)
         } else {
-            good_call(rng, job, &book, light)
+            good_call(rng, job, &pins, light)
         };
-        step_book(job, &mut book, &call);
+        make_call(job, &mut pins, &call);
         calls.extend(call);
     }
     if rng.one_in(2) {
         for unit in 1..=job.units.len() {
-            if book[unit - 1].is_some() && !rng.one_in(6) {
+            if pins[unit - 1].is_some() && !rng.one_in(6) {
                 calls.extend([7, unit as u16, rng.next() as u16]);
             }
         }
@@ -1262,17 +1360,17 @@ fn long_list(rng: &mut Rng, job: &Job, count: usize) -> Vec<u16> {
     calls
 }
 
-fn good_call(rng: &mut Rng, job: &Job, book: &Book, light: bool) -> [u16; 3] {
+fn good_call(rng: &mut Rng, job: &Job, pins: &Pins, light: bool) -> [u16; 3] {
     let unit = rng.from(1, job.units.len());
     let last = job.choices() - 1;
     let choice = if light { last } else { rng.from(0, last) };
-    match book[unit - 1] {
+    match pins[unit - 1] {
         Some(_) => [7, unit as u16, rng.next() as u16],
         None => [6, unit as u16, choice as u16],
     }
 }
 
-fn bad_call(rng: &mut Rng, job: &Job, book: &Book) -> [u16; 3] {
+fn bad_call(rng: &mut Rng, job: &Job, pins: &Pins) -> [u16; 3] {
     let units = job.units.len() as u16;
     let unit = rng.from(1, units as usize) as u16;
     let beyond = rng.pick(&[0, units + 1, unit + 256, unit | 0x8000, 513, 0xffff]);
@@ -1284,12 +1382,12 @@ fn bad_call(rng: &mut Rng, job: &Job, book: &Book) -> [u16; 3] {
     match rng.from(0, 3) {
         0 => [rng.pick(&[6, 7]), beyond, rng.pick(&[choice, no_choice])],
         1 => [6, unit, no_choice],
-        _ if book[unit as usize - 1].is_some() => [6, unit, choice],
+        _ if pins[unit as usize - 1].is_some() => [6, unit, choice],
         _ => [7, unit, choice],
     }
 }
 
-fn sittings_group(seed: u64, asks: bool) -> Result<String, String> {
+fn sessions_group(seed: u64, asks: bool) -> Result<String, String> {
     let mut rng = Rng(seed);
     let (mut calls, mut refused, mut plans, mut pins) = (0, 0, 0, 0);
     let jobs = scaled(150);
@@ -1297,9 +1395,9 @@ fn sittings_group(seed: u64, asks: bool) -> Result<String, String> {
         let draft = if index % 15 == 1 {
             random_long_job(&mut rng)
         } else {
-            random_job(&mut rng, &SITTING)
+            random_job(&mut rng, &SESSION)
         };
-        let mut asked = Asked::new(&mut rng, &draft);
+        let asked = Asked::new(&mut rng, &draft);
         let count = match index {
             _ if small() => rng.from(20, 60),
             // More calls, and more numbers, than sixteen bits count.
@@ -1307,48 +1405,210 @@ fn sittings_group(seed: u64, asks: bool) -> Result<String, String> {
             3 => 22_000,
             _ => rng.from(200, 600),
         };
-        asked.calls = long_list(&mut rng, &asked.job, count);
-        (asked.answers, asked.book) = keep_book(&asked.job, &asked.calls);
-        let planned = check_sitting(&mut rng, &asked);
+        let list = long_list(&mut rng, &asked.job, count);
+        let asked = Asked::with(asked.bytes, asked.job, list);
+        let planned = check_session(&mut rng, &asked);
         plans += planned.map_err(|trouble| failed(seed, index, &trouble, &asked))? as usize;
         calls += asked.answers.len();
         refused += asked.answers.iter().filter(|answer| **answer != 0).count();
-        pins += asked.book.iter().flatten().count();
+        pins += asked.pins.iter().flatten().count();
     }
     let counts = format!(
-        "{jobs} sittings, {calls} calls, {refused} refused, {pins} pins stand, {plans} plans"
+        "{jobs} sessions, {calls} calls, {refused} refused, {pins} pins stand, {plans} plans"
     );
     let worthwhile = refused * 5 > calls && refused * 2 < calls && plans * 4 > jobs && pins > jobs;
     ensure!(worthwhile || !asks, "too little in it: {counts}");
     Ok(counts)
 }
 
+/// The calls of a fresh session that sets only these pins, in any order.
+fn fresh_calls(rng: &mut Rng, pins: &Pins) -> Vec<u16> {
+    let call = |(i, pinned): (usize, &Option<usize>)| Some([6, i as u16 + 1, (*pinned)? as u16]);
+    let mut calls: Vec<[u16; 3]> = pins.iter().enumerate().filter_map(call).collect();
+    for i in (1..calls.len()).rev() {
+        calls.swap(i, rng.from(0, i));
+    }
+    calls.concat()
+}
+
 /// True if there is a plan.
-fn check_sitting(rng: &mut Rng, asked: &Asked) -> Result<bool, String> {
-    let table = fast_table(&asked.job, &asked.book);
-    let plan = read_off(&asked.job, &asked.book, &table);
+fn check_session(rng: &mut Rng, asked: &Asked) -> Result<bool, String> {
+    let table = fast_table(&asked.job, &asked.pins);
+    let plan = read_off(&asked.job, &asked.pins, &table);
     check_plan(rng, asked, &table, &plan)?;
-    let other = random_plan(rng, &asked.job, &asked.book);
+    let other = random_plan(rng, &asked.job, &asked.pins);
     check_replay(rng, asked, &other)?;
 
-    // A fresh sitting with only the pins that stand, set in any order.
-    let standing = asked.book.iter().enumerate();
-    let mut pins: Vec<[u16; 3]> = standing
-        .filter_map(|(i, line)| Some([6, i as u16 + 1, line.as_ref().copied()? as u16]))
-        .collect();
-    for i in (1..pins.len()).rev() {
-        pins.swap(i, rng.from(0, i));
-    }
+    let calls = fresh_calls(rng, &asked.pins);
     let lengths = [asked.answers.len(), table.len(), 2 * asked.intervals(), PLAN_VALUES];
     let mut long = PlanLists::new(&mut Rng(1), lengths);
     let mut fresh = PlanLists::new(&mut Rng(1), lengths);
-    let numbers = (long.plan(&asked.bytes, &asked.calls), fresh.plan(&asked.bytes, &pins.concat()));
-    same("a fresh sitting's answer", numbers.0, numbers.1)?;
-    fresh.answers.wrote("a fresh sitting's answers", &vec![0; pins.len()])?;
-    same("a fresh sitting's values", long.values.list(), fresh.values.list())?;
-    same("a fresh sitting's entries", long.entries.list(), fresh.entries.list())?;
-    ensure!(long.table.list() == fresh.table.list(), "a fresh sitting's table is another");
+    let numbers = (long.plan(&asked.bytes, &asked.calls), fresh.plan(&asked.bytes, &calls));
+    same("a fresh session's answer", numbers.0, numbers.1)?;
+    if plan.is_some() {
+        fresh.answers.wrote("a fresh session's answers", &vec![0; calls.len() / 3])?;
+    }
+    same("a fresh session's values", long.values.list(), fresh.values.list())?;
+    same("a fresh session's entries", long.entries.list(), fresh.entries.list())?;
+    ensure!(long.table.list() == fresh.table.list(), "a fresh session's table is another");
     Ok(plan.is_some())
+}
+
+// ---------------------------------------------------------------------------
+// Calls alone: by hand, in every order, and of random jobs.
+// ---------------------------------------------------------------------------
+
+/// What Job A's calls meet with, and the totals of the pins that they leave. Unit 1
+/// takes 4 grains at 10 or 2 at 30, unit 2 takes 5 at 12 or 2 at 40.
+fn calls_by_hand_group() -> Result<String, String> {
+    let mut rng = Rng(1);
+    let rows: [(&[[u16; 3]], &[u8], [u64; 3]); 26] = [
+        (&[], &[], [0, 0, 0]),
+        (&[[6, 1, 0]], &[0], [1, 4, 10]),
+        (&[[6, 1, 1]], &[0], [1, 2, 30]),
+        (&[[6, 2, 0]], &[0], [1, 5, 12]),
+        (&[[6, 2, 1]], &[0], [1, 2, 40]),
+        (&[[6, 1, 0], [6, 2, 0]], &[0, 0], [2, 9, 22]),
+        (&[[6, 2, 1], [6, 1, 1]], &[0, 0], [2, 4, 70]),
+        // A lift takes the pin off the totals too, whatever its third number.
+        (&[[6, 1, 0], [7, 1, 0]], &[0, 0], [0, 0, 0]),
+        (&[[6, 1, 0], [7, 1, 1]], &[0, 0], [0, 0, 0]),
+        (&[[6, 1, 0], [7, 1, 0xffff]], &[0, 0], [0, 0, 0]),
+        (&[[6, 1, 0], [6, 2, 1], [7, 1, 1]], &[0, 0, 0], [1, 2, 40]),
+        (&[[6, 1, 0], [6, 2, 1], [7, 2, 0]], &[0, 0, 0], [1, 4, 10]),
+        (&[[6, 1, 0], [7, 1, 0], [6, 1, 1]], &[0, 0, 0], [1, 2, 30]),
+        // A refused call changes nothing, and those after it are made.
+        (&[[7, 1, 0]], &[10], [0, 0, 0]),
+        (&[[7, 2, 0], [6, 2, 0], [7, 2, 0], [7, 2, 0]], &[10, 0, 0, 10], [0, 0, 0]),
+        (&[[6, 1, 0], [6, 1, 1]], &[0, 9], [1, 4, 10]),
+        (&[[6, 1, 1], [6, 1, 1], [6, 1, 0]], &[0, 9, 9], [1, 2, 30]),
+        (&[[6, 1, 0], [6, 1, 1], [7, 1, 0], [6, 1, 1]], &[0, 9, 0, 0], [1, 2, 30]),
+        (&[[6, 1, 0], [7, 2, 0]], &[0, 10], [1, 4, 10]),
+        (&[[6, 3, 0], [6, 2, 2], [6, 2, 1]], &[7, 8, 0], [1, 2, 40]),
+        // 7, then 8, then 9 or 10; numbers that are in range in one byte alone.
+        (&[[6, 0, 0], [6, 3, 0], [7, 0, 0], [7, 3, 0]], &[7, 7, 7, 7], [0, 0, 0]),
+        (&[[6, 0, 2], [6, 3, 0xffff], [6, 0xffff, 2]], &[7, 7, 7], [0, 0, 0]),
+        (&[[6, 257, 0], [6, 0x8001, 0], [7, 258, 0]], &[7, 7, 7], [0, 0, 0]),
+        (&[[6, 1, 2], [6, 2, 255], [6, 1, 256], [6, 1, 257]], &[8, 8, 8, 8], [0, 0, 0]),
+        (&[[6, 1, 0], [6, 1, 2], [6, 0, 0]], &[0, 8, 7], [1, 4, 10]),
+        (&[[6, 1, 0], [7, 257, 0], [7, 0, 0]], &[0, 7, 7], [1, 4, 10]),
+    ];
+    for (calls, answers, totals) in rows {
+        check_totals(&mut rng, &job_a(), calls, answers, totals)
+            .map_err(|trouble| format!("calls {calls:?}: {trouble}"))?;
+    }
+
+    // 512 units, of which unit u takes u grains at a distortion of 1,000 u: all are
+    // pinned, the even ones lifted, then the rest. In the last line both sums are as
+    // large as they may be.
+    let units: Vec<_> = (1..=512).map(|unit| vec![(0, 7), (unit, 1000 * unit as u32)]).collect();
+    let draft = Draft::new([0; 6], &[0], &units);
+    let pins: Vec<[u16; 3]> = (1..=512).rev().map(|unit| [6, unit, 1]).collect();
+    let lifts =
+        |from: u16| -> Vec<[u16; 3]> { (from..=512).step_by(2).map(|unit| [7, unit, 0]).collect() };
+    let largest = Draft::new([0; 6], &[0], &vec![vec![(0, 0), (4095, 1_000_000)]; 512]);
+    for (draft, calls, totals) in [
+        (&draft, pins.clone(), [512, 131_328, 131_328_000]),
+        (&draft, [pins.clone(), lifts(2)].concat(), [256, 65_536, 65_536_000]),
+        (&draft, [pins.clone(), lifts(2), lifts(1)].concat(), [0, 0, 0]),
+        (&largest, pins, [512, 2_096_640, 512_000_000]),
+    ] {
+        check_totals(&mut rng, draft, &calls, &vec![0; calls.len()], totals)
+            .map_err(|trouble| format!("512 units, {} calls: {trouble}", calls.len()))?;
+    }
+    Ok(format!("{} lists by hand", rows.len() + 4))
+}
+
+fn check_totals(
+    rng: &mut Rng,
+    draft: &Draft,
+    calls: &[[u16; 3]],
+    answers: &[u8],
+    totals: [u64; 3],
+) -> Checked {
+    let asked = Asked::new(rng, draft);
+    let asked = Asked::with(asked.bytes, asked.job, calls.concat());
+    same("answers by hand", answers, &asked.answers)?;
+    same("totals by hand", totals, pin_totals(&asked.job, &asked.pins))?;
+    check_calls(rng, &asked)
+}
+
+/// Every short list of calls on a job whose pins all have other totals.
+fn calls_in_every_order_group() -> Result<String, String> {
+    let mut rng = Rng(1);
+    let units = [vec![(3, 10), (1, 31)], vec![(8, 12), (20, 40)]];
+    let draft = Draft::new([1, 4, 3, 2, 0, 0], &[0, 2, 3], &units);
+    let lists = command_lists();
+    let mut made = 0;
+    for list in lists.iter().step_by(if small() { 31 } else { 1 }) {
+        let asked = Asked::new(&mut rng, &draft.commanded(list));
+        check_calls(&mut rng, &asked)
+            .map_err(|trouble| format!("{trouble}\n  {}", asked.show()))?;
+        made += 1;
+    }
+    Ok(format!("{made} lists of calls"))
+}
+
+/// As many units, rates and choices as a job may have, and the largest numbers. No
+/// table is made of such jobs.
+const LARGE: Shape = Shape { units: (1, 512), ..WIDE };
+
+/// Jobs of all sizes, with lists of calls from none to many.
+fn calls_group(seed: u64, asks: bool) -> Result<String, String> {
+    let mut rng = Rng(seed);
+    let mut tally: BTreeMap<u8, usize> = BTreeMap::new();
+    let (mut calls, mut pins, mut lifted, mut wide, mut none) = (0, 0, 0, 0, 0);
+    let jobs = scaled(1500);
+    for index in 1..=jobs {
+        let large = index % 30 == 7;
+        let draft = match large {
+            true => random_job(&mut rng, &LARGE),
+            false => random_mixed_job(&mut rng, index),
+        };
+        let most = if large { 200 } else { rng.pick(&[0, 2, 10, 100]) };
+        let count = rng.from(most / 2, most);
+        let Asked { bytes, job, .. } = Asked::new(&mut rng, &draft);
+        let list = long_list(&mut rng, &job, count);
+        let asked = Asked::with(bytes, job, list);
+        let mut check = || -> Checked {
+            check_calls(&mut rng, &asked)?;
+            check_fresh(&mut rng, &asked)
+        };
+        check().map_err(|trouble| failed(seed, index, &trouble, &asked))?;
+        for (call, answer) in asked.calls.chunks(3).zip(&asked.answers) {
+            *tally.entry(*answer).or_default() += 1;
+            lifted += (call[0] == 7 && *answer == 0) as usize;
+        }
+        let [count, grains, _] = pin_totals(&asked.job, &asked.pins);
+        calls += asked.answers.len();
+        pins += count as usize;
+        wide += (grains > 65_535) as usize;
+        none += asked.calls.is_empty() as usize;
+    }
+    let each: Vec<String> =
+        tally.iter().map(|(number, count)| format!("{count} {number}")).collect();
+    let counts = format!(
+        "{jobs} jobs, {none} without a call, {calls} calls by number ({}), {lifted} pins lifted, \
+         {pins} held at the end, {wide} jobs with more than 65,535 grains in them",
+        each.join(", ")
+    );
+    let numbers = [0, 7, 8, 9, 10];
+    let worthwhile = numbers.iter().all(|number| tally.get(number).is_some_and(|c| c * 50 > calls))
+        && lifted * 10 > calls
+        && pins > jobs
+        && none > 0
+        && wide * 200 > jobs;
+    ensure!(worthwhile || !asks, "too little in it: {counts}");
+    Ok(counts)
+}
+
+/// A fresh session that sets only the pins held comes to the same totals.
+fn check_fresh(rng: &mut Rng, asked: &Asked) -> Checked {
+    let calls = fresh_calls(rng, &asked.pins);
+    let count = calls.len() / 3;
+    let mut lent = CallLists::new(rng, [count, CALLS_VALUES]);
+    same("calls of a fresh session", 0, lent.make(&asked.bytes, &calls))?;
+    lent.wrote(&vec![0; count], &pin_totals(&asked.job, &asked.pins))
 }
 
 // ---------------------------------------------------------------------------
@@ -1419,51 +1679,85 @@ fn harmed_group(seed: u64, asks: bool) -> Result<String, String> {
     Ok(counts)
 }
 
-/// All four functions on bytes that may or may not be a job. Gives the number
-/// of opening them.
+/// All that take a job, on bytes that may or may not be one. Gives the number of
+/// opening them. That number comes before all others, so bytes that are no job are
+/// given with lists of any length too.
 fn check_bytes(rng: &mut Rng, bytes: &[u8]) -> Result<Refusal, String> {
     let mut reader = Reader { rest: bytes };
     let read = read_job(&mut reader);
     let taken = bytes.len() - reader.rest.len();
     let number = *read.as_ref().err().unwrap_or(&0);
-    let mut values: Lent<u64> = Lent::new(rng, 4);
-    same("open", number as u32, numbers::open(bytes, values.list()))?;
-    let mut lent = PlanLists::new(rng, [2, 20, 12, PLAN_VALUES]);
     let calls = [6, 1, 0, 7, 1, 0];
-    let mut levels: Lent<u16> = Lent::new(rng, 12);
-    let mut more: Lent<u64> = Lent::new(rng, REPLAY_VALUES);
-    let mut sums: Lent<u32> = Lent::new(rng, 4);
-    let entries: Vec<u8> = (0..2 * rng.from(0, 4)).map(|_| rng.next() as u8).collect();
     match read {
         Err(_) => {
-            values.kept("values of open")?;
-            same("plan", number as u32, lent.plan(bytes, &calls))?;
-            lent.kept()?;
-            let found = numbers::replay(bytes, &calls, &entries, levels.list(), more.list());
-            same("replay", number as u32, found)?;
-            same("report", number as u32, numbers::report(bytes, &entries, sums.list()))?;
-            levels.kept("levels")?;
-            more.kept("values of replay")?;
-            sums.kept("sums")?;
+            check_no_job(rng, bytes, number, &calls, [4, 2, 3, 20, 12, 4, 12, 6, 4])?;
+            let any = std::array::from_fn(|_| rng.from(0, 6));
+            let cut = rng.from(0, calls.len());
+            check_no_job(rng, bytes, number, &calls[..cut], any)?;
         }
         Ok(job) => {
+            let mut values: Lent<u64> = Lent::new(rng, 4);
+            same("open", 0, numbers::open(bytes, values.list()))?;
             let due = [taken, job.units.len(), job.intervals(), job.words()];
             values.wrote("values of open", &due.map(|value| value as u64))?;
-            if job.words() > 20 {
+            let asked = Asked::with(bytes.to_vec(), job, calls.to_vec());
+            if asked.job.words() > 20 {
+                let mut lent = PlanLists::new(rng, [2, 20, 12, PLAN_VALUES]);
                 same("plan", 11, lent.plan(bytes, &calls))?;
                 lent.kept()?;
             }
-            if job.words() < 2000 {
-                let (answers, book) = keep_book(&job, &calls);
-                let bytes = bytes.to_vec();
-                let asked = Asked { bytes, job, calls: calls.to_vec(), answers, book };
-                let table = fast_table(&asked.job, &asked.book);
-                let plan = read_off(&asked.job, &asked.book, &table);
+            if asked.job.words() < 2000 {
+                let table = fast_table(&asked.job, &asked.pins);
+                let plan = read_off(&asked.job, &asked.pins, &table);
                 check_plan(rng, &asked, &table, &plan)?;
+            } else {
+                check_calls(rng, &asked)?;
             }
         }
     }
     Ok(number)
+}
+
+/// Every function refuses bytes that are no job. `lengths`: values of opening;
+/// answers of calls and of planning; values of calls; table, entries and values of
+/// planning; levels and values of replay; sums.
+fn check_no_job(
+    rng: &mut Rng,
+    bytes: &[u8],
+    number: Refusal,
+    calls: &[u16],
+    lengths: [usize; 9],
+) -> Checked {
+    let number = number as u32;
+    let [open, answers, made, table, entries, planned, levels, replayed, sums] = lengths;
+    let mut values: Lent<u64> = Lent::new(rng, open);
+    same("open", number, numbers::open(bytes, values.list()))?;
+    values.kept("values of open")?;
+
+    let mut lent = CallLists::new(rng, [answers, made]);
+    same("calls", number, lent.make(bytes, calls))?;
+    let typed: Vec<Call> = calls.chunks_exact(3).map(typed_call).collect();
+    let found = upload_planner::calls(bytes, &typed, lent.answers.list());
+    same("typed calls", Some(number), found.err().map(|refusal| refusal.number()))?;
+    lent.kept()?;
+    let found = upload_planner::called(bytes, &typed);
+    same("owned calls", Some(number), found.err().map(|refusal| refusal.number()))?;
+
+    let mut lent = PlanLists::new(rng, [answers, table, entries, planned]);
+    same("plan", number, lent.plan(bytes, calls))?;
+    lent.kept()?;
+
+    let entries: Vec<u8> = (0..2 * rng.from(0, 4)).map(|_| rng.next() as u8).collect();
+    let mut levels: Lent<u16> = Lent::new(rng, levels);
+    let mut values: Lent<u64> = Lent::new(rng, replayed);
+    let found = numbers::replay(bytes, calls, &entries, levels.list(), values.list());
+    same("replay", number, found)?;
+    levels.kept("levels")?;
+    values.kept("values of replay")?;
+
+    let mut sums: Lent<u32> = Lent::new(rng, sums);
+    same("report", number, numbers::report(bytes, &entries, sums.list()))?;
+    sums.kept("sums")
 }
 
 /// A job cut at every byte, and with other bytes after it.
@@ -1554,7 +1848,7 @@ const TABLE_A: [[[u32; 4]; 5]; 4] = [
 
 /// The cases that the papers write out and their neighbours, worked out by hand.
 fn job_a_group() -> Result<String, String> {
-    use upload_planner::{best_plan, open, plan, replay, report, written, Refusal};
+    use upload_planner::{best_plan, called, open, plan, replay, report, written, Refusal};
     let job = job_a().bytes();
     let (first, second) = (Call::Pin { unit: 1, choice: 0 }, Call::Pin { unit: 2, choice: 0 });
     let (other, lifted) = (Call::Pin { unit: 1, choice: 1 }, Call::Lift { unit: 1 });
@@ -1577,6 +1871,17 @@ fn job_a_group() -> Result<String, String> {
     let answers = best_plan(&job, &[lifted]).map(|best| best.answers);
     same("lift of no pin", Ok(vec![Err(Refusal::NotPinned)]), answers)?;
 
+    let pinned = |calls: &[Call]| {
+        let made = called(&job, calls).map(|made| (answer_numbers(&made.answers), made.totals));
+        made.map_err(|refusal| refusal.number())
+    };
+    let due = |answers: &[u8], totals| Ok((answers.to_vec(), typed_pins(totals)));
+    same("pinned totals, no pins", due(&[], [0; 3]), pinned(&[]))?;
+    same("pinned totals, unit 1 pinned", due(&[0], [1, 4, 10]), pinned(&[first]))?;
+    same("pinned totals, lifted", due(&[0, 0], [0; 3]), pinned(&[first, lifted]))?;
+    same("pinned totals, both pinned", due(&[0, 0], [2, 9, 22]), pinned(&[first, second]))?;
+    same("pinned totals, lift of no pin", due(&[10], [0; 3]), pinned(&[lifted]))?;
+
     let sized = |words: usize, bytes: usize| {
         plan(&job, &[], &mut [], &mut vec![0; words], &mut vec![0; bytes])
     };
@@ -1588,25 +1893,25 @@ fn job_a_group() -> Result<String, String> {
         let mut levels = [9; 6];
         replay(&job, calls, entries, &mut levels).map(|replayed| (replayed, levels))
     };
-    let breach = |violation, interval, levels: [u16; 6]| {
-        Ok((Replayed::Breach { violation, interval }, levels))
+    let violated = |violation, interval, levels: [u16; 6]| {
+        Ok((Replayed::Violated { violation, interval }, levels))
     };
     let over = replayed(&[], &[2, 255, 2, 1, 0, 0]);
-    same("decoder over", breach(Violation::DecoderOver, 2, [4, 2, 9, 9, 9, 9]), over)?;
+    same("decoder over", violated(Violation::DecoderOver, 2, [4, 2, 9, 9, 9, 9]), over)?;
     let short = replayed(&[], &[0, 255, 0, 1, 0, 1]);
-    same("decoder short", breach(Violation::DecoderShort, 2, [0, 0, 9, 9, 9, 9]), short)?;
+    same("decoder short", violated(Violation::DecoderShort, 2, [0, 0, 9, 9, 9, 9]), short)?;
     let clean = Ok((Replayed::Clean(found.1), LEVELS_A));
     same("the best plan", clean, replayed(&[], &BEST_A))?;
     // Of distortion 42, but with 2 + 4 grains in a decoder of 4 before unit 2
     // leaves with 5 of them.
     let finer = [1, 255, 1, 1, 2, 0];
     let over = replayed(&[], &finer);
-    same("over before unit 2", breach(Violation::DecoderOver, 3, [2, 0, 2, 0, 9, 9]), over)?;
+    same("over before unit 2", violated(Violation::DecoderOver, 3, [2, 0, 2, 0, 9, 9]), over)?;
     for (pinned, entries, levels) in
         [(first, finer, [2, 0, 9, 9, 9, 9]), (other, BEST_A, [0, 0, 9, 9, 9, 9])]
     {
         let unheld = replayed(&[pinned], &entries);
-        same("a pin not held", breach(Violation::PinNotHeld, 2, levels), unheld)?;
+        same("a pin not held", violated(Violation::PinNotHeld, 2, levels), unheld)?;
     }
 
     for (entries, due) in [(finer, [2, 2, 4, 9]), (BEST_A, [0, 4, 2, 9])] {
@@ -1685,6 +1990,7 @@ fn faulty_calls(pins: &[u16], kind: bool, cut: bool, longer: bool) -> Vec<u16> {
         calls.push(9);
         calls.extend(longer.then_some(1));
     }
+    calls.shrink_to_fit();
     calls
 }
 
@@ -1698,12 +2004,34 @@ fn order_group() -> Result<String, String> {
         for bits in 0..1 << 9 {
             let has = |bit: usize| bits >> bit & 1 == 1;
             let named = |trouble: String| format!("job {wrong}, defects {bits:b}: {trouble}");
+            check_calls_order(&mut rng, &job, wrong, has).map_err(named)?;
             check_plan_order(&mut rng, &job, wrong, has).map_err(named)?;
             check_other_orders(&mut rng, &job, wrong, has).map_err(named)?;
             sets += 1;
         }
     }
     Ok(format!("{sets} sets of defects"))
+}
+
+fn check_calls_order(
+    rng: &mut Rng,
+    job: &[u8],
+    wrong: Refusal,
+    has: impl Fn(usize) -> bool,
+) -> Checked {
+    let [values, kind, cut, answers, refused] = std::array::from_fn(&has);
+    let by_all = has(7);
+    let made: [u16; 6] = if refused { [6, 1, 0, 7, 2, 9] } else { [6, 1, 0, 6, 2, 0] };
+    let calls = faulty_calls(&made, kind, cut, has(8));
+    let lengths = [cut_to(2, answers, by_all), cut_to(CALLS_VALUES, values, by_all)];
+    let mut lent = CallLists::new(rng, lengths);
+    let due = first_of(&[(wrong > 0, wrong), (kind, 2), (cut, 1), (answers, 12), (values, 12)]);
+    same("calls", due, lent.make(job, &calls))?;
+    match (due, refused) {
+        (0, true) => lent.wrote(&[0, 10], &[1, 4, 10]),
+        (0, false) => lent.wrote(&[0, 0], &[2, 9, 22]),
+        _ => lent.kept(),
+    }
 }
 
 fn check_plan_order(
@@ -1724,27 +2052,27 @@ fn check_plan_order(
     ];
     let mut lent = PlanLists::new(rng, lengths);
     let due = first_of(&[
-        (values, 12),
         (wrong > 0, wrong),
         (kind, 2),
         (cut, 1),
         (table, 11),
-        (answers || entries, 12),
+        (answers, 12),
+        (entries, 12),
+        (values, 12),
         (no_plan, 13),
     ]);
     same("plan", due, lent.plan(job, &calls))?;
     match due {
         0 => {
+            lent.answers.wrote("answers", &[0, 0])?;
             lent.table.wrote("table", &TABLE_A.concat().concat())?;
             lent.entries.wrote("entries", &BEST_A)?;
             lent.values.wrote("values", &TOTALS_A)
         }
         13 => {
-            lent.answers.wrote("answers", &[0, 0])?;
             let read = read_job(&mut Reader { rest: job }).expect("Job A");
             lent.table.wrote("table", &brute_table(&read, &vec![Some(0), Some(0)]))?;
-            lent.entries.kept("entries")?;
-            lent.values.kept("values")
+            lent.kept_but_table()
         }
         _ => lent.kept(),
     }
@@ -1770,7 +2098,7 @@ fn check_other_orders(
     let mut values = Lent::new(rng, cut_to(REPLAY_VALUES, short, by_all));
     let mut levels = Lent::new(rng, cut_to(6, list, by_all));
     let due =
-        first_of(&[(short, 12), (wrong > 0, wrong), (kind, 2), (cut, 1), (shape, 14), (list, 12)]);
+        first_of(&[(wrong > 0, wrong), (kind, 2), (cut, 1), (shape, 14), (list, 12), (short, 12)]);
     let found = numbers::replay(job, &calls, &entries, levels.list(), values.list());
     same("replay", due, found)?;
     if due == 0 {
@@ -1787,7 +2115,7 @@ fn check_other_orders(
     sums.wrote("sums", if due == 0 { &[0, 4, 2] } else { &[] })?;
 
     let mut values = Lent::new(rng, cut_to(4, short, by_all));
-    let due = first_of(&[(short, 12), (wrong > 0, wrong)]);
+    let due = first_of(&[(wrong > 0, wrong), (short, 12)]);
     same("open", due, numbers::open(job, values.list()))?;
     values.wrote("values of open", if due == 0 { &[64, 2, 3, 80] } else { &[] })
 }
@@ -1819,6 +2147,17 @@ fn lengths_group() -> Result<String, String> {
             lists += 1;
         }
     }
+    for length in 0..=6 {
+        for lengths in [[length, CALLS_VALUES], [4, length]] {
+            let mut lent = CallLists::new(&mut rng, lengths);
+            let short = lengths[0] < 4 || lengths[1] < CALLS_VALUES;
+            let what = format!("answers and values of {lengths:?}");
+            same(&what, if short { 12 } else { 0 }, lent.make(&job, &calls))?;
+            let held = if short { lent.kept() } else { lent.wrote(&[0, 0, 10, 0], &[1, 2, 40]) };
+            held.map_err(|trouble| format!("{what}: {trouble}"))?;
+            lists += 1;
+        }
+    }
     for length in 0..=8 {
         // The second interval breaks off, yet room is asked for all of them.
         let entries = [2, 255, 2, 1, 0, 0];
@@ -1829,8 +2168,8 @@ fn lengths_group() -> Result<String, String> {
             let short = room < 6 || more < REPLAY_VALUES;
             let what = format!("levels of {room}, values of {more}");
             same(&what, if short { 12 } else { 0 }, found)?;
-            let breach: (&[u16], &[u64]) = (&[4, 2], &[OVER, 2, 0, 0, 0, 0]);
-            let (due, valued) = if short { (&[][..], &[][..]) } else { breach };
+            let violated: (&[u16], &[u64]) = (&[4, 2], &[OVER, 2, 0, 0, 0, 0]);
+            let (due, valued) = if short { (&[][..], &[][..]) } else { violated };
             levels.wrote("levels", due)?;
             values.wrote("values of replay", valued)?;
         }
@@ -1860,13 +2199,16 @@ fn kinds_group() -> Result<String, String> {
                 calls.extend_from_slice(tail);
                 let known = kind == 6 || kind == 7;
                 let due = first_of(&[(!known, 2), (!tail.is_empty(), 1)]);
+                let mut made = CallLists::new(&mut rng, [4, CALLS_VALUES]);
+                let alone = made.make(&job, &calls);
                 let mut lent = PlanLists::new(&mut rng, [4, 80, 6, PLAN_VALUES]);
                 let found = lent.plan(&job, &calls);
                 let mut levels = Lent::<u16>::new(&mut rng, 6);
                 let mut values = Lent::<u64>::new(&mut rng, REPLAY_VALUES);
                 let again = numbers::replay(&job, &calls, &BEST_A, levels.list(), values.list());
-                same(&format!("calls {calls:?}"), (due, due), (found, again))?;
+                same(&format!("calls {calls:?}"), [due; 3], [alone, found, again])?;
                 if due > 0 {
+                    made.kept()?;
                     lent.kept()?;
                     levels.kept("levels")?;
                     values.kept("values of replay")?;
@@ -1998,7 +2340,7 @@ fn check_example(rng: &mut Rng, input: &[u8]) -> Result<[usize; 3], String> {
     let mut reader = Reader { rest: input };
     let job = read_job(&mut reader).map_err(|number| format!("no job: {number}"))?;
     let taken = &input[..input.len() - reader.rest.len()];
-    let book = read_commands(&mut reader, &job).map_err(|number| format!("commands: {number}"))?;
+    let pins = read_commands(&mut reader, &job).map_err(|number| format!("commands: {number}"))?;
     let lists = Lists::of_job(&job);
     for room in [taken.len(), taken.len() + 9] {
         same("write", 0, check_write(rng, &lists, room, 1)?)?;
@@ -2006,11 +2348,11 @@ fn check_example(rng: &mut Rng, input: &[u8]) -> Result<[usize; 3], String> {
     check_typed_write(rng, &lists, taken.len())?;
     same("the example written again", taken, &written(&lists)?)?;
 
-    let held = book.iter().enumerate();
-    let pins: Vec<Command> =
-        held.filter_map(|(i, line)| Some(Pin(i as u16 + 1, (*line)? as u16))).collect();
+    let units = pins.iter().enumerate();
+    let held: Vec<Command> =
+        units.filter_map(|(i, pinned)| Some(Pin(i as u16 + 1, (*pinned)? as u16))).collect();
     let mut counts = [0; 3];
-    for commands in if pins.is_empty() { vec![vec![]] } else { vec![pins, vec![]] } {
+    for commands in if held.is_empty() { vec![vec![]] } else { vec![held, vec![]] } {
         let draft = lists.draft().commanded(&commands);
         let before = check_changed(rng, &draft)?;
         let codings = job.units.len() * job.choices();
@@ -2036,10 +2378,10 @@ fn check_changed(rng: &mut Rng, draft: &Draft) -> Result<Option<Plan>, String> {
     let lists = Lists::of_draft(draft);
     same("write", 0, check_write(rng, &lists, room_for(&lists), 1)?)?;
     let asked = Asked { bytes: written(&lists)?, ..Asked::new(rng, draft) };
-    let table = fast_table(&asked.job, &asked.book);
-    let plan = read_off(&asked.job, &asked.book, &table);
+    let table = fast_table(&asked.job, &asked.pins);
+    let plan = read_off(&asked.job, &asked.pins, &table);
     if asked.job.plans().is_some_and(|plans| plans <= ENUMERATION_LIMIT) {
-        same("plan read off", &enumerate(&asked.job, &asked.book).best, &plan)?;
+        same("plan read off", &enumerate(&asked.job, &asked.pins).best, &plan)?;
     }
     check_open(rng, &asked)?;
     check_plan(rng, &asked, &table, &plan)?;
@@ -2360,12 +2702,12 @@ fn check_write_order(rng: &mut Rng, has: impl Fn(usize) -> bool, way: [usize; 5]
     }
     let room = if short { [63, 22, 0][way[4]] } else { 64 };
     let due = first_of(&[
-        (values, 12),
         (header, 3),
         (lengths, 16),
         (rates, 4),
         (codings, 5),
         (short, 12),
+        (values, 12),
     ]);
     let found = check_write(rng, &lists, room, !values as usize)?;
     same("number", due, found as u32)
@@ -2382,13 +2724,7 @@ fn written_group(seed: u64, asks: bool) -> Result<String, String> {
     let (mut bytes, mut long, mut wide) = (0, 0, 0);
     let jobs = scaled(4000);
     for index in 1..=jobs {
-        let mut draft = match index % 10 {
-            0 => random_long_job(&mut rng),
-            1 | 2 => random_job(&mut rng, &WIDE),
-            3 | 4 => random_job(&mut rng, &SITTING),
-            5 => random_job(&mut rng, &MEDIUM),
-            _ => random_job(&mut rng, &TINY),
-        };
+        let mut draft = random_mixed_job(&mut rng, index);
         draft.commands.clear();
         let taken = check_written(&mut rng, &draft).map_err(|trouble| {
             format!("seed {seed}, job {index}: {trouble}\n  {}", Lists::of_draft(&draft).show())
@@ -2402,6 +2738,17 @@ fn written_group(seed: u64, asks: bool) -> Result<String, String> {
     );
     ensure!((long * 20 > jobs && wide * 4 > jobs) || !asks, "too little in it: {counts}");
     Ok(counts)
+}
+
+/// Jobs of all sizes in turn.
+fn random_mixed_job(rng: &mut Rng, index: usize) -> Draft {
+    match index % 10 {
+        0 => random_long_job(rng),
+        1 | 2 => random_job(rng, &WIDE),
+        3 | 4 => random_job(rng, &SESSION),
+        5 => random_job(rng, &MEDIUM),
+        _ => random_job(rng, &TINY),
+    }
 }
 
 /// Gives the number of bytes that the job took.
@@ -2447,7 +2794,7 @@ fn harmed_lists_group(seed: u64, asks: bool) -> Result<String, String> {
             2..=5 => need,
             _ => need + rng.from(1, 99),
         };
-        let values = if rng.one_in(30) { 0 } else { rng.from(1, 3) };
+        let values = if rng.one_in(10) { 0 } else { rng.from(1, 3) };
         let mut check = || -> Result<Refusal, String> {
             let due = check_write(&mut rng, &lists, room, values)?;
             check_typed_write(&mut rng, &lists, room)?;
@@ -2582,8 +2929,8 @@ fn full_group() -> Result<String, String> {
 fn check_large(rng: &mut Rng, size: &Size) -> Result<usize, String> {
     let draft = large_job(rng, size);
     let asked = Asked::new(rng, &draft);
-    let table = fast_table(&asked.job, &asked.book);
-    let plan = read_off(&asked.job, &asked.book, &table).ok_or("no plan".to_string())?;
+    let table = fast_table(&asked.job, &asked.pins);
+    let plan = read_off(&asked.job, &asked.pins, &table).ok_or("no plan".to_string())?;
     let start = asked.job.start_decoder * (asked.job.bucket_size + 1) + asked.job.start_bucket;
     let word = table[start as usize];
     let distortion = totals_of(&asked, &plan).map(|totals| totals[0]);
@@ -2613,6 +2960,8 @@ fn run_all(new_seed: u64, with_full: bool, examples: Option<&Path>) -> bool {
         print_group("refusals in their order", order_group()),
         print_group("lists of every length", lengths_group()),
         print_group("kinds of calls", kinds_group()),
+        print_group("calls by hand", calls_by_hand_group()),
+        print_group("calls in every order", calls_in_every_order_group()),
         print_group("decoder peaks", peaks_group()),
         print_group("every set of violations", violations_group()),
         print_group("unused drain", unused_group()),
@@ -2642,7 +2991,8 @@ fn run_all(new_seed: u64, with_full: bool, examples: Option<&Path>) -> bool {
     seeded("tiny jobs", &[1, 2, 3], tiny_group);
     seeded("tight jobs", &[1, 2], tight_group);
     seeded("idle jobs", &[1, 2], idle_group);
-    seeded("long sittings", &[1, 2], sittings_group);
+    seeded("calls", &[1, 2], calls_group);
+    seeded("long sessions", &[1, 2], sessions_group);
     seeded("larger jobs", &[4], larger_group);
     if !small() {
         results.push(print_group("large jobs", large_group()));

@@ -19,7 +19,7 @@ pub const NO_CHOICE: usize = 255;
 pub const ENUMERATION_LIMIT: u64 = 10_000;
 
 // ---------------------------------------------------------------------------
-// The reader: bytes to a job and a book of pins, or the first refusal due.
+// The reader: bytes to a job and the pins held, or the first refusal due.
 // ---------------------------------------------------------------------------
 
 pub type Refusal = u8;
@@ -154,32 +154,45 @@ pub fn read_job(reader: &mut Reader) -> Result<Job, Refusal> {
     })
 }
 
-/// The book of pins: line u − 1 is unit u's.
-pub type Book = Vec<Option<usize>>;
+/// The pins held: at u − 1 the choice of unit u, if it is pinned.
+pub type Pins = Vec<Option<usize>>;
 
-pub fn pin(book: &mut Book, choices: usize, unit: usize, choice: usize) -> Result<(), Refusal> {
-    if unit < 1 || unit > book.len() {
+pub fn pin(pins: &mut Pins, choices: usize, unit: usize, choice: usize) -> Result<(), Refusal> {
+    if unit < 1 || unit > pins.len() {
         return Err(7);
     }
     if choice >= choices {
         return Err(8);
     }
-    if book[unit - 1].is_some() {
+    if pins[unit - 1].is_some() {
         return Err(9);
     }
-    book[unit - 1] = Some(choice);
+    pins[unit - 1] = Some(choice);
     Ok(())
 }
 
-pub fn lift(book: &mut Book, unit: usize) -> Result<(), Refusal> {
-    if unit < 1 || unit > book.len() {
+pub fn lift(pins: &mut Pins, unit: usize) -> Result<(), Refusal> {
+    if unit < 1 || unit > pins.len() {
         return Err(7);
     }
-    if book[unit - 1].is_none() {
+    if pins[unit - 1].is_none() {
         return Err(10);
     }
-    book[unit - 1] = None;
+    pins[unit - 1] = None;
     Ok(())
+}
+
+/// How many pins are held, and the sums of their grains and distortions.
+pub fn pin_totals(job: &Job, pins: &Pins) -> [u64; 3] {
+    let (mut count, mut grains, mut distortion) = (0, 0, 0);
+    for (unit, pinned) in job.units.iter().zip(pins) {
+        if let Some(choice) = pinned.map(|choice| &unit[choice]) {
+            count += 1;
+            grains += choice.grains as u64;
+            distortion += choice.distortion as u64;
+        }
+    }
+    [count, grains, distortion]
 }
 
 pub fn command_length(kind: u16) -> Option<usize> {
@@ -191,28 +204,28 @@ pub fn command_length(kind: u16) -> Option<usize> {
 }
 
 /// Takes the commands in turn: each is carried out before the next is read.
-pub fn read_commands(reader: &mut Reader, job: &Job) -> Result<Book, Refusal> {
-    let mut book = vec![None; job.units.len()];
+pub fn read_commands(reader: &mut Reader, job: &Job) -> Result<Pins, Refusal> {
+    let mut pins = vec![None; job.units.len()];
     while !reader.rest.is_empty() {
         let (kind, body) = reader.record(command_length)?;
         let unit = u16_at(body, 0) as usize;
         if kind == 6 {
-            pin(&mut book, job.choices(), unit, u16_at(body, 2) as usize)?;
+            pin(&mut pins, job.choices(), unit, u16_at(body, 2) as usize)?;
         } else {
-            lift(&mut book, unit)?;
+            lift(&mut pins, unit)?;
         }
     }
-    Ok(book)
+    Ok(pins)
 }
 
-pub fn read_input(input: &[u8]) -> Result<(Job, Book), Refusal> {
+pub fn read_input(input: &[u8]) -> Result<(Job, Pins), Refusal> {
     if input.len() > INPUT_LIMIT {
         return Err(15);
     }
     let mut reader = Reader { rest: input };
     let job = read_job(&mut reader)?;
-    let book = read_commands(&mut reader, &job)?;
-    Ok((job, book))
+    let pins = read_commands(&mut reader, &job)?;
+    Ok((job, pins))
 }
 
 // ---------------------------------------------------------------------------
@@ -268,11 +281,11 @@ impl Totals {
     }
 }
 
-/// Replays a plan; `None` at a breach. `see` is told both levels after each
+/// Replays a plan; `None` at a violation. `see` is told both levels after each
 /// interval that holds.
 pub fn replay(
     job: &Job,
-    book: &Book,
+    pins: &Pins,
     plan: &Plan,
     mut see: impl FnMut(i64, i64),
 ) -> Option<Totals> {
@@ -284,7 +297,7 @@ pub fn replay(
         let mut taken = 0;
         if t > job.delay {
             let unit = t - job.delay;
-            if book[unit - 1].is_some_and(|pinned| pinned != choice) {
+            if pins[unit - 1].is_some_and(|pinned| pinned != choice) {
                 return None;
             }
             taken = job.units[unit - 1][choice].grains;
@@ -330,13 +343,13 @@ pub struct Enumerated {
 }
 
 /// Replays every plan in range and keeps the first in the paper's order.
-pub fn enumerate(job: &Job, book: &Book) -> Enumerated {
+pub fn enumerate(job: &Job, pins: &Pins) -> Enumerated {
     let first = |t| (0, if t > job.delay { 0 } else { NO_CHOICE });
     let mut plan: Plan = (1..=job.intervals()).map(first).collect();
     let mut best: Option<(i64, Plan)> = None;
     let mut equals = 0;
     loop {
-        if let Some(totals) = replay(job, book, &plan, |_, _| ()) {
+        if let Some(totals) = replay(job, pins, &plan, |_, _| ()) {
             let least = best.as_ref().map_or(i64::MAX, |found| found.0);
             if totals.distortion < least {
                 equals = 0;
@@ -358,18 +371,18 @@ pub struct Branch {
     pub entries: Plan,
 }
 
-pub fn dynamic(job: &Job, book: &Book) -> Option<Plan> {
-    dynamic_by(by_peak, job, book)
+pub fn dynamic(job: &Job, pins: &Pins) -> Option<Plan> {
+    dynamic_by(by_peak, job, pins)
 }
 
 /// Carries the best path to each pair of levels forward, interval by interval.
 /// Paths that meet in both levels have the same continuations, so the better
 /// of the two (then the earlier in order) may stand for both.
-pub fn dynamic_by(decoder_rule: Decoder, job: &Job, book: &Book) -> Option<Plan> {
+pub fn dynamic_by(decoder_rule: Decoder, job: &Job, pins: &Pins) -> Option<Plan> {
     let start = Branch { distortion: 0, entries: Vec::new() };
     let mut layer = BTreeMap::from([((job.start_decoder, job.start_bucket), start)]);
     for t in 1..=job.intervals() {
-        let options = options(job, book, t);
+        let options = options(job, pins, t);
         let mut next: BTreeMap<(i64, i64), Branch> = BTreeMap::new();
         for ((decoder, bucket), branch) in &layer {
             for (rate, sent) in job.rates.iter().enumerate() {
@@ -394,13 +407,13 @@ pub fn dynamic_by(decoder_rule: Decoder, job: &Job, book: &Book) -> Option<Plan>
 }
 
 /// What interval t may decode: choice, grains and distortion.
-pub fn options(job: &Job, book: &Book, t: usize) -> Vec<(usize, i64, i64)> {
+pub fn options(job: &Job, pins: &Pins, t: usize) -> Vec<(usize, i64, i64)> {
     if t <= job.delay {
         return vec![(NO_CHOICE, 0, 0)];
     }
     let unit = t - job.delay - 1;
     let listed = job.units[unit].iter().enumerate();
-    let held = listed.filter(|(index, _)| book[unit].map_or(true, |pinned| pinned == *index));
+    let held = listed.filter(|(index, _)| pins[unit].map_or(true, |pinned| pinned == *index));
     held.map(|(index, choice)| (index, choice.grains, choice.distortion)).collect()
 }
 
@@ -423,11 +436,11 @@ pub fn offer(
     next.insert(state, Branch { distortion, entries });
 }
 
-pub fn best_plan(job: &Job, book: &Book) -> Option<Plan> {
+pub fn best_plan(job: &Job, pins: &Pins) -> Option<Plan> {
     if job.plans().is_some_and(|plans| plans <= ENUMERATION_LIMIT) {
-        enumerate(job, book).best
+        enumerate(job, pins).best
     } else {
-        dynamic(job, book)
+        dynamic(job, pins)
     }
 }
 
@@ -438,15 +451,15 @@ pub fn best_plan(job: &Job, book: &Book) -> Option<Plan> {
 /// Says of each mistaken rule, by its name, whether a job has another answer under
 /// it, only to count the jobs that tell it from the right one. The plan is the
 /// job's best, if there is one.
-pub type Mistakes = fn(&Job, &Book, Option<&Plan>) -> Vec<(&'static str, bool)>;
+pub type Mistakes = fn(&Job, &Pins, Option<&Plan>) -> Vec<(&'static str, bool)>;
 
 /// The decoder's: another plan is best, or there is one where there is none.
-pub fn decoder_mistakes(job: &Job, book: &Book, plan: Option<&Plan>) -> Vec<(&'static str, bool)> {
+pub fn decoder_mistakes(job: &Job, pins: &Pins, plan: Option<&Plan>) -> Vec<(&'static str, bool)> {
     let rules: [(&str, Decoder); 2] = [
         ("the size asked of the level alone", by_level),
         ("the peak cut down to the size", by_cut),
     ];
-    rules.map(|(name, rule)| (name, dynamic_by(rule, job, book).as_ref() != plan)).to_vec()
+    rules.map(|(name, rule)| (name, dynamic_by(rule, job, pins).as_ref() != plan)).to_vec()
 }
 
 fn by_level(job: &Job, before: i64, sent: i64, taken: i64) -> Option<i64> {
@@ -460,12 +473,12 @@ fn by_cut(job: &Job, before: i64, sent: i64, taken: i64) -> Option<i64> {
 }
 
 /// The bucket's: the best plan has another sum of unused drain.
-pub fn unused_mistakes(job: &Job, book: &Book, plan: Option<&Plan>) -> Vec<(&'static str, bool)> {
+pub fn unused_mistakes(job: &Job, pins: &Pins, plan: Option<&Plan>) -> Vec<(&'static str, bool)> {
     // Of each interval the level before, what is sent, and the level after.
     let mut steps = Vec::new();
     let mut before = job.start_bucket;
     let totals = plan.and_then(|plan| {
-        replay(job, book, plan, |_, after| {
+        replay(job, pins, plan, |_, after| {
             steps.push((before, job.rates[plan[steps.len()].0], after));
             before = after;
         })
@@ -495,8 +508,8 @@ impl Told {
         Told { mistakes, counts: BTreeMap::new() }
     }
 
-    pub fn count(&mut self, job: &Job, book: &Book, plan: Option<&Plan>) {
-        for (name, told) in (self.mistakes)(job, book, plan) {
+    pub fn count(&mut self, job: &Job, pins: &Pins, plan: Option<&Plan>) {
+        for (name, told) in (self.mistakes)(job, pins, plan) {
             *self.counts.entry(name).or_default() += told as usize;
         }
     }
@@ -634,6 +647,32 @@ pub fn command_record(command: Command) -> Vec<u8> {
     }
 }
 
+/// Every list of this length.
+pub fn all_lists(letters: &[Command], length: usize) -> Vec<Vec<Command>> {
+    let mut lists = vec![Vec::new()];
+    for _ in 0..length {
+        let longer = |list: &Vec<Command>| {
+            let list = list.clone();
+            letters.iter().map(move |letter| [&list[..], &[*letter]].concat()).collect::<Vec<_>>()
+        };
+        lists = lists.iter().flat_map(longer).collect();
+    }
+    lists
+}
+
+/// For two units of two choices: the empty list, every list of up to three
+/// commands from a set with each refusal in it, and every list of four from those
+/// that can be taken.
+pub fn command_lists() -> Vec<Vec<Command>> {
+    let good = [Pin(1, 0), Pin(1, 1), Pin(2, 0), Pin(2, 1), Lift(1), Lift(2)];
+    let bad = [Pin(0, 0), Pin(3, 1), Pin(1, 2), Pin(0, 2), Pin(3, 2), Lift(0), Lift(3)];
+    let mixed = [&good[..], &bad[..]].concat();
+    let mut lists: Vec<Vec<Command>> =
+        (0..=3).flat_map(|length| all_lists(&mixed, length)).collect();
+    lists.extend(all_lists(&good, 4));
+    lists
+}
+
 /// `input` followed by `tail`.
 pub fn then(mut input: Vec<u8>, tail: &[u8]) -> Vec<u8> {
     input.extend_from_slice(tail);
@@ -708,9 +747,6 @@ impl Lists {
 /// the length of the list for the bytes, `values` that of the list for their
 /// count.
 pub fn write_job(lists: &Lists, room: usize, values: usize) -> Result<Vec<u8>, Refusal> {
-    if values < 1 {
-        return Err(12);
-    }
     if lists.fields.len() != 9 {
         return Err(3);
     }
@@ -727,7 +763,7 @@ pub fn write_job(lists: &Lists, room: usize, values: usize) -> Result<Vec<u8>, R
         read_unit(&unit_body(unit))?;
     }
     let bytes = draft.bytes();
-    if room < bytes.len() {
+    if room < bytes.len() || values < 1 {
         return Err(12);
     }
     Ok(bytes)

@@ -17,12 +17,13 @@
 //! all that it has. Grains of the drain that find nothing there go by unused.
 //!
 //! [`write()`] makes the bytes of a job from its header and lists; [`open`],
-//! [`plan`], [`replay`] and [`report`] take these bytes and read them again.
-//! They fill lists that the caller lends; [`written`] and [`best_plan`] make
-//! the lists themselves. Nothing is kept between calls. A list that is filled
-//! may be longer than needed: what stands past the part named as written keeps
-//! its values. A refusal writes nothing, except that [`Refusal::NoPlan`] comes
-//! after the search and leaves `answers` and `table` written.
+//! [`calls()`], [`plan`], [`replay`] and [`report`] take these bytes and read them
+//! again. They fill lists that the caller lends; [`written`], [`called`] and
+//! [`best_plan`] make the lists themselves. Nothing is kept between calls. A list
+//! that is filled may be longer than needed: what stands past the part named as
+//! written keeps its values. Wherever a job is read, its own refusals, 1 to 5,
+//! come first. A refusal writes nothing, except that [`Refusal::NoPlan`] comes
+//! after the search and leaves `table` written, and no other list.
 //!
 //! The work is done by the library `libupload.a`, whose code is proved to meet
 //! its contract. It takes no memory and reads and writes only what is lent to
@@ -267,6 +268,17 @@ pub struct Opened {
     pub table_words: usize,
 }
 
+/// What the pins come to that stand after a list of calls.
+#[derive(Clone, Copy, Debug, PartialEq, Eq, Hash)]
+pub struct PinTotals {
+    /// How many there are.
+    pub count: usize,
+    /// What their units take at the pinned choices, in grains.
+    pub grains: u64,
+    /// The distortions of these choices.
+    pub distortion: u64,
+}
+
 /// What a plan comes to.
 #[derive(Clone, Copy, Debug, PartialEq, Eq, Hash)]
 pub struct Totals {
@@ -322,7 +334,7 @@ pub enum Replayed {
     /// The plan is admissible.
     Clean(Totals),
     /// The plan is not admissible.
-    Breach {
+    Violated {
         /// The first violation.
         violation: Violation,
         /// Its interval, from 1.
@@ -350,11 +362,24 @@ pub fn open(job: &[u8]) -> Result<Opened, Refusal> {
     Ok(Opened { bytes, units, intervals, table_words })
 }
 
-/// Makes the calls in turn, refused ones included, then plans with the pins
-/// that stand at the end.
+/// Makes the calls in turn, refused ones included. `answers`: one byte for each
+/// call is written: 0 where it was taken, otherwise its refusal's number, 7 to 10.
 ///
-/// - `answers`: one byte for each call is written: 0 where it was taken,
-///   otherwise its refusal's number.
+/// # Errors
+///
+/// In this order: 1 to 5 for the job; 12 where `answers` is too short. A call
+/// that is refused is no error here.
+pub fn calls(job: &[u8], calls: &[Call], answers: &mut [u8]) -> Result<PinTotals, Refusal> {
+    let mut values = [0; numbers::CALLS_VALUES];
+    checked(numbers::calls(job, &numbers_of(calls), answers, &mut values))?;
+    let [count, grains, distortion] = values;
+    Ok(PinTotals { count: count as usize, grains, distortion })
+}
+
+/// Makes the calls as [`calls()`] does, then plans with the pins that stand at the
+/// end.
+///
+/// - `answers`: one byte for each call is written, as [`calls()`] writes them.
 /// - `table`: [`Opened::table_words`] words are written. Word
 ///   (t × (decoder size + 1) + b) × (bucket size + 1) + l is the least
 ///   distortion that intervals t + 1 to T can add from decoder level b and
@@ -368,8 +393,9 @@ pub fn open(job: &[u8]) -> Result<Opened, Refusal> {
 ///
 /// # Errors
 ///
-/// Numbers 1 to 5 for the job; 11; 12 where `answers` or `entries` is too short;
-/// 13, which leaves `answers` and `table` written.
+/// In this order: 1 to 5 for the job; 11; 12 where `answers` or `entries` is too
+/// short; 13, which leaves `table` written and `answers` as they were; [`calls()`]
+/// says what the calls met with.
 pub fn plan(
     job: &[u8],
     calls: &[Call],
@@ -382,8 +408,8 @@ pub fn plan(
     Ok(Totals::of(values))
 }
 
-/// Makes the calls as [`plan`] does, then follows a plan interval by interval up
-/// to its first violation.
+/// Makes the calls as [`calls()`] does, then follows a plan interval by interval
+/// up to its first violation.
 ///
 /// `levels` needs room for 2 × T numbers: the decoder's and the bucket's level
 /// after each interval, when its unit has left. Only those before the violation
@@ -391,7 +417,7 @@ pub fn plan(
 ///
 /// # Errors
 ///
-/// Numbers 1 to 5 for the job; 14; 12 where `levels` is too short.
+/// In this order: 1 to 5 for the job; 14; 12 where `levels` is too short.
 pub fn replay(
     job: &[u8],
     calls: &[Call],
@@ -409,7 +435,7 @@ pub fn replay(
         4 => Violation::PinNotHeld,
         _ => panic!("the library answered {kind}, which is no violation"),
     };
-    Ok(Replayed::Breach { violation, interval: interval as usize })
+    Ok(Replayed::Violated { violation, interval: interval as usize })
 }
 
 /// The effective buffer sizes of a plan, admissible or not.
@@ -419,9 +445,68 @@ pub fn replay(
 ///
 /// # Errors
 ///
-/// Numbers 1 to 5 for the job; 14; 12 where `sums` is too short.
+/// In this order: 1 to 5 for the job; 14; 12 where `sums` is too short.
 pub fn report(job: &[u8], entries: &[u8], sums: &mut [u32]) -> Result<(), Refusal> {
     checked(numbers::report(job, entries, sums))
+}
+
+fn met_with(answers: Vec<u8>) -> Vec<Result<(), Refusal>> {
+    answers.into_iter().map(|answer| checked(answer.into())).collect()
+}
+
+/// Calls that were made.
+#[derive(Clone, Debug, PartialEq, Eq)]
+pub struct Called {
+    /// What each call met with.
+    pub answers: Vec<Result<(), Refusal>>,
+    /// What the pins come to that stand at the end.
+    pub totals: PinTotals,
+}
+
+/// [`calls()`] with a list of its own, as long as the calls need.
+///
+/// # Errors
+///
+/// Numbers 1 to 5 for the job.
+///
+/// # Examples
+///
+/// No plan holds both pins, and each of them was taken all the same.
+///
+/// ```
+/// use upload_planner::{best_plan, called, written, Call, Header, Refusal};
+///
+/// let header = Header {
+///     units: 2,
+///     delay: 1,
+///     decoder: 4,
+///     bucket: 3,
+///     drain: 2,
+///     level: 0,
+///     fill: 0,
+///     rates: 3,
+///     choices: 2,
+/// };
+/// let job = written(&header, &[0, 2, 4], &[4, 2, 5, 2], &[10, 30, 12, 40])?;
+///
+/// let calls = [
+///     Call::Pin { unit: 1, choice: 1 },
+///     Call::Pin { unit: 1, choice: 0 },
+///     Call::Pin { unit: 2, choice: 0 },
+/// ];
+/// assert_eq!(best_plan(&job, &calls), Err(Refusal::NoPlan));
+///
+/// let made = called(&job, &calls)?;
+/// assert_eq!(made.answers, [Ok(()), Err(Refusal::Pinned), Ok(())]);
+/// assert_eq!(made.totals.count, 2);
+/// assert_eq!(made.totals.grains, 2 + 5);
+/// assert_eq!(made.totals.distortion, 30 + 12);
+/// # Ok::<(), Refusal>(())
+/// ```
+pub fn called(job: &[u8], calls: &[Call]) -> Result<Called, Refusal> {
+    let mut answers = vec![0; calls.len()];
+    let totals = self::calls(job, calls, &mut answers)?;
+    Ok(Called { answers: met_with(answers), totals })
 }
 
 /// A plan with the lists that planning filled.
@@ -449,8 +534,7 @@ pub fn best_plan(job: &[u8], calls: &[Call]) -> Result<BestPlan, Refusal> {
     let mut table = vec![0; opened.table_words];
     let mut entries = vec![0; 2 * opened.intervals];
     let totals = plan(job, calls, &mut answers, &mut table, &mut entries)?;
-    let answers = answers.into_iter().map(|answer| checked(answer.into())).collect();
-    Ok(BestPlan { totals, entries, answers, table })
+    Ok(BestPlan { totals, entries, answers: met_with(answers), table })
 }
 
 /// Writes a job's bytes from its header and lists, and says how many they are:

@@ -4,8 +4,9 @@
 //!
 //! Calls are numbers, three a call: [`PIN`] or [`LIFT`], the unit, the choice,
 //! which a lift does not look at. A call of another kind is refused with 2, then
-//! a last call that is cut with 1, both after the job's numbers. A `values` list
-//! that is too short is refused with 12 before anything else.
+//! a last call that is cut with 1, both right after the job's numbers, 1 to 5,
+//! which come first. A `values` list is one of those to be filled: where it is too
+//! short, its 12 comes right after theirs.
 
 /// The first number of a call that pins.
 pub const PIN: u16 = 6;
@@ -15,6 +16,9 @@ pub const LIFT: u16 = 7;
 /// How many values [`open`] writes: the bytes that the job took, N, T, and the
 /// words of the table.
 pub const OPEN_VALUES: usize = 4;
+/// How many values [`calls`] writes: how many pins stand at the end, the sum of
+/// their grains, the sum of their distortions.
+pub const CALLS_VALUES: usize = 3;
 /// How many values [`plan`] writes: distortion, source grains, channel grains,
 /// unused grains.
 pub const PLAN_VALUES: usize = 4;
@@ -34,6 +38,17 @@ pub const FIELDS: usize = 9;
 #[link(name = "upload", kind = "static")]
 extern "C" {
     fn upload_open(job: *const u8, job_len: usize, values: *mut u64, values_len: usize) -> u32;
+
+    fn upload_calls(
+        job: *const u8,
+        job_len: usize,
+        calls: *const u16,
+        calls_len: usize,
+        answers: *mut u8,
+        answers_len: usize,
+        values: *mut u64,
+        values_len: usize,
+    ) -> u32;
 
     fn upload_plan(
         job: *const u8,
@@ -88,13 +103,29 @@ extern "C" {
     ) -> u32;
 }
 
-// In all five: a slice's pointer is aligned, never null, and good for the
+// In all six: a slice's pointer is aligned, never null, and good for the
 // slice's length; slices that are written overlap no other. That is all the
 // library asks, and it reads and writes nothing else.
 
 /// Opens a job.
 pub fn open(job: &[u8], values: &mut [u64]) -> u32 {
     unsafe { upload_open(job.as_ptr(), job.len(), values.as_mut_ptr(), values.len()) }
+}
+
+/// Makes the calls.
+pub fn calls(job: &[u8], calls: &[u16], answers: &mut [u8], values: &mut [u64]) -> u32 {
+    unsafe {
+        upload_calls(
+            job.as_ptr(),
+            job.len(),
+            calls.as_ptr(),
+            calls.len(),
+            answers.as_mut_ptr(),
+            answers.len(),
+            values.as_mut_ptr(),
+            values.len(),
+        )
+    }
 }
 
 /// Makes the calls, then plans.

@@ -27,7 +27,7 @@ rate-most-from low (r ∷ rs) k (suc y) h = rate-most-from _ rs (k .1) y (omega 
 
 rising-from : (low : ℕ) (rs : List ℕ) → AllKept (rate-limits low rs) → (y : ℕ) → y + 1 < length rs → getD rs y 0 < getD rs (suc y) 0
 rising-from low [] k y h = absurd (omega arith)
-rising-from low (r ∷ rs) k zero h = rate-low _ rs (k .1) (omega arith)
+rising-from low (r ∷ rs) k zero h = omega (arith, rate-low _ rs (k .1) (omega arith))
 rising-from low (r ∷ rs) k (suc y) h = rising-from _ rs (k .1) y (omega arith)
 
 pub record CodingKept (c : Coding) : Type 0 where
@@ -60,8 +60,8 @@ limited j w =
       start = (omega arith, omega arith);
       rates = (omega arith, omega arith);
       choices = (omega arith, omega arith);
-      rate = rate-most-from 0 (j .line .rates) (w .rates);
-      rise = rising-from 0 (j .line .rates) (w .rates);
+      rate = rate-most-from _ (j .line .rates) (w .rates);
+      rise = rising-from _ (j .line .rates) (w .rates);
       codings = λ i h. unit i h .count;
       sizes = λ i x h l. kept i x h l .size;
       distortions = λ i x h l. kept i x h l .distortion;
@@ -71,11 +71,11 @@ limited j w =
 rates-within : (low : ℕ) (rs : List ℕ) → (0 < length rs → low ≤ getD rs 0 0) → ((y : ℕ) → y < length rs → getD rs y 0 ≤ 4095) → ((y : ℕ) → y + 1 < length rs → getD rs y 0 < getD rs (suc y) 0) → AllKept (rate-limits low rs)
 rates-within low [] l f g = tt
 rates-within low (r ∷ rs) l f g =
-    ((l (omega arith), f 0 (omega arith)), rates-within _ rs (λ h. g 0 (omega arith)) (λ y h. f (suc y) (omega arith)) (λ y h. g (suc y) (omega arith)))
+    ((l (omega arith), omega (arith, f 0 (omega arith))), rates-within _ rs (λ h. omega (arith, g 0 (omega arith))) (λ y h. f (suc y) (omega arith)) (λ y h. g (suc y) (omega arith)))
 
 codings-within : (u : List Coding) → ((x : ℕ) → x < length u → CodingKept (getD u x nothing)) → AllKept (coding-limits u)
 codings-within [] f = tt
-codings-within (c ∷ u) f = let k = f 0 (omega arith) in ((omega arith, k .size), ((omega arith, k .distortion), codings-within u (λ x h. f (suc x) (omega arith))))
+codings-within (c ∷ u) f = let k = f 0 (omega arith) in ((omega arith, omega (arith, k .size)), ((omega arith, omega (arith, k .distortion)), codings-within u (λ x h. f (suc x) (omega arith))))
 
 each-from : {A : Type 0} {Q : A → Type 0} (l : List A) (d : A) → ((i : ℕ) → i < length l → Q (getD l i d)) → Each Q l
 each-from [] d f = P.no-more
@@ -87,7 +87,7 @@ within j l = record {
   one-bucket = l .one-bucket .0;
   one-fill = l .one-bucket .1;
   header = omega arith;
-  rates = rates-within 0 (j .line .rates) (λ h. omega arith) (l .rate) (l .rise);
+  rates = rates-within _ (j .line .rates) (λ h. omega arith) (l .rate) (l .rise);
   units = each-from (j .units) [] (λ i h. record {
     count = l .codings i h;
     limits = codings-within (getD (j .units) i []) (λ x k.

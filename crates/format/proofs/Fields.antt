@@ -1,4 +1,4 @@
--- Laws of little-endian fields.
+-- What one, two and four bytes at a place stand for, and where the i-th of fields of one width stands.
 use Prim.Native.Nat.{ℕ, zero, suc, _+_, _*_, _≤_, _<_}
 use mathlib.Core.Path.{_≡_, _∙_}
 use mathlib.Core.List.{List, [], _∷_}
@@ -7,6 +7,11 @@ use native.Mathlib.Nat.{mul-zero, mul-suc, add-zero}
 use lib.ListN.{length, getD, take, drop, replicate, length-drop}
 use lib.Seq.{drop-drop, getD-drop}
 use Rattle.format.specs.Fields.{number, fields}
+
+one-of : (l : List ℕ) → 1 ≤ length l → number (take 1 l) ≡ getD l 0 0
+unfolding number
+one-of [] h = absurd (omega arith)
+one-of (x ∷ l) h = omega arith
 
 two-of : (l : List ℕ) → 2 ≤ length l → number (take 2 l) ≡ getD l 0 0 + 256 * getD l 1 0
 unfolding number
@@ -22,7 +27,10 @@ four-of (x ∷ y ∷ []) h = absurd (omega arith)
 four-of (x ∷ y ∷ z ∷ []) h = absurd (omega arith)
 four-of (x ∷ y ∷ z ∷ w ∷ l) h = omega arith
 
--- two bytes at a place, and four as two pairs
+-- a byte at a place, two, and four as two pairs
+pub one-at : (l : List ℕ) (at : ℕ) → at < length l → number (take 1 (drop at l)) ≡ getD l at 0
+one-at l at h = one-of (drop at l) (rw length-drop (omega arith)) ∙ simp (getD-drop, add-zero)
+
 pub two-at : (l : List ℕ) (at : ℕ) → at + 2 ≤ length l → number (take 2 (drop at l)) ≡ getD l at 0 + 256 * getD l (at + 1) 0
 two-at l at h = two-of (drop at l) (rw length-drop (omega arith)) ∙ simp (getD-drop, add-zero)
 

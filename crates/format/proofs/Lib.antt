@@ -11,6 +11,7 @@ pub mod Exact
 pub mod RoundTrip
 pub mod Bounds
 pub mod Orders
+pub mod Either
 pub mod Places
 pub mod Opened
 pub mod Examples

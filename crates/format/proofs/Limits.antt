@@ -1,4 +1,4 @@
--- Laws of limits: the tests against the inequalities.
+-- A limit is kept by the test exactly where its inequalities hold, and the first of a list that is not kept gives the refusal; the same of two limits, and of one list after another.
 use Prim.Native.Nat.{ℕ, _≤_}
 use mathlib.Core.Path.{_≡_, refl, sym, ap, _∙_}
 use mathlib.Core.Bool.{Bool, true, false}
@@ -7,8 +7,8 @@ use mathlib.Core.List.{List, [], _∷_, _++_}
 use native.Mathlib.Omega.{arith}
 use borrow.Author.Tests.{leb-true, le-leb}
 use lib.Dec.{leb}
-use Rattle.model.specs.If.{if_then_else_}
-use Rattle.model.proofs.Tests.{both-true}
+use Rattle.base.specs.If.{if_then_else_}
+use Rattle.base.proofs.Tests.{both-true}
 use Rattle.format.specs.Limits.{Limit, kept, both-kept, broken, AllKept}
 
 abbrev pub Kept : Limit → Type 0
@@ -37,9 +37,6 @@ not-kept-by l false e g = e
 
 pub not-kept : (l : Limit) → (Kept l → ⊥) → kept l ≡ false
 not-kept l g = not-kept-by l (kept l) refl g
-
-pub of-not-kept : (l : Limit) → kept l ≡ false → Kept l → ⊥
-of-not-kept l e h = not-true (sym e ∙ is-kept l h)
 
 -- one limit in front
 pub broken-step : (l : Limit) (ls : List Limit) → kept l ≡ true → broken (l ∷ ls) ≡ broken ls

@@ -12,7 +12,7 @@ use Rattle.format.specs.Limits.{AllKept}
 use Rattle.format.specs.Parser.{refused, took, Parser, done, _>>=_, many}
 use Rattle.format.specs.Records.{Form, block, head-widths, head-limits, record-due}
 use Rattle.format.specs.JobBytes.{Header, header-limits, rate-limits, coding-limits, header-of, codings, header-form, rates-form, unit-form, job-of, header-parser, unit-parser, parse}
-use Rattle.format.specs.Claims.{u16-at, Due, RecordOrder, header-at, RecordOrders, Units, no-more, one-more, OpeningOrder, Refusals}
+use Rattle.format.specs.Claims.{u16-at, Due, HeadOrder, BodyOrder, RecordOrder, header-at, RecordOrders, Units, no-more, one-more, OpeningOrder, Refusals}
 use Rattle.format.proofs.Fields.{two-at, nth-field}
 use Rattle.format.proofs.Limits.{AllOf, none-broken, broken-one}
 use Rattle.format.proofs.Records.{total-same, total-entries, block-short, block-took, block-broken}
@@ -35,32 +35,48 @@ module _ (f : Form) (body number : ℕ) (size : total (f .widths) ≡ body) (one
   body-there : 4 + body ≤ length b → total (f .widths) ≤ length (drop 4 b)
   body-there h = rw length-drop (omega arith)
 
-  due-order : RecordOrder (record-due f) (f .kind) body number (λ l. fields (f .widths) (drop 4 l)) (λ vs. AllKept (f .limits vs)) b
+  pub due-head : HeadOrder (record-due f) (Due (f .kind) body b) b
   unfolding record-due
-  due-order = record {
+  due-head = record {
     head-there = λ h. bind-refused (block head-widths (head-limits f)) (λ v. block (f .widths) (f .limits)) b 1 (block-short head-widths (head-limits f) b (unfold total in h));
     then-due = λ h d. bind-refused (block head-widths (head-limits f)) (λ v. block (f .widths) (f .limits)) b 2 (head-refused h d);
+  }
+
+  pub due-body : BodyOrder (record-due f) (f .kind) body number (λ l. fields (f .widths) (drop 4 l)) (λ vs. AllKept (f .limits vs)) b
+  unfolding record-due
+  due-body = record {
     then-body = λ h d l. bind-later (block head-widths (head-limits f)) (λ v. block (f .widths) (f .limits)) b (fields head-widths b) 4 1 (head-taken h d) (block-short (f .widths) (f .limits) (drop 4 b) (rw length-drop (omega arith)));
     then-fields = λ h d k. bind-later (block head-widths (head-limits f)) (λ v. block (f .widths) (f .limits)) b (fields head-widths b) 4 number (head-taken (omega arith) d) (block-broken (f .widths) (f .limits) (drop 4 b) number (body-there h) (broken-one number _ (one _) k));
     else-read = λ h d k. bind-took (block head-widths (head-limits f)) (λ v. block (f .widths) (f .limits)) b (fields head-widths b) 4 (fields (f .widths) (drop 4 b)) (total (f .widths)) (head-taken (omega arith) d) (block-took (f .widths) (f .limits) (drop 4 b) (body-there h) (none-broken _ k)) ∙ ap (λ (n : ℕ). took (fields (f .widths) (drop 4 b)) (4 + n)) size;
   }
 
+  pub due-order : RecordOrder (record-due f) (f .kind) body number (λ l. fields (f .widths) (drop 4 l)) (λ vs. AllKept (f .limits vs)) b
+  due-order = record { head = due-head; rest = due-body }
+
 -- the same of a value made from the fields
-mapped : {A C : Type 0} (read : Parser A) (g : A → C) (kind body number : ℕ) (value : List ℕ → A) (Kept : C → Type 0) (b : List ℕ) → RecordOrder read kind body number value (λ a. Kept (g a)) b → RecordOrder (read >>= λ a. done (g a)) kind body number (λ l. g (value l)) Kept b
-unfolding done
-mapped read g kind body number value Kept b o = record {
+pub head-mapped : {A C : Type 0} (read : Parser A) (g : A → C) (Expected : Type 0) (b : List ℕ) → HeadOrder read Expected b → HeadOrder (read >>= λ a. done (g a)) Expected b
+head-mapped read g Expected b o = record {
   head-there = λ h. bind-refused read _ b 1 (o .head-there h);
   then-due = λ h d. bind-refused read _ b 2 (o .then-due h d);
+}
+
+pub body-mapped : {A C : Type 0} (read : Parser A) (g : A → C) (kind body number : ℕ) (value : List ℕ → A) (Kept : C → Type 0) (b : List ℕ) → BodyOrder read kind body number value (λ a. Kept (g a)) b → BodyOrder (read >>= λ a. done (g a)) kind body number (λ l. g (value l)) Kept b
+unfolding done
+body-mapped read g kind body number value Kept b o = record {
   then-body = λ h d l. bind-refused read _ b 1 (o .then-body h d l);
   then-fields = λ h d k. bind-refused read _ b number (o .then-fields h d k);
   else-read = λ h d k. bind-took read _ b (value b) (4 + body) (g (value b)) 0 (o .else-read h d k) refl ∙ rw add-zero;
 }
 
+pub mapped : {A C : Type 0} (read : Parser A) (g : A → C) (kind body number : ℕ) (value : List ℕ → A) (Kept : C → Type 0) (b : List ℕ) → RecordOrder read kind body number value (λ a. Kept (g a)) b → RecordOrder (read >>= λ a. done (g a)) kind body number (λ l. g (value l)) Kept b
+mapped read g kind body number value Kept b o = record {
+  head = head-mapped read g (Due kind body b) b (o .head);
+  rest = body-mapped read g kind body number value Kept b (o .rest);
+}
+
 -- the same where the value is said in another way
-revalued : {A : Type 0} (read : Parser A) (kind body number : ℕ) (value other : List ℕ → A) (Kept : A → Type 0) (b : List ℕ) → (4 + body ≤ length b → value b ≡ other b) → RecordOrder read kind body number value Kept b → RecordOrder read kind body number other Kept b
+pub revalued : {A : Type 0} (read : Parser A) (kind body number : ℕ) (value other : List ℕ → A) (Kept : A → Type 0) (b : List ℕ) → (4 + body ≤ length b → value b ≡ other b) → BodyOrder read kind body number value Kept b → BodyOrder read kind body number other Kept b
 revalued read kind body number value other Kept b e o = record {
-  head-there = o .head-there;
-  then-due = o .then-due;
   then-body = o .then-body;
   then-fields = λ h d k. o .then-fields h d (λ q. k (rw (e h) at q));
   else-read = λ h d k. o .else-read h d (rw (e h) k) ∙ ap (λ a. took a (4 + body)) (e h);
@@ -90,7 +106,10 @@ codings-number (c ∷ u) = (refl, (refl, codings-number u))
 record-orders : (b : List ℕ) → RecordOrders b
 unfolding header-parser unit-parser header-form rates-form unit-form total
 record-orders b = record {
-  header = revalued header-parser 1 18 3 _ header-at (λ h. AllKept (header-limits h)) b (header-is b) (mapped (record-due header-form) header-of 1 18 3 _ (λ h. AllKept (header-limits h)) b (due-order header-form 18 3 refl (λ vs. header-number (header-of vs)) b));
+  header = record {
+    head = head-mapped (record-due header-form) header-of (Due 1 18 b) b (due-head header-form 18 3 refl (λ vs. header-number (header-of vs)) b);
+    rest = revalued header-parser 1 18 3 _ header-at (λ h. AllKept (header-limits h)) b (header-is b) (body-mapped (record-due header-form) header-of 1 18 3 _ (λ h. AllKept (header-limits h)) b (due-body header-form 18 3 refl (λ vs. header-number (header-of vs)) b));
+  };
   rates = λ p. due-order (rates-form p) (2 * p) 4 (total-same p 2) (rates-number 0) b;
   unit = λ m. mapped (record-due (unit-form m)) codings 3 (6 * m) 5 _ (λ u. AllKept (coding-limits u)) b (due-order (unit-form m) (6 * m) 5 (total-entries m) (λ vs. codings-number (codings vs)) b);
 }

@@ -3,15 +3,17 @@ use Prim.Native.Nat.{ℕ, zero, suc, _+_, _-_, _≤_}
 use mathlib.Core.Path.{_≡_, refl, sym, ap, _∙_}
 use mathlib.Core.Bool.{Bool, true, false}
 use mathlib.Core.Option.{Option, none, some}
-use mathlib.Core.List.{List, [], _∷_}
+use mathlib.Core.List.{List, [], _∷_, _++_}
 use native.Mathlib.Omega.{arith}
 use borrow.Author.Tests.{ltb-false}
 use lib.Dec.{ltb}
 use lib.ListN.{length, take, drop, length-drop}
-use Rattle.model.specs.If.{if_then_else_}
+use Rattle.base.specs.If.{if_then_else_}
+use Rattle.base.specs.Refusals.{Test, refusal, unless, first, guarded, Condition}
+use Rattle.base.proofs.Refusals.{not-none, refusal-join, Decides, AllHold, in-order}
 use Rattle.format.specs.Fields.{number, total, fields}
 use Rattle.format.specs.Limits.{Limit, broken, AllKept}
-use Rattle.format.specs.Parser.{Result, refused, took, Parser, done, further, onward, _>>=_, unless-refused, many, refusal-of}
+use Rattle.format.specs.Parser.{Result, refused, took, Parser, done, further, onward, _>>=_, unless-refused, many, refusal-of, on-read, refusal-in, Looks}
 use Rattle.format.specs.Records.{Form, block, head-widths, head-values, head-limits, record-due}
 use Rattle.format.proofs.Limits.{not-some, all-kept}
 
@@ -32,6 +34,36 @@ pub has-refused : {A : Type 0} (r : Result A) (n : ℕ) → refusal-of r ≡ som
 unfolding refusal-of
 has-refused (refused m) n e = cc
 has-refused (took a k) n e = not-some (sym e)
+
+-- a call that reads first and then tests what it read
+pub looks-read : {A R : Type 0} (refuse : ℕ → R) (reading : Result A) (tests : A → List Test) (conditions : A → List Condition) (work : A → R) (Else : A → R → Type 0) → ((a : A) (k : ℕ) → reading ≡ took a k → Decides (tests a) (conditions a) × (AllHold (conditions a) → Else a (work a))) → Looks (on-read refuse reading (λ a. guarded refuse (tests a) (work a))) refuse reading conditions (λ a. Else a (on-read refuse reading (λ a. guarded refuse (tests a) (work a))))
+unfolding on-read
+looks-read refuse reading tests conditions work Else f =
+    (λ n e. rw e, λ a k e. let h = f a k e in in-order refuse (h .0) (Else a) (work a) (on-read refuse reading (λ a. guarded refuse (tests a) (work a))) (rw e) (h .1))
+
+-- a refusal that was found before the work
+pub read-refusal : {A R : Type 0} (refuse : ℕ → R) (reading : Result A) (tests : A → List Test) (work : R) → unless refuse (refusal-in reading tests) work ≡ on-read refuse reading (λ a. guarded refuse (tests a) work)
+unfolding refusal-in on-read unless guarded
+read-refusal refuse (refused n) tests work = refl
+read-refusal refuse (took a k) tests work = refl
+
+-- what was read passed every test
+pub record Passed {A : Type 0} (reading : Result A) (tests : A → List Test) : Type 0 where
+  pub value : A
+  pub size : ℕ
+  pub is : reading ≡ took value size
+  pub none-refuses : refusal (tests value) ≡ none
+
+pub passed : {A : Type 0} (reading : Result A) (tests : A → List Test) → refusal-in reading tests ≡ none → Passed reading tests
+unfolding refusal-in
+passed (refused n) tests e = absurd (not-none e)
+passed (took a k) tests e = record { value = a; size = k; is = refl; none-refuses = e }
+
+-- tests behind those that were looked at
+pub refusal-in-join : {A : Type 0} (reading : Result A) (tests : A → List Test) (more : List Test) → first (refusal-in reading tests) (refusal more) ≡ refusal-in reading (λ a. tests a ++ more)
+unfolding refusal-in unless
+refusal-in-join (refused n) tests more = refl
+refusal-in-join (took a k) tests more = sym (refusal-join (tests a) more)
 
 -- one reading after another
 module _ {A B : Type 0} (p : Parser A) (f : A → Parser B) (b : List ℕ) where

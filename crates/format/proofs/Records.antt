@@ -1,4 +1,4 @@
--- Laws of the record that is due, over its form.
+-- How many bytes rates and entries take, and what a block of fields is read as: 1 where it is cut, else the first limit that is not kept, else its values.
 use Prim.Native.Nat.{ℕ, zero, suc, _*_, _≤_, _<_}
 use mathlib.Core.Path.{_≡_, refl, sym, _∙_}
 use mathlib.Core.Option.{none, some}
@@ -7,7 +7,7 @@ use native.Mathlib.Omega.{arith}
 use native.Mathlib.Nat.{mul-zero, mul-suc}
 use borrow.Author.Tests.{le-ltb, lt-ltb}
 use lib.ListN.{length, replicate}
-use Rattle.model.specs.If.{if_then_else_}
+use Rattle.base.specs.If.{if_then_else_}
 use Rattle.format.specs.Fields.{total, fields}
 use Rattle.format.specs.Limits.{Limit, broken}
 use Rattle.format.specs.Parser.{refused, took, unless-refused}

@@ -1,19 +1,18 @@
 -- A job's bytes there and back: what `encode` writes `parse` reads, and what `parse` reads `encode` writes.
-use Prim.Native.Nat.{ℕ, zero, suc, _+_, _*_, _≤_, _<_}
+use Prim.Native.Nat.{ℕ, zero, suc, _+_, _*_, _<_}
 use mathlib.Core.Path.{_≡_, refl, sym, ap, ap₂, _∙_}
 use mathlib.Core.List.{List, [], _∷_, _++_}
 use native.Mathlib.Omega.{arith}
 use native.Mathlib.Nat.{zero-mul, suc-mul}
 use lib.ListN.{length, getD, replicate, length-append, length-replicate}
 use Rattle.model.specs.Job.{Bucket, Coding, Job}
-use Rattle.format.specs.JobBytes.{Header}
+use Rattle.format.specs.JobBytes.{Header, header-values, header-of, header-limits, rate-limits, unit-values, codings, coding-limits, entry-widths, header-form, rates-form, unit-form, job-of, header-in, header-parser, unit-parser, parse, unit-bytes, encode, UnitKept, WellFormed}
 use Rattle.format.specs.Fields.{total, Fit}
 use Rattle.format.specs.Fields as F
 use Rattle.format.specs.Limits.{AllKept}
 use Rattle.format.specs.Parser.{done, _>>=_, many, all-bytes, Each}
 use Rattle.format.specs.Parser as P
 use Rattle.format.specs.Records.{Form, head-widths, head-values, record-due, record-bytes}
-use Rattle.format.specs.JobBytes.{header-values, header-of, header-limits, rate-limits, unit-values, codings, coding-limits, entry-widths, header-form, rates-form, unit-form, job-of, header-in, header-parser, unit-parser, parse, unit-bytes, encode, UnitKept, WellFormed}
 use Rattle.format.specs.Places.{unit-size}
 use Rattle.format.specs.Claims.{ReadsBack, WritesBack, Sized}
 use Rattle.format.proofs.Records.{total-same, total-entries}
@@ -25,7 +24,7 @@ small : (vs : List ℕ) → Each (λ v. v < 65536) vs → Fit (replicate (length
 small [] P.no-more = F.no-more
 small (v ∷ vs) (P.one-more h t) = F.one-more {w = 2} h (small vs t)
 
-head-fit : (f : Form) → total (f .widths) < 65534 → f .kind < 65536 → Fit head-widths (head-values f)
+pub head-fit : (f : Form) → total (f .widths) < 65534 → f .kind < 65536 → Fit head-widths (head-values f)
 unfolding head-values
 head-fit f h k = small ((2 + total (f .widths)) ∷ f .kind ∷ []) (P.one-more {a = 2 + total (f .widths)} (omega arith) (P.one-more k P.no-more))
 
@@ -72,21 +71,21 @@ fit-count (F.one-more h t) = ap suc (fit-count t)
 -- P rates within their limits
 pub record RatesKept (p : ℕ) (rs : List ℕ) : Type 0 where
   pub count : length rs ≡ p
-  pub limits : AllKept (rate-limits 0 rs)
+  pub limits : AllKept (rates-form p .limits rs)
 
 rates-good : (p : ℕ) (rs : List ℕ) → RatesKept p rs → RecordGood (rates-form p) rs
 unfolding rates-form
-rates-good p rs k = record { fit = rw (← k .count) (small rs (rates-small 0 rs (k .limits))); kept = k .limits }
+rates-good p rs k = record { fit = rw (← k .count) (small rs (rates-small _ rs (k .limits))); kept = k .limits }
 
 rates-kept : (p : ℕ) (rs : List ℕ) → RecordGood (rates-form p) rs → RatesKept p rs
 unfolding rates-form
 rates-kept p rs g = record { count = fit-count (g .fit) ∙ length-replicate p 2; limits = g .kept }
 
-rates-head : (p : ℕ) → p ≤ 16 → Fit head-widths (head-values (rates-form p))
+rates-head : (p : ℕ) → 2 * p < 65534 → Fit head-widths (head-values (rates-form p))
 unfolding rates-form
 rates-head p h = head-fit (rates-form p) (omega (arith, total-same p 2)) (omega arith)
 
-exact-rates : (p : ℕ) → p ≤ 16 → Exact (record-due (rates-form p)) (RatesKept p) (record-bytes (rates-form p))
+exact-rates : (p : ℕ) → 2 * p < 65534 → Exact (record-due (rates-form p)) (RatesKept p) (record-bytes (rates-form p))
 exact-rates p h = exact-same (RatesKept p) (exact-record (rates-form p) (rates-head p h)) (rates-good p) (rates-kept p)
 
 -- a unit
@@ -119,11 +118,11 @@ unit-same : (m : ℕ) (vs : List ℕ) → RecordGood (unit-form m) vs → unit-v
 unfolding unit-form
 unit-same m vs g = codings-back m vs (g .fit) .0
 
-unit-head : (m : ℕ) → m ≤ 31 → Fit head-widths (head-values (unit-form m))
+unit-head : (m : ℕ) → 6 * m < 65534 → Fit head-widths (head-values (unit-form m))
 unfolding unit-form
 unit-head m h = head-fit (unit-form m) (omega (arith, total-entries m)) (omega arith)
 
-exact-unit : (m : ℕ) → m ≤ 31 → Exact (unit-parser m) (UnitKept m) (unit-bytes m)
+exact-unit : (m : ℕ) → 6 * m < 65534 → Exact (unit-parser m) (UnitKept m) (unit-bytes m)
 unfolding unit-parser unit-bytes
 exact-unit m h =
     exact-map (exact-record (unit-form m) (unit-head m h)) codings unit-values (UnitKept m) (λ u k. (unit-good m u k, values-back u)) (λ vs g. (unit-kept m vs g, unit-same m vs g))
@@ -185,7 +184,7 @@ pub record JobGood (j : Job) : Type 0 where
   pub rest : RestGood (header-in j) j
 
 good-job : (j : Job) → WellFormed j → JobGood j
-unfolding header-in
+unfolding header-in rates-form
 good-job j w = record {
   header = w .header;
   rest = record {
@@ -195,7 +194,7 @@ good-job j w = record {
 }
 
 well-formed : (j : Job) → JobGood j → WellFormed j
-unfolding header-in job-of
+unfolding header-in job-of rates-form
 well-formed j g = record {
   one-bucket = ap (λ (i : Job). length (i .line .buckets)) (g .rest .units .job-is);
   one-fill = ap (λ (i : Job). length (i .start .buckets)) (g .rest .units .job-is);
@@ -219,11 +218,11 @@ pub encode-parse : WritesBack
 encode-parse b B j n e = let r = exact-parse .back b B j n e in record { size = r .size; same = r .same; well-formed = r .good }
 
 -- how many bytes that is
-unit-length : (m : ℕ) → m ≤ 31 → (u : List Coding) → UnitKept m u → length (unit-bytes m u) ≡ unit-size m
+unit-length : (m : ℕ) → 6 * m < 65534 → (u : List Coding) → UnitKept m u → length (unit-bytes m u) ≡ unit-size m
 unfolding unit-bytes unit-form
 unit-length m h u k = record-length (unit-form m) (unit-values u) (unit-head m h) (unit-good m u k .fit) ∙ rw total-entries
 
-units-length : (m : ℕ) → m ≤ 31 → (us : List (List Coding)) → Each (UnitKept m) us → length (all-bytes (unit-bytes m) us) ≡ length us * unit-size m
+units-length : (m : ℕ) → 6 * m < 65534 → (us : List (List Coding)) → Each (UnitKept m) us → length (all-bytes (unit-bytes m) us) ≡ length us * unit-size m
 unfolding all-bytes
 units-length m h [] P.no-more = sym (zero-mul (unit-size m))
 units-length m h (u ∷ us) (P.one-more k t) =

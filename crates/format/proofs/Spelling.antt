@@ -4,7 +4,7 @@ use mathlib.Core.Path.{_≡_, refl, sym, ap, ap₂, _∙_}
 use mathlib.Core.List.{List, [], _∷_, _++_, append-assoc}
 use native.Mathlib.Omega.{arith}
 use native.Mathlib.Nat.{pow-suc, mod-add-div, mod-eq-of-lt, div-eq-of-lt, add-mul-mod-self-left, add-mul-div-left, div-lt-iff-lt-mul}
-use lib.ListN.{length, getD, take, drop, length-append, length-drop}
+use lib.ListN.{length, take, drop, length-append, length-drop}
 use lib.Seq.{take-at, drop-at, take-add, length-take-le}
 use Rattle.format.specs.Fields.{number, bytes, total, fields, spelled, Fit, Bytes, end, byte}
 use Rattle.format.specs.Fields as F
@@ -36,11 +36,6 @@ pub number-fits : (l : List ℕ) → Bytes l → number l < 256 ^ length l
 unfolding number
 number-fits [] B = omega arith
 number-fits (x ∷ xs) (byte h B) = rw pow-suc (omega (arith, number-fits xs B))
-
--- a list whose elements are all bytes, as a slice of bytes is known to be
-pub bytes-from : (b : List ℕ) → ((i : ℕ) → i < length b → getD b i 0 < 256) → Bytes b
-bytes-from [] f = end
-bytes-from (x ∷ xs) f = byte (f 0 (omega arith)) (bytes-from xs (λ i h. f (suc i) (omega arith)))
 
 pub bytes-take : (n : ℕ) (l : List ℕ) → Bytes l → Bytes (take n l)
 bytes-take zero l B = end

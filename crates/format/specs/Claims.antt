@@ -2,11 +2,13 @@
 use Prim.Native.Nat.{ℕ, suc, _+_, _*_, _-_, _≤_, _<_}
 use mathlib.Core.Path.{_≡_}
 use mathlib.Core.Logic.{_↔_}
+use mathlib.Core.Option.{none, some}
 use mathlib.Core.List.{List, [], _∷_, _++_}
 use lib.ListN.{length, getD, take, drop, replicate}
 use Rattle.model.specs.Job.{bucketAt, Coding, Job, codingAt}
 use Rattle.format.specs.Fields.{fields, Bytes}
 use Rattle.format.specs.Limits.{AllKept}
+use Rattle.format.specs.Choices.{choice-of}
 use Rattle.format.specs.Parser.{refused, took, Parser}
 use Rattle.format.specs.Records.{record-due}
 use Rattle.format.specs.JobBytes.{Header, header-limits, rate-limits, codings, coding-limits, entry-widths, rates-form, job-of, header-in, header-parser, unit-parser, parse, encode, WellFormed}
@@ -75,13 +77,21 @@ u16-at b at = getD b at 0 + 256 * getD b (at + 1) 0
 abbrev pub Due : ℕ → ℕ → List ℕ → Type 0
 Due kind body b = (u16-at b 0 ≡ 2 + body) × (u16-at b 2 ≡ kind)
 
--- in which order a record of this kind and with a body of so many bytes is looked at, whose fields are refused by `number` where they are not kept to their limits. One of the five holds of any bytes
-pub record RecordOrder {A : Type 0} (read : Parser A) (kind body number : ℕ) (value : List ℕ → A) (Kept : A → Type 0) (b : List ℕ) : Type 0 where
+-- in which order a record is looked at: its head, of which `Expected` says that length and kind are those due
+pub record HeadOrder {A : Type 0} (read : Parser A) (Expected : Type 0) (b : List ℕ) : Type 0 where
   pub head-there : length b < 4 → read b ≡ refused 1
-  pub then-due : 4 ≤ length b → (Due kind body b → ⊥) → read b ≡ refused 2
+  pub then-due : 4 ≤ length b → (Expected → ⊥) → read b ≡ refused 2
+
+-- then, where this kind is due and has a body of so many bytes, the body and its fields, which are refused by `number` where they are not kept to their limits
+pub record BodyOrder {A : Type 0} (read : Parser A) (kind body number : ℕ) (value : List ℕ → A) (Kept : A → Type 0) (b : List ℕ) : Type 0 where
   pub then-body : 4 ≤ length b → Due kind body b → length b < 4 + body → read b ≡ refused 1
   pub then-fields : 4 + body ≤ length b → Due kind body b → (Kept (value b) → ⊥) → read b ≡ refused number
   pub else-read : 4 + body ≤ length b → Due kind body b → Kept (value b) → read b ≡ took (value b) (4 + body)
+
+-- where one kind is due: one of the five holds of any bytes
+pub record RecordOrder {A : Type 0} (read : Parser A) (kind body number : ℕ) (value : List ℕ → A) (Kept : A → Type 0) (b : List ℕ) : Type 0 where
+  pub head : HeadOrder read (Due kind body b) b
+  pub rest : BodyOrder read kind body number value Kept b
 
 -- kind 1's nine fields, each by its place in the record
 abbrev pub header-at : List ℕ → Header
@@ -120,3 +130,11 @@ pub record OpeningOrder (b : List ℕ) : Type 0 where
 -- demand 1, of opening
 abbrev pub Refusals : Type 0
 Refusals = (b : List ℕ) → RecordOrders b × OpeningOrder b
+
+-- a choice as a number: 255 stands for none, and every other number for itself
+pub record ChoiceNumbers (x : ℕ) : Type 0 where
+  pub mark : x ≡ 255 → choice-of x ≡ none
+  pub choice : (x ≡ 255 → ⊥) → choice-of x ≡ some x
+
+abbrev pub Marked : Type 0
+Marked = (x : ℕ) → ChoiceNumbers x

@@ -5,7 +5,7 @@ use mathlib.Core.Bool.{Bool, _&&_}
 use mathlib.Core.List.{List, [], _∷_, _++_}
 use lib.Dec.{eqb}
 use lib.ListN.{length, getD, replicate}
-use Rattle.model.specs.If.{if_then_else_}
+use Rattle.base.specs.If.{if_then_else_}
 use Rattle.model.specs.Job.{bucketAt, Coding, Job}
 use Rattle.format.specs.Fields.{number, bytes, total, fields, spelled}
 use Rattle.format.specs.Limits.{Limit, limit, kept, broken, AllKept}

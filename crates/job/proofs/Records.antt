@@ -9,7 +9,7 @@ use borrow.Author.Tests.{ltb-false, lt-ltb, le-ltb}
 use lib.Dec.{ltb}
 use lib.ListN.{length, take, drop, length-drop}
 use lib.Seq.{take-all}
-use Rattle.model.specs.If.{if_then_else_}
+use Rattle.base.specs.If.{if_then_else_}
 use Rattle.format.specs.Fields.{number, total, fields}
 use Rattle.format.specs.Limits.{Limit, limit, broken}
 use Rattle.format.specs.Parser.{Result, refused, took, further, onward, _>>=_, unless-refused, refusal-of}

@@ -3,7 +3,7 @@ use Prim.Native.Nat.{ℕ}
 use mathlib.Core.Path.{_≡_, refl, sym}
 use mathlib.Core.Bool.{true, false}
 use mathlib.Core.List.{List}
-use Rattle.model.specs.If.{if_then_else_}
+use Rattle.base.specs.If.{if_then_else_}
 use Rattle.format.specs.Limits.{Limit, both-kept, broken, AllKept}
 use Rattle.format.specs.JobBytes.{Header, header-limits}
 use Rattle.format.proofs.Limits.{Kept, AllOf, is-kept, not-kept, none-broken, broken-one}

@@ -4,11 +4,11 @@ use mathlib.Core.Option.{Option, none, some}
 use mathlib.Core.List.{List}
 use lib.Dec.{ltb}
 use lib.ListN.{length, drop}
-use Rattle.model.specs.If.{if_then_else_}
+use Rattle.base.specs.If.{if_then_else_}
 use Rattle.model.specs.Job as model
 use Rattle.format.specs.Fields.{total}
 use Rattle.format.specs.Parser.{Result, refused, took, refusal-of}
-use Rattle.format.specs.Records.{Form, head-widths, head-limits, block}
+use Rattle.format.specs.Records.{Form, head-widths, head-limits, block, plain-form}
 use Rattle.format.specs.JobBytes as format
 use Rattle.format.specs.JobBytes.{header-form, rates-form, unit-form}
 use Rattle.job.specs.declared.Header.{Header}
@@ -52,12 +52,14 @@ unfoldable pub form-of : Due → Form
 form-of d.Header = header-form
 form-of (d.Rates n) = rates-form n
 form-of (d.Unit n) = unit-form n
+form-of (d.Plain kind n) = plain-form kind n
 
 -- the record's count of fields is small enough for its length
 abbrev pub Small : Due → Type 0
 Small d.Header = Unit {0}
 Small (d.Rates n) = n ≤ 1000
 Small (d.Unit n) = n ≤ 1000
+Small (d.Plain kind n) = n ≤ 255
 
 -- the first refusal of two
 unfoldable pub first-of : Option ℕ → Option ℕ → Option ℕ

@@ -8,7 +8,7 @@ ghost use lib.ListN.{length, take, drop, replicate};
 ghost use Rattle.format.specs.Fields.{number, fields};
 ghost use Rattle.format.specs.Limits.{limit, kept, both-kept, broken, AllKept};
 ghost use Rattle.format.specs.Parser.{further, many, refusal-of, with-value};
-ghost use Rattle.format.specs.Records.{head-limits, record-due};
+ghost use Rattle.format.specs.Records.{head-limits, record-due, plain-form};
 ghost use Rattle.format.specs.JobBytes.{header-of, same-header, header-limits, rate-limit, rate-limits, size-limit, distortion-limit, coding-limits, codings, entry-widths, header-in, unit-parser, parse};
 ghost use Rattle.format.specs.Places.{unit-size, field-at, rate-at, coding-at};
 ghost use Rattle.job.specs.Answers.{plain, verdict, form-of, Small, reading, coding-of, shape, answering};
@@ -33,17 +33,23 @@ pub struct Coding {
     pub distortion: u32,
 }
 
+// A choice index as plans and sets of pins hold it, and the mark: no unit in a plan, no pin in a set.
+pub type Choice = u8;
+
+pub const NO_CHOICE: Choice = 255;
+
 // Whether a record is taken, or the refusal's number.
 pub enum Verdict {
     Fits,
     Refused(u8),
 }
 
-// The record that is due: a header, so many rates, a unit with so many codings.
-pub enum Due {
+// The record that is due: a header, so many rates, a unit with so many codings, or so many fields of two bytes with any values.
+enum Due {
     Header,
     Rates(u16),
     Unit(u16),
+    Plain { kind: u16, fields: u8 },
 }
 
 // The header and how many bytes the job took, or the refusal's number.
@@ -204,10 +210,7 @@ fn head_verdict(due: Due, len: u16, kind: u16) -> Verdict
 {
     match due {
         Due::Header => match kind {
-            Header::KIND => match len {
-                Header::LENGTH => Verdict::Fits,
-                _ => Verdict::Refused(refusal::NOT_DUE),
-            },
+            Header::KIND => same_length(len, Header::LENGTH),
             _ => Verdict::Refused(refusal::NOT_DUE),
         },
         Due::Rates(n) => match kind {
@@ -218,6 +221,12 @@ fn head_verdict(due: Due, len: u16, kind: u16) -> Verdict
             Header::UNIT_KIND => same_length(len, 2 + 6 * n),
             _ => Verdict::Refused(refusal::NOT_DUE),
         },
+        Due::Plain { kind: own, fields } => {
+            if kind != own {
+                return Verdict::Refused(refusal::NOT_DUE);
+            }
+            same_length(len, 2 + 2 * (fields as u16))
+        }
     }
 }
 
@@ -323,7 +332,15 @@ fn record_verdict(rest: &[u8], due: Due) -> Verdict
         Due::Header => Header::of(body).verdict(),
         Due::Rates(n) => rates_verdict(body, n),
         Due::Unit(n) => codings_verdict(body, n),
+        Due::Plain { kind: _, fields: _ } => Verdict::Fits,
     }
+}
+
+// A record of so many fields of two bytes, with any values.
+pub fn plain_verdict(rest: &[u8], kind: u16, fields: u8) -> Verdict
+    ensures { λ r. ⌜ verdict r ≡ refusal-of (record-due (plain-form kind fields) (now (rest .entry))) ⌝ }
+{
+    record_verdict(rest, Due::Plain { kind, fields })
 }
 
 // The units' records, the first of which starts at `start`.

@@ -8,9 +8,9 @@ use native.Mathlib.Numerals.{add-one}
 use native.Mathlib.Omega.{arith}
 use lib.ListN.{length, getD, take, drop, set, length-set, length-drop, length-append, List·getD-append, length-replicate, getD-replicate}
 use lib.Seq.{length-take-le, getD-take, getD-drop, getD-set-same, getD-set-other, getD-append-add, ext-getD}
-use Rattle.model.specs.Levels.{build}
+use Rattle.base.specs.Lists.{build}
 use Rattle.model.specs.Table.{mark}
-use Rattle.model.proofs.Builds.{build-length, build-at}
+use Rattle.base.proofs.Builds.{build-length, build-at}
 use Rattle.planning.specs.Passes.{least-below}
 use Rattle.planning.proofs.Passes.{least-marked}
 use Rattle.layer.specs.Answers.{no-prices}
@@ -42,6 +42,15 @@ module _ (from : ℕ) where
     before = a .before;
     after = λ i k. a .after i (omega arith);
   }
+
+  -- no number becomes larger
+  pub lessened-low : (n : ℕ) (f : ℕ → ℕ) (old new : List ℕ) → Lessened from n f old new → (i : ℕ) → getD new i 0 ≤ getD old i 0
+  lessened-low n f old new a i = go (decLt i from) (decLt i (from + n))
+    where
+      go : Dec (i < from) → Dec (i < from + n) → getD new i 0 ≤ getD old i 0
+      go (yes p) q = omega (arith, a .before i p)
+      go (no p) (yes q) = let e : from + (i - from) ≡ i = omega arith in omega (arith, rw e at (a .here (i - from) (omega arith)))
+      go (no p) (no q) = omega (arith, a .after i (omega arith))
 
 pub lowered-cong : (n m : ℕ) (f g : ℕ → ℕ) (old new : List ℕ) → n ≡ m → ((i : ℕ) → i < m → f i ≡ g i) → Lowered n f old new → Lowered m g old new
 lowered-cong n m f g old new e h a = record { size = a .size; each = λ i k b. a .each i (omega arith) b ∙ rw (h i k) }
@@ -76,6 +85,20 @@ made-behind low mid high f g old new last h k a b e =
     go : (i : ℕ) → low ≤ i → i < high → Dec (i < mid) → getD last i 0 ≡ f i
     go i p q (yes t) = b .before i t ∙ a .here i p t
     go i p q (no t) = let r : mid ≤ i = omega arith in b .here i r q ∙ e i r q
+
+-- more words before those
+pub made-ahead : (low mid high : ℕ) (f g : ℕ → ℕ) (old new last : List ℕ) → low ≤ mid → mid ≤ high → Made mid high f old new → Made low mid g new last → ((i : ℕ) → low ≤ i → i < mid → g i ≡ f i) → Made low high f old last
+made-ahead low mid high f g old new last h k a b e =
+    record {
+      size = b .size ∙ a .size;
+      here = λ i p q. go i p q (decLt i mid);
+      before = λ i p. b .before i p ∙ a .before i (omega arith);
+      after = λ i p. b .after i (omega arith) ∙ a .after i p;
+    }
+  where
+    go : (i : ℕ) → low ≤ i → i < high → Dec (i < mid) → getD last i 0 ≡ f i
+    go i p q (yes t) = b .here i p t ∙ e i p t
+    go i p q (no t) = let r : mid ≤ i = omega arith in b .after i r ∙ a .here i r q
 
 -- words made anew from the first on, as a list
 pub made-all : (n : ℕ) (f : ℕ → ℕ) (old new : List ℕ) → n ≤ length old → Made 0 n f old new → new ≡ build n f ++ drop n old
@@ -142,7 +165,7 @@ least-more n m f old new a b = record {
 }
 
 -- those behind offer nothing
-least-rest : (n m : ℕ) (f : ℕ → ℕ) → m ≤ n → ((x : ℕ) → m ≤ x → x < n → f x ≡ mark) → least-below n f ≡ least-below m f
+pub least-rest : (n m : ℕ) (f : ℕ → ℕ) → m ≤ n → ((x : ℕ) → m ≤ x → x < n → f x ≡ mark) → least-below n f ≡ least-below m f
 unfolding least-below
 least-rest zero m f h e = let z : m ≡ 0 = omega arith in rw z refl
 least-rest (suc n) m f h e = go (λ k. least-rest n m f k (λ x a b. e x a (omega arith))) (decLt n m)
@@ -150,9 +173,6 @@ least-rest (suc n) m f h e = go (λ k. least-rest n m f k (λ x a b. e x a (omeg
     go : (m ≤ n → least-below n f ≡ least-below m f) → Dec (n < m) → min (least-below n f) (f n) ≡ least-below m f
     go ih (yes b) = let z : m ≡ suc n = omega arith in rw z refl
     go ih (no b) = let q = ih (omega arith) in omega (arith, e n (omega arith) (omega arith), least-marked n f)
-
-pub least-all : (n m k : ℕ) (f : ℕ → ℕ → ℕ) (block : List ℕ) → m ≤ k → ((i x : ℕ) → i < n → m ≤ x → x < k → f i x ≡ mark) → LeastOf n m f block → LeastOf n k f block
-least-all n m k f block h e a = record { size = a .size; each = λ i b. a .each i b ∙ sym (least-rest k m (f i) h (λ x c d. e i x b c d)) }
 
 -- a part of words, word by word
 pub part-at : (from n : ℕ) (l : List ℕ) (i : ℕ) → i < n → getD (take (from + n - from) (drop from l)) i 0 ≡ getD l (from + i) 0

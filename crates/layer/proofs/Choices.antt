@@ -10,58 +10,62 @@ use borrow.Author.Tests.{lt-ltb, le-ltb, eq-eqb, ne-eqb}
 use lib.Dec.{ltb, eqb}
 use lib.ListN.{length, getD, take, drop, set, length-set}
 use lib.Seq.{getD-set-same, getD-set-other}
-use Rattle.model.specs.If.{if_then_else_}
+use Rattle.base.specs.If.{if_then_else_}
 use Rattle.model.specs.Table.{mark, bound}
 use Rattle.planning.specs.Passes.{charged, row-offer}
-use Rattle.layer.specs.Answers.{coding-if, price-open, priced, price-at}
+use Rattle.layer.specs.declared.Aim.{Aim}
+use Rattle.layer.specs.Answers.{combine, coding-if, price-open, priced, price-at}
 use Rattle.layer.specs.Blocks.{Lessened, Lowered}
-use Rattle.layer.proofs.Blocks.{part-at, part-size}
+use Rattle.layer.specs.Near.{closed, NearWords, Neared}
+use Rattle.layer.proofs.Blocks.{lessened-low, part-at, part-size}
+use Rattle.layer.proofs.Near.{closed-min, closed-marked, combined-closed}
 
-module _ (_⊕_ : ℕ → ℕ → ℕ) where
-  -- a size with no price
-  pub barred-lowered : (count width start : ℕ) (next block : List ℕ) (size price : ℕ) → bound < price → Lowered count (λ i. row-offer _⊕_ width next (start + i) (price-open size price)) block block
+-- a size: the words so many rows before those of the block
+module _ (aim : Aim) (count width start : ℕ) (words : List ℕ) (size price : ℕ) (room : start + count ≤ length words) (fits : price ≤ bound) (near : NearWords words) where
+  abbrev back : ℕ
+  back = size * width
+
+  abbrev read : List ℕ
+  read = take ((start - back) + (count - (back - start)) - (start - back)) (drop (start - back) words)
+
+  read-size : length read ≡ count - (back - start)
+  read-size = part-size (start - back) (count - (back - start)) words (omega arith)
+
+  size-neared : (old new : List ℕ) → Lessened (back - start) (length read) (λ i. combine aim price (getD read i 0)) old new → Neared count (λ i. row-offer (combine aim) width words (start + i) (price-open size price)) old new
   unfolding price-open row-offer if_then_else_
-  barred-lowered count width start next block size price e = record { size = refl; each = λ i h k. rw (lt-ltb bound price e) (omega arith) }
+  size-neared old new a =
+      record { size = a .size; low = λ i h. lessened-low (back - start) (length read) _ old new a i; each = λ i h. rw (le-ltb bound price fits) (go i h (decLt (start + i) back)) }
+    where
+      go : (i : ℕ) → i < count → Dec (start + i < back) → closed (getD new i 0) ≡ min (closed (getD old i 0)) (if ltb (start + i) back then mark else charged (combine aim) price (getD words (start + i - back) 0))
+      go i h (yes b) = rw (lt-ltb (start + i) back b, a .before i (omega arith)) (omega (arith, closed-marked (getD old i 0)))
+      go i h (no b) =
+          let skip : ℕ = back - start in
+          let at : skip + (i - skip) ≡ i = omega arith in
+          let from : (start - back) + (i - skip) ≡ start + i - back = omega arith in
+          let n : i - skip < count - skip = omega arith in
+          let q = a .here (i - skip) (omega (arith, read-size)) in
+          let w = part-at (start - back) (count - skip) words (i - skip) n in
+          let v : ℕ = getD words (start + i - back) 0 in
+          rw (le-ltb (start + i) back (omega arith), rw (at, w, from) at q) (closed-min (combine aim price v) (getD old i 0) ∙ rw (combined-closed aim price v fits (near .each (start + i - back) (omega arith))) (omega arith))
 
-  -- a size with a price: the words so many rows before those of the block
-  module _ (count width start : ℕ) (next : List ℕ) (size price : ℕ) (room : start + count ≤ length next) (fits : price ≤ bound) where
-    abbrev back : ℕ
-    back = size * width
+  -- with what the code computed
+  pub size-made : (old new : List ℕ) (skip from n : ℕ) → skip ≡ back - start → from ≡ start - back → n ≡ count - skip → Lessened skip (length (take (from + n - from) (drop from words))) (λ i. combine aim price (getD (take (from + n - from) (drop from words)) i 0)) old new → Neared count (λ i. row-offer (combine aim) width words (start + i) (price-open size price)) old new
+  size-made old new skip from n p q r a =
+      let m : n ≡ count - (back - start) = r ∙ ap (λ (k : ℕ). count - k) p in
+      size-neared old new (rw (m, p, q) at a)
 
-    abbrev read : List ℕ
-    read = take ((start - back) + (count - (back - start)) - (start - back)) (drop (start - back) next)
-
-    read-size : length read ≡ count - (back - start)
-    read-size = part-size (start - back) (count - (back - start)) next (omega arith)
-
-    choice-lowered : (old new : List ℕ) → Lessened (back - start) (length read) (λ i. charged _⊕_ price (getD read i 0)) old new → Lowered count (λ i. row-offer _⊕_ width next (start + i) (price-open size price)) old new
-    unfolding price-open row-offer if_then_else_
-    choice-lowered old new a =
-        record { size = a .size; each = λ i h k. rw (le-ltb bound price fits) (go i h k (decLt (start + i) back)) }
-      where
-        go : (i : ℕ) → i < count → getD old i 0 ≤ mark → Dec (start + i < back) → getD new i 0 ≡ min (getD old i 0) (if ltb (start + i) back then mark else charged _⊕_ price (getD next (start + i - back) 0))
-        go i h k (yes b) = rw (lt-ltb (start + i) back b) (a .before i (omega arith) ∙ omega arith)
-        go i h k (no b) =
-            let skip : ℕ = back - start in
-            let at : skip + (i - skip) ≡ i = omega arith in
-            let from : (start - back) + (i - skip) ≡ start + i - back = omega arith in
-            let n : i - skip < count - skip = omega arith in
-            let q = a .here (i - skip) (omega (arith, read-size)) in
-            let w = part-at (start - back) (count - skip) next (i - skip) n in
-            rw (le-ltb (start + i) back (omega arith)) (rw (at, w, from) at q ∙ omega arith)
-
-    -- with what the code computed
-    pub size-made : (old new : List ℕ) (skip from n : ℕ) → skip ≡ back - start → from ≡ start - back → n ≡ count - skip → Lessened skip (length (take (from + n - from) (drop from next))) (λ i. charged _⊕_ price (getD (take (from + n - from) (drop from next)) i 0)) old new → Lowered count (λ i. row-offer _⊕_ width next (start + i) (price-open size price)) old new
-    size-made old new skip from n p q r a =
-        let m : n ≡ count - (back - start) = r ∙ ap (λ (k : ℕ). count - k) p in
-        choice-lowered old new (rw (m, p, q) at a)
+module _ (_⊕_ : ℕ → ℕ → ℕ) (width : ℕ) (words prices : List ℕ) (i size : ℕ) where
+  -- a size with no price
+  pub no-price : bound < getD prices size 0 → row-offer _⊕_ width words i (priced prices size) ≡ mark
+  unfolding priced price-open row-offer if_then_else_
+  no-price h = rw (lt-ltb bound (getD prices size 0) h)
 
   -- a size that is more than the decoder holds at a place
-  pub past-rows : (width : ℕ) (next prices : List ℕ) (i size : ℕ) → i < size * width → row-offer _⊕_ width next i (priced prices size) ≡ mark
+  pub past-rows : i < size * width → row-offer _⊕_ width words i (priced prices size) ≡ mark
   unfolding priced price-open row-offer if_then_else_
-  past-rows width next prices i size h = go (ltb bound (getD prices size 0))
+  past-rows h = go (ltb bound (getD prices size 0))
     where
-      go : (t : Bool) → row-offer _⊕_ width next i (if t then none else some (record { size = size; distortion = getD prices size 0 })) ≡ mark
+      go : (t : Bool) → row-offer _⊕_ width words i (if t then none else some (record { size = size; distortion = getD prices size 0 })) ≡ mark
       go true = refl
       go false = rw (lt-ltb i (size * width) h)
 

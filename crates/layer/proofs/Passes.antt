@@ -7,7 +7,7 @@ use lib.ListN.{length, getD, take, drop}
 use lib.Seq.{take-at, drop-at}
 use Rattle.model.specs.Job.{Line}
 use Rattle.model.specs.Table.{sizes, span, layerWords, stateAt, wordIn}
-use Rattle.model.proofs.Builds.{build-length}
+use Rattle.base.proofs.Builds.{build-length}
 use Rattle.planning.specs.Rule.{Allowed, layer-from}
 use Rattle.planning.specs.Passes.{least-below, arrived, word-if, sent-from, decoded-from, row-offer}
 use Rattle.planning.proofs.Passes.{two-passes, decoded-rows}

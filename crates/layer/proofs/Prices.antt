@@ -11,10 +11,10 @@ use borrow.Author.Tests.{lt-ltb, le-ltb, ltb-false, eq-eqb, eqb-true}
 use lib.Dec.{ltb, leb, eqb}
 use lib.ListN.{length, getD}
 use Rattle.trellis.specs.Table.{charge}
-use Rattle.model.specs.If.{if_then_else_}
+use Rattle.base.specs.If.{if_then_else_}
 use Rattle.model.specs.Job as model
 use Rattle.model.specs.Table.{mark, bound, sizes, span, tops, layerWords}
-use Rattle.model.proofs.Builds.{build-cong}
+use Rattle.base.proofs.Builds.{build-cong}
 use Rattle.planning.specs.Rule.{Allowed, layer-from}
 use Rattle.planning.specs.Passes.{least-below, sent-from, decoded-from, charged, row-offer}
 use Rattle.planning.proofs.Passes.{least-marked, two-passes, decoded-rows}

@@ -8,7 +8,7 @@ use native.Mathlib.Omega.{arith}
 use borrow.Author.Tests.{lt-ltb, le-ltb}
 use lib.Dec.{ltb}
 use lib.ListN.{length, getD, take, drop}
-use Rattle.model.specs.If.{if_then_else_}
+use Rattle.base.specs.If.{if_then_else_}
 use Rattle.model.specs.Table.{mark}
 use Rattle.layer.specs.declared.Bucket.{Bucket}
 use Rattle.layer.specs.Blocks.{Lessened, Lowered, level-read, rate-read}

@@ -10,8 +10,8 @@ use borrow.Author.Tests.{lt-ltb, le-ltb, ltb-true}
 use lib.Dec.{ltb}
 use lib.ListN.{length, getD, take, drop}
 use lib.Seq.{getD-take, getD-drop}
-use Rattle.model.specs.If.{if_then_else_}
-use Rattle.model.specs.Step.{bucket-step, poured, overfull}
+use Rattle.base.specs.If.{if_then_else_}
+use Rattle.model.specs.Step.{bucket-step, after-sending, overfull}
 use Rattle.model.specs.Table.{mark, sizes, span, layerWords, stateAt, wordIn}
 use Rattle.model.proofs.Places.{layer-each, place-below}
 use Rattle.planning.specs.Passes.{least-below, unless-over, arrived, word-if}
@@ -102,21 +102,21 @@ module _ (l : Line) (between rest : List ℕ) (b : ℕ) (top : b ≤ l .decoder)
     where
       go : Dec (c < l .decoder + 1 - b) → Dec ((k + c) - l .outer .drain < n1) → Dec ((j + c) - l .inner .drain < n2) → rate-read (l .outer) (l .inner) (l .decoder + 1 - b) rest k j c ≡ word-if (wordIn (line-is l) between) (arrived (line-is l) (levels l b k j) c)
       go (yes p) (yes q) (yes r) =
-          unfold rate-read arrived line-is bucket-is poured zipWith bucket-step overfull if_then_else_ unless-over word-if in
+          unfold rate-read arrived line-is bucket-is after-sending zipWith bucket-step overfull if_then_else_ unless-over word-if in
           rw (lt-ltb c (l .decoder + 1 - b) p, lt-ltb ((k + c) - l .outer .drain) n1 q, lt-ltb ((j + c) - l .inner .drain) n2 r, le-ltb (l .decoder) (b + c) (omega arith), le-ltb (l .outer .size) ((k + c) - l .outer .drain) (omega arith), le-ltb (l .inner .size) ((j + c) - l .inner .drain) (omega arith))
           (peak-word c ((k + c) - l .outer .drain) ((j + c) - l .inner .drain) (omega arith) q r)
       go (yes p) (yes q) (no r) =
-          unfold rate-read arrived line-is bucket-is poured zipWith bucket-step overfull if_then_else_ unless-over word-if in
+          unfold rate-read arrived line-is bucket-is after-sending zipWith bucket-step overfull if_then_else_ unless-over word-if in
           rw (lt-ltb c (l .decoder + 1 - b) p, lt-ltb ((k + c) - l .outer .drain) n1 q, le-ltb ((j + c) - l .inner .drain) n2 (omega arith), le-ltb (l .decoder) (b + c) (omega arith), le-ltb (l .outer .size) ((k + c) - l .outer .drain) (omega arith), lt-ltb (l .inner .size) ((j + c) - l .inner .drain) (omega arith)) refl
       go (yes p) (no q) t =
-          unfold rate-read arrived line-is bucket-is poured zipWith bucket-step overfull if_then_else_ unless-over word-if in
+          unfold rate-read arrived line-is bucket-is after-sending zipWith bucket-step overfull if_then_else_ unless-over word-if in
           rw (lt-ltb c (l .decoder + 1 - b) p, le-ltb ((k + c) - l .outer .drain) n1 (omega arith), le-ltb (l .decoder) (b + c) (omega arith), lt-ltb (l .outer .size) ((k + c) - l .outer .drain) (omega arith)) refl
       go (no p) s t =
           unfold rate-read arrived line-is if_then_else_ word-if in
           rw (le-ltb c (l .decoder + 1 - b) (omega arith), lt-ltb (l .decoder) (b + c) (omega arith)) refl
 
   -- the row is what the rule makes of it
-  row-is : LineFits l → (k j : ℕ) → k < n1 → j < n2 → least-below (l .count) (λ y. rate-read (l .outer) (l .inner) (l .decoder + 1 - b) rest k j (getD (l .rates) y 0)) ≡ least-below (length (line-is l .rates)) (λ y. word-if (wordIn (line-is l) between) (arrived (line-is l) (stateAt (line-is l) (b * W + (k * n2 + j))) (getD (line-is l .rates) y 0)))
+  pub row-is : LineFits l → (k j : ℕ) → k < n1 → j < n2 → least-below (l .count) (λ y. rate-read (l .outer) (l .inner) (l .decoder + 1 - b) rest k j (getD (l .rates) y 0)) ≡ least-below (length (line-is l .rates)) (λ y. word-if (wordIn (line-is l) between) (arrived (line-is l) (stateAt (line-is l) (b * W + (k * n2 + j))) (getD (line-is l .rates) y 0)))
   row-is f k j p q =
       rw (rates-count l f, state-at l b k j top p q)
       (least-cong (l .count) _ _ (λ y h. rate-reads k j (getD (l .rates) y 0) ∙ ap (λ (c : ℕ). word-if (wordIn (line-is l) between) (arrived (line-is l) (levels l b k j) c)) (unfold line-is in sym (getD-take (l .count) (l .rates) y 0 h))))

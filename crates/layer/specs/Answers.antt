@@ -6,7 +6,7 @@ use mathlib.Core.Option.{Option, none, some}
 use mathlib.Core.List.{List, [], _∷_}
 use lib.Dec.{ltb, eqb}
 use lib.ListN.{length, getD, take, replicate}
-use Rattle.model.specs.If.{if_then_else_}
+use Rattle.base.specs.If.{if_then_else_}
 use Rattle.model.specs.Job as model
 use Rattle.model.specs.Table.{mark, bound}
 use Rattle.planning.specs.Rule.{Allowed}

@@ -4,7 +4,7 @@ use mathlib.Core.Path.{_≡_}
 use mathlib.Core.List.{List}
 use lib.Dec.{ltb}
 use lib.ListN.{length, getD}
-use Rattle.model.specs.If.{if_then_else_}
+use Rattle.base.specs.If.{if_then_else_}
 use Rattle.model.specs.Table.{mark}
 use Rattle.planning.specs.Passes.{least-below}
 use Rattle.layer.specs.declared.Bucket.{Bucket}
@@ -25,11 +25,6 @@ pub record Lowered (n : ℕ) (f : ℕ → ℕ) (old new : List ℕ) : Type 0 whe
 pub record LeastOf (n m : ℕ) (f : ℕ → ℕ → ℕ) (block : List ℕ) : Type 0 where
   pub size : length block ≡ 256
   pub each : (i : ℕ) → i < n → getD block i 0 ≡ least-below m (f i)
-
--- every size from n on takes more rows than stand before the place
-pub record SizesWithin (end width n : ℕ) : Type 0 where
-  pub few : n ≤ 256
-  pub larger : (size : ℕ) → n ≤ size → size < 256 → end < size * width
 
 -- the words from one place to another are made anew, the others kept
 pub record Made (low high : ℕ) (f : ℕ → ℕ) (old new : List ℕ) : Type 0 where
@@ -59,3 +54,7 @@ rate-read outer inner rows rest k i c =
     else mark)
     else mark)
     else mark
+
+-- what sending c offers to the decoder level i where both buckets are of size 0: they drain c at once or not at all
+unfoldable pub column-read : ℕ → List ℕ → ℕ → ℕ → ℕ
+column-read drain words i c = if ltb drain c then mark else level-read 0 words i c

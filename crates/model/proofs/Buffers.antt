@@ -5,7 +5,8 @@ use mathlib.Core.List.{List}
 use native.Mathlib.Omega.{arith}
 use lib.IntN.{ℤ, pos, _+ℤ_, _-ℤ_, +ℤ-assoc, +ℤ-comm, -ℤ-+ℤ-cancel, pos-+ℤ-pos}
 use Rattle.model.specs.Job.{Job, Entry, waits, PlanFits}
-use Rattle.model.specs.Levels.{sum, sent, taken, decoderLevel, sentAfter, effectiveBuffer, unitsTaken}
+use Rattle.model.specs.Levels.{sent, taken, decoderLevel, sentAfter, effectiveBuffer, unitsTaken}
+use Rattle.base.specs.Lists.{sum}
 use Rattle.model.specs.Claims.{EffectiveBuffers, RunningBuffers}
 use Rattle.model.proofs.Sums.{sum-first}
 use Rattle.model.proofs.Units.{units}

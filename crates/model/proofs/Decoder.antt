@@ -8,7 +8,7 @@ use borrow.Author.Tests.{ltb-true, ltb-false, leb-true, leb-false, lt-ltb, le-lt
 use lib.Dec.{leb, ltb}
 use lib.IntN.{ℤ, pos, negsuc, natAbs, _-ℤ_}
 use lib.Signed.{ltZ, nonNeg, _≤ℤ_, ltZ-yes, ltZ-no, clashℤ, yes-nonNeg, pos-natAbs}
-use Rattle.model.specs.If.{if_then_else_}
+use Rattle.base.specs.If.{if_then_else_}
 use Rattle.model.specs.Levels.{decoderPeak}
 use Rattle.model.specs.Admissible.{Violation, decoder-overflow, decoder-underflow, Decoded, breaks, holds, verify, ending}
 use Rattle.model.specs.Step.{decoder-step}

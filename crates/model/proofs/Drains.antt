@@ -1,6 +1,6 @@
 -- The drain of a bucket, used and unused: `BucketSteps`, `DrainBalance`, `ReplayBalance`.
 use Prim.Native.Nat.{ℕ, zero, suc, _+_, _*_, _<_}
-use mathlib.Core.Path.{_≡_, refl}
+use mathlib.Core.Path.{_≡_, refl, ap}
 use mathlib.Core.Logic.{_⊎_, inl, inr}
 use mathlib.Core.List.{List, [], _∷_, zipWith}
 use native.Mathlib.Decide.{decLt}
@@ -8,7 +8,8 @@ use native.Mathlib.Nat.{suc-mul}
 use native.Mathlib.Omega.{arith}
 use lib.ListN.{length, getD}
 use Rattle.model.specs.Job.{Bucket, bucketAt, Levels, no-levels, Job, Entry}
-use Rattle.model.specs.Levels.{sum, bucketLevel, bucketLevels, unusedDrain, unusedTotals}
+use Rattle.model.specs.Levels.{bucketLevel, bucketLevels, unusedDrain, unusedTotals}
+use Rattle.base.specs.Lists.{sum}
 use Rattle.model.specs.Pins.{PinMap}
 use Rattle.model.specs.Admissible.{ending, LevelsOf}
 use Rattle.model.specs.Step.{bucket-step}
@@ -33,6 +34,12 @@ drain-balance j s p k l zero = omega arith
 drain-balance j s p k l (suc n) = let ih = drain-balance j s p k l n in omega (arith, suc-mul n (k .drain))
 
 -- a number of each bucket, in its place
+pub zip-length : (f : Bucket → ℕ → ℕ) (ks : List Bucket) (ls : List ℕ) → length ls ≡ length ks → length (zipWith f ks ls) ≡ length ks
+unfolding zipWith
+zip-length f [] ls e = refl
+zip-length f (k ∷ ks) [] e = absurd (omega arith)
+zip-length f (k ∷ ks) (l ∷ ls) e = ap suc (zip-length f ks ls (omega arith))
+
 each-at : (f : Bucket → ℕ → ℕ) (ks : List Bucket) (ls : List ℕ) → length ls ≡ length ks → (i : ℕ) → i < length ks → getD (zipWith f ks ls) i 0 ≡ f (bucketAt ks i) (getD ls i 0)
 unfolding zipWith
 each-at f [] ls e i h = absurd (omega arith)
@@ -64,7 +71,7 @@ module _ (j : Job) (m : PinMap) (s : ℕ) (start : Levels) (p : List Entry) (who
   unfolding totals unusedTotals
   unused-at = each-at _ (j .line .buckets) (start .buckets) whole i h
 
-  level-at : (n : ℕ) → getD (bucketLevels j s p (j .line .buckets) (start .buckets) n) i 0 ≡ bucketLevel j s p k l n
+  pub level-at : (n : ℕ) → getD (bucketLevels j s p (j .line .buckets) (start .buckets) n) i 0 ≡ bucketLevel j s p k l n
   unfolding bucketLevels
   level-at n = each-at _ (j .line .buckets) (start .buckets) whole i h
 

@@ -13,7 +13,7 @@ use Rattle.trellis.specs.Minimum.{Sorted}
 use Rattle.trellis.specs.Pairs.{Pair, pair}
 use Rattle.trellis.proofs.Sorted.{sorted-map}
 use Rattle.trellis.proofs.Pairs.{rows-member, member-rows, rows-sorted}
-use Rattle.model.specs.If.{if_then_else_}
+use Rattle.base.specs.If.{if_then_else_}
 use Rattle.model.specs.Job.{Job, Entry, ChoiceFits, waits, decodes, EntryFits}
 use Rattle.model.specs.Best.{Order, late, early, RateBefore, ChoiceBefore, smaller, Before, turn, pairs, entry, width, entries}
 

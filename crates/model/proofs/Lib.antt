@@ -1,9 +1,5 @@
 -- What is proved of the definitions, for the proofs of crates that name this one.
 pub mod Tests
-pub mod All
-pub mod Builds
-pub mod Answers
-pub mod Lent
 pub mod Decoder
 pub mod Violations
 pub mod Outcome

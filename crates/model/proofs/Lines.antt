@@ -10,10 +10,6 @@ unfolding on-line
 own-line j = refl
 
 module _ (j : Job) (l : Line) where
-  pub line-on : on-line j l .line ≡ l
-  unfolding on-line
-  line-on = refl
-
   pub intervals-on : intervals (on-line j l) ≡ intervals j
   unfolding on-line intervals
   intervals-on = refl

@@ -5,11 +5,12 @@ use mathlib.Core.Option.{Option}
 use mathlib.Core.List.{List}
 use lib.IntN.{pos, _+ℤ_, _-ℤ_}
 use Rattle.model.specs.Job.{Line, Levels}
-use Rattle.model.specs.If.{if_then_else_}
+use Rattle.base.specs.If.{if_then_else_}
 use Rattle.model.specs.Admissible.{Violation, pin-not-held, Decoded, breaks, holds, verify, AllWithin, Ending, Verified, Sound, Violates, unverified, bucket, unpinned, Shows}
-use Rattle.model.specs.Step.{Outcome, violates, reaches, decoder-step, poured, overfull, pin-held, or-overflow, after-decoder, outcome-of}
+use Rattle.model.specs.Step.{Outcome, violates, reaches, decoder-step, after-sending, overfull, pin-held, or-overflow, after-decoder, outcome-of}
 use Rattle.model.proofs.Decoder.{verified-level}
-use Rattle.model.proofs.Tests.{branch, FirstOver, no-one, this, overfull-finds, held-true, held-false}
+use Rattle.model.proofs.Tests.{FirstOver, no-one, this, overfull-finds, held-true, held-false}
+use Rattle.base.proofs.Tests.{branch}
 
 module _ (line : Line) (x : Ending) where
   pub data Judged : Outcome → Type 0 where
@@ -31,7 +32,7 @@ module _ {line : Line} {x : Ending} where
 -- b and ls are the levels before, c is sent and r decoded
 module _ (line : Line) (pinned choice : Option ℕ) (b : ℕ) (ls : List ℕ) (c r : ℕ) where
   abbrev step-ending : Ending
-  step-ending = record { peak = pos b +ℤ pos c; decoder = (pos b +ℤ pos c) -ℤ pos r; buckets = poured c (line .buckets) ls; pinned = pinned; choice = choice }
+  step-ending = record { peak = pos b +ℤ pos c; decoder = (pos b +ℤ pos c) -ℤ pos r; buckets = after-sending c (line .buckets) ls; pinned = pinned; choice = choice }
 
   pub outcome-judged : Judged line step-ending (outcome-of line pinned choice b ls c r)
   unfolding outcome-of after-decoder decoder-step

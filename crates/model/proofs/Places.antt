@@ -1,6 +1,6 @@
 -- The places of states in a layer: each below the layer's span, and each of one state alone.
 use Prim.Native.Nat.{ℕ, zero, suc, _+_, _*_, _/_, _%_, _<_, _≤_}
-use mathlib.Core.Path.{_≡_, refl, sym, _∙_, ap, ap₂}
+use mathlib.Core.Path.{_≡_, refl, _∙_, ap, ap₂}
 use mathlib.Core.List.{List, [], _∷_, map}
 use native.Mathlib.Omega.{arith}
 use native.Mathlib.Nat.{add-mul, one-mul, mul-pos, mul-le-mul-right, mul-add-div-right, mul-add-mod-self-right, div-eq-of-lt, mod-eq-of-lt, div-add-mod', div-lt-iff-lt-mul, mod-lt}
@@ -68,9 +68,6 @@ unfolding levelsAt span place
 place-levels [] i h = omega arith
 place-levels (k ∷ ks) i h = rw (place-levels ks (i % span ks) (mod-lt i (span-positive ks))) (div-add-mod' i (span ks))
 
-pub place-injective : {ks ls ls′ : List ℕ} → AtMostEach ks ls → AtMostEach ks ls′ → place ks ls ≡ place ks ls′ → ls ≡ ls′
-place-injective {ks} a b e = sym (levels-place a) ∙ ap (levelsAt ks) e ∙ levels-place b
-
 module _ (line : Line) where
   -- the state at a state's place is the state
   pub state-place : {s : Levels} → InLayer line s → stateAt line (place (tops line) (flat s)) ≡ s
@@ -80,9 +77,6 @@ module _ (line : Line) where
       let x : stateAt line (place (tops line) (flat s)) .decoder ≡ s .decoder = cc in
       let y : stateAt line (place (tops line) (flat s)) .buckets ≡ s .buckets = cc in
       ap₂ {C = Levels} (λ d ls. record { decoder = d; buckets = ls }) x y
-
-  pub state-injective : {s s′ : Levels} → InLayer line s → InLayer line s′ → place (tops line) (flat s) ≡ place (tops line) (flat s′) → s ≡ s′
-  state-injective a b e = sym (state-place a) ∙ ap (stateAt line) e ∙ state-place b
 
   pub state-in-layer : (i : ℕ) → i < span (tops line) → InLayer line (stateAt line i)
   unfolding tops stateAt levelsAt

@@ -10,7 +10,7 @@ use Rattle.trellis.specs.Table.{Closed}
 use Rattle.model.specs.Job.{Bucket, Line, Levels, Job, sends, takes, intervals}
 use Rattle.model.specs.Pins.{PinMap, pinAt}
 use Rattle.model.specs.Admissible.{holds, verify, Ending, Sound, Shows}
-use Rattle.model.specs.Step.{decoder-step, reaches, poured, outcome-of, outcome}
+use Rattle.model.specs.Step.{decoder-step, reaches, after-sending, outcome-of, outcome}
 use Rattle.model.specs.Best.{Order, reached, trellis-of}
 use Rattle.model.specs.Table.{InLayer}
 use Rattle.model.proofs.Decoder.{verified-level, decoder-steps}
@@ -31,11 +31,11 @@ held-within size b c r u (d, e) shown =
     let q = shown-one shown (verified-level size (pos b +ℤ pos c) ((pos b +ℤ pos c) -ℤ pos r) d e) in
     omega (arith, h, q)
 
-poured-count : (c : ℕ) (ks : List Bucket) (ls : List ℕ) → length ls ≡ length ks → length (poured c ks ls) ≡ length ks
-unfolding poured zipWith
-poured-count c [] ls h = refl
-poured-count c (k ∷ ks) [] h = absurd (omega arith)
-poured-count c (k ∷ ks) (l ∷ ls) h = ap suc (poured-count c ks ls (omega arith))
+after-sending-count : (c : ℕ) (ks : List Bucket) (ls : List ℕ) → length ls ≡ length ks → length (after-sending c ks ls) ≡ length ks
+unfolding after-sending zipWith
+after-sending-count c [] ls h = refl
+after-sending-count c (k ∷ ks) [] h = absurd (omega arith)
+after-sending-count c (k ∷ ks) (l ∷ ls) h = ap suc (after-sending-count c ks ls (omega arith))
 
 -- of any line, pin and choice
 module _ (line : Line) (pinned choice : Option ℕ) (c r : ℕ) (s u : Levels) where
@@ -45,13 +45,13 @@ module _ (line : Line) (pinned choice : Option ℕ) (c r : ℕ) (s u : Levels) w
       let g = judged-good (rw e at f) in
       record {
         decoder = held-within (line .decoder) (s .decoder) c r (u .decoder) (g .0 .decoder) (g .1 .decoder);
-        count = rw (g .1 .buckets) (poured-count c (line .buckets) (s .buckets) n);
+        count = rw (g .1 .buckets) (after-sending-count c (line .buckets) (s .buckets) n);
         buckets = rw (g .1 .buckets) (g .0 .buckets);
       }
 
-  -- and the buckets hold what was poured into them
-  pub reaches-poured : outcome-of line pinned choice (s .decoder) (s .buckets) c r ≡ reaches u → u .buckets ≡ poured c (line .buckets) (s .buckets)
-  reaches-poured e = let f = outcome-judged line pinned choice (s .decoder) (s .buckets) c r in judged-good (rw e at f) .1 .buckets
+  -- and the buckets hold what was after-sending into them
+  pub reaches-after-sending : outcome-of line pinned choice (s .decoder) (s .buckets) c r ≡ reaches u → u .buckets ≡ after-sending c (line .buckets) (s .buckets)
+  reaches-after-sending e = let f = outcome-judged line pinned choice (s .decoder) (s .buckets) c r in judged-good (rw e at f) .1 .buckets
 
   pub outcome-closed : InLayer line s → reached (outcome-of line pinned choice (s .decoder) (s .buckets) c r) ≡ some u → InLayer line u
   outcome-closed a k = reaches-in-layer (a .count) (reached-some (outcome-of line pinned choice (s .decoder) (s .buckets) c r) u k)

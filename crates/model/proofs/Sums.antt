@@ -6,8 +6,9 @@ use native.Mathlib.Numerals.{add-one}
 use native.Mathlib.Omega.{arith}
 use lib.ListN.{length}
 use Rattle.model.specs.Job.{Bucket, Levels, Job, Entry, sends, takes, distorts}
-use Rattle.model.specs.Levels.{sum, entryOf, sent, taken, distorted, bucketLevel, unusedDrain, unusedTotals}
-use Rattle.model.specs.Step.{bucket-step, poured}
+use Rattle.model.specs.Levels.{entryOf, sent, taken, distorted, bucketLevel, unusedDrain, unusedTotals}
+use Rattle.base.specs.Lists.{sum}
+use Rattle.model.specs.Step.{bucket-step, after-sending}
 use Rattle.model.specs.Replay.{Totals, total-distortion, totals}
 use Rattle.model.proofs.Levels.{taken-rest, bucket-rest}
 
@@ -73,8 +74,8 @@ module _ (j : Job) (s : ℕ) (e : Entry) (p : List Entry) where
   unfolding unusedDrain bucketLevel bucket-step sent entryOf
   unused-one k l = refl
 
-  unused-first : (ks : List Bucket) (ls : List ℕ) (n : ℕ) → unusedTotals j s (e ∷ p) ks ls (suc n) ≡ plus-each (unused (sends j e) ks ls) (unusedTotals j (suc s) p ks (poured (sends j e) ks ls) n)
-  unfolding unusedTotals unused poured plus-each zipWith
+  unused-first : (ks : List Bucket) (ls : List ℕ) (n : ℕ) → unusedTotals j s (e ∷ p) ks ls (suc n) ≡ plus-each (unused (sends j e) ks ls) (unusedTotals j (suc s) p ks (after-sending (sends j e) ks ls) n)
+  unfolding unusedTotals unused after-sending plus-each zipWith
   unused-first [] ls n = refl
   unused-first (k ∷ ks) [] n = refl
   unused-first (k ∷ ks) (l ∷ ls) n =
@@ -83,7 +84,7 @@ module _ (j : Job) (s : ℕ) (e : Entry) (p : List Entry) where
       rw (h, ih, unused-one k l)
 
   -- the first entry leads to the levels l
-  pub totals-first : (start l : Levels) → l .buckets ≡ poured (sends j e) (j .line .buckets) (start .buckets) → totals j s start (e ∷ p) ≡ plus (first-totals j (suc s) start e) (totals j (suc s) l p)
+  pub totals-first : (start l : Levels) → l .buckets ≡ after-sending (sends j e) (j .line .buckets) (start .buckets) → totals j s start (e ∷ p) ≡ plus (first-totals j (suc s) start e) (totals j (suc s) l p)
   unfolding totals plus first-totals
   totals-first start l h =
       totals-same

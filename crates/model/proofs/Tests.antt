@@ -1,7 +1,7 @@
--- What the definitions' tests decide: a branch, a difference of natural numbers, the first bucket over its size, a pin.
+-- What the definitions' tests decide: a difference of natural numbers, the first bucket over its size, a pin.
 use Prim.Native.Nat.{ℕ, zero, suc, _-_, _<_, _≤_}
 use mathlib.Core.Path.{_≡_, refl, ap}
-use mathlib.Core.Bool.{Bool, true, false}
+use mathlib.Core.Bool.{true, false}
 use mathlib.Core.Option.{Option, none, some, Option·map}
 use mathlib.Core.List.{List, [], _∷_}
 use native.Mathlib.Omega.{arith}
@@ -9,26 +9,11 @@ use borrow.Author.Tests.{ltb-true, ltb-false, lt-ltb, le-ltb, eqb-true, eq-eqb}
 use lib.Dec.{ltb}
 use lib.ListN.{length}
 use lib.IntN.{pos, negsuc, _-ℤ_}
+use Rattle.base.proofs.Tests.{branch}
 use Rattle.model.specs.Job.{Bucket}
-use Rattle.model.specs.If.{if_then_else_}
 use Rattle.model.specs.Pins.{PinHeld, free, kept}
 use Rattle.model.specs.Admissible.{Within, AllWithin}
 use Rattle.model.specs.Step.{overfull, same-choice, pin-held}
-
-pub branch : {A : Type 0} (P : A → Type 0) (t : Bool) {a b : A} → (t ≡ true → P a) → (t ≡ false → P b) → P (if t then a else b)
-unfolding if_then_else_
-branch P true f g = f refl
-branch P false f g = g refl
-
--- a test that is true exactly where two tests are
-pub both-true : (s t : Bool) → (if s then t else false) ≡ true → (s ≡ true) × (t ≡ true)
-unfolding if_then_else_
-both-true true t e = (refl, e)
-both-true false t e = let z : _≡_ {A = ℕ} 0 1 = cc in absurd (omega arith)
-
-pub true-both : (s t : Bool) → s ≡ true → t ≡ true → (if s then t else false) ≡ true
-unfolding if_then_else_
-true-both s t p q = rw (p, q)
 
 -- a signed difference is the natural one where that is not cut off, and negative otherwise
 pub difference : (a r : ℕ) → r ≤ a → pos a -ℤ pos r ≡ pos (a - r)

@@ -7,7 +7,7 @@ use native.Mathlib.Decide.{decLt}
 use native.Mathlib.Omega.{arith}
 use lib.ListN.{length, getD}
 use borrow.Author.Tests.{le-leb, lt-leb}
-use Rattle.model.specs.If.{if_then_else_}
+use Rattle.base.specs.If.{if_then_else_}
 use Rattle.model.specs.Job.{Coding, nothing, Levels, Job, Entry, intervals, coding, codingAt, takes, distorts, ChoiceFits, waits, decodes, EntryFits, PlanFits, ends, goes}
 use Rattle.model.specs.Levels.{entryOf, taken, distorted}
 use Rattle.model.specs.Pins.{PinMap, pinOf, pinAt, PinHeld, free, kept}

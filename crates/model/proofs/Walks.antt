@@ -8,7 +8,7 @@ use lib.ListN.{length}
 use Rattle.trellis.specs.Trellis.{Monotone, Walk, stop, move, total, least, Simulates}
 use Rattle.trellis.proofs.Simulation.{least-same}
 use Rattle.model.specs.Job.{Levels, Job, Entry, intervals, PlanFits, ends, goes}
-use Rattle.model.specs.Levels.{sum}
+use Rattle.base.specs.Lists.{sum}
 use Rattle.model.specs.Pins.{PinMap}
 use Rattle.model.specs.Step.{Outcome, violates, reaches, outcome}
 use Rattle.model.specs.Replay.{total-distortion, clean, written, go-on, replay}

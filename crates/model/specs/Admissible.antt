@@ -6,12 +6,12 @@ use mathlib.Core.List.{List}
 use lib.ListN.{length, getD}
 use lib.IntN.{ℤ, pos, natAbs}
 use lib.Signed.{ltZ, nonNeg}
-use Rattle.model.specs.If.{if_then_else_}
+use Rattle.base.specs.If.{if_then_else_}
 use Rattle.model.specs.Job.{Bucket, Line, bucketAt, Levels, no-levels, Job, Entry, PlanFits}
 use Rattle.model.specs.Levels.{entryOf, decoderLevel, decoderPeak, bucketLevels}
 use Rattle.model.specs.Pins.{PinMap, pinAt, PinHeld}
 
--- document 01's breaches, in the order in which they are tested since document 02, E2: decoder over, decoder short, bucket over (which one, from 0), pin not held
+-- the violations (document 01's breaches), in the order in which they are tested since document 02, E2: decoder over, decoder short, bucket over (which one, from 0), pin not held
 pub data Violation : Type 0 where
   decoder-overflow decoder-underflow : Violation
   bucket-overflow : ℕ → Violation

@@ -8,7 +8,7 @@ use lib.Dec.{leb}
 use lib.ListN.{length}
 use Rattle.trellis.specs.Trellis.{Trellis, least, best}
 use Rattle.trellis.specs.Pairs.{Pair, rows}
-use Rattle.model.specs.If.{if_then_else_}
+use Rattle.base.specs.If.{if_then_else_}
 use Rattle.model.specs.Job.{Levels, Job, Entry, distorts, intervals}
 use Rattle.model.specs.Pins.{PinMap}
 use Rattle.model.specs.Step.{Outcome, violates, reaches, outcome}

@@ -11,7 +11,8 @@ use lib.Signed.{_≤ℤ_}
 use Rattle.trellis.specs.Table.{first-at, marked-offer}
 use Rattle.trellis.specs.Trellis.{NoLater}
 use Rattle.model.specs.Job.{Bucket, bucketAt, nothing, Levels, Job, Entry, distorts, intervals, PlanFits}
-use Rattle.model.specs.Levels.{sum, entryOf, sent, taken, distorted, decoderLevel, bucketLevel, unusedDrain, sentAfter, effectiveBuffer, unitsTaken}
+use Rattle.model.specs.Levels.{entryOf, sent, taken, distorted, decoderLevel, bucketLevel, unusedDrain, sentAfter, effectiveBuffer, unitsTaken}
+use Rattle.base.specs.Lists.{sum}
 use Rattle.model.specs.Pins.{PinMap}
 use Rattle.model.specs.Admissible.{Violation, decoder-overflow, decoder-underflow, breaks, holds, AllWithin, Verified, ending, SoundFor, Admissible, FirstViolation, LevelsOf}
 use Rattle.model.specs.Step.{decoder-step, bucket-step, reaches, outcome}

@@ -2,15 +2,11 @@
 -- A plan here is the entries of the intervals after interval s; s is 0 for a whole job, and n counts intervals from there.
 use Prim.Native.Nat.{ℕ, zero, suc, _+_, _-_}
 use mathlib.Core.Option.{none}
-use mathlib.Core.List.{List, [], _∷_, _++_, zipWith}
+use mathlib.Core.List.{List, zipWith}
 use lib.ListN.{length, getD}
 use lib.IntN.{ℤ, pos, _+ℤ_, _-ℤ_}
+use Rattle.base.specs.Lists.{build, sum}
 use Rattle.model.specs.Job.{Bucket, Job, Entry, sends, takes, distorts}
-
--- f(1) + ... + f(n)
-unfoldable pub sum : (ℕ → ℕ) → ℕ → ℕ
-sum f zero = 0
-sum f (suc n) = sum f n + f (suc n)
 
 abbrev pub no-entry : Entry
 no-entry = record { rate = 0; choice = none }
@@ -73,11 +69,6 @@ module _ (j : Job) (p : List Entry) where
   -- what the first i units take, unit after unit
   unfoldable pub unitsTaken : ℕ → ℕ
   unitsTaken i = sum (λ k. taken j 0 p (j .delay + k)) i
-
--- the numbers f 0 to f (n - 1)
-unfoldable pub build : ℕ → (ℕ → ℕ) → List ℕ
-build zero f = []
-build (suc n) f = build n f ++ (f n ∷ [])
 
 -- (6) for i from 0 to N (document 01, the effective buffer report)
 unfoldable pub effectiveBuffers : Job → List Entry → List ℕ

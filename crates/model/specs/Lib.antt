@@ -1,8 +1,4 @@
 -- Document 01 as mathematics: what a reader must believe. What is claimed of it is stated in `Claims` and proved in proofs/.
-pub mod If
-pub mod All
-pub mod Answer
-pub mod Lent
 pub mod Job
 pub mod Levels
 pub mod Pins

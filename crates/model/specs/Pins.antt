@@ -5,7 +5,7 @@ use mathlib.Core.Option.{Option, none, some}
 use mathlib.Core.List.{List, [], _∷_}
 use lib.Dec.{leb, ltb}
 use lib.ListN.{length, getD, set, replicate}
-use Rattle.model.specs.If.{if_then_else_}
+use Rattle.base.specs.If.{if_then_else_}
 use Rattle.model.specs.Job.{Coding, Job, codingAt}
 
 -- the book's lines

@@ -3,7 +3,8 @@ use Prim.Native.Nat.{ℕ, suc}
 use mathlib.Core.List.{List, [], _∷_}
 use lib.ListN.{length}
 use Rattle.model.specs.Job.{Levels, Job, Entry}
-use Rattle.model.specs.Levels.{sum, sent, taken, distorted, unusedTotals}
+use Rattle.model.specs.Levels.{sent, taken, distorted, unusedTotals}
+use Rattle.base.specs.Lists.{sum}
 use Rattle.model.specs.Pins.{PinMap}
 use Rattle.model.specs.Admissible.{Violation}
 use Rattle.model.specs.Step.{Outcome, violates, reaches, outcome}

@@ -5,7 +5,7 @@ use mathlib.Core.Option.{Option, none, some, Option·map}
 use mathlib.Core.List.{List, [], _∷_, zipWith}
 use lib.Dec.{ltb, eqb}
 use lib.IntN.{pos, _+ℤ_, _-ℤ_}
-use Rattle.model.specs.If.{if_then_else_}
+use Rattle.base.specs.If.{if_then_else_}
 use Rattle.model.specs.Job.{Bucket, Line, Levels, Job, Entry, sends, takes}
 use Rattle.model.specs.Pins.{PinMap, pinAt}
 use Rattle.model.specs.Admissible.{Violation, bucket-overflow, pin-not-held, Decoded, breaks, holds, verify}
@@ -28,8 +28,8 @@ unfoldable pub bucket-step : ℕ → ℕ → ℕ → Drained
 bucket-step drain l c = record { level = (l + c) - drain; unused = (drain - l) - c }
 
 -- the levels of all buckets
-unfoldable pub poured : ℕ → List Bucket → List ℕ → List ℕ
-poured c ks ls = zipWith (λ k l. bucket-step (k .drain) l c .level) ks ls
+unfoldable pub after-sending : ℕ → List Bucket → List ℕ → List ℕ
+after-sending c ks ls = zipWith (λ k l. bucket-step (k .drain) l c .level) ks ls
 
 -- the first bucket that holds more than its size
 unfoldable pub overfull : List Bucket → List ℕ → Option ℕ
@@ -57,8 +57,8 @@ after-decoder (holds b) f = f b
 unfoldable pub outcome-of : Line → Option ℕ → Option ℕ → ℕ → List ℕ → ℕ → ℕ → Outcome
 outcome-of line pinned choice b ls c r =
     after-decoder (decoder-step (line .decoder) b c r)
-    (λ d. or-overflow (overfull (line .buckets) (poured c (line .buckets) ls))
-    (if pin-held pinned choice then reaches (record { decoder = d; buckets = poured c (line .buckets) ls })
+    (λ d. or-overflow (overfull (line .buckets) (after-sending c (line .buckets) ls))
+    (if pin-held pinned choice then reaches (record { decoder = d; buckets = after-sending c (line .buckets) ls })
     else violates pin-not-held))
 
 unfoldable pub outcome : Job → PinMap → ℕ → Levels → Entry → Outcome

@@ -64,7 +64,7 @@ wordAt j table t s = getD table (t * layerWords (j .line) + place (tops (j .line
 -- the list begins with the table of the job with these pins, whose layers before `first` may hold other words: each word is the least distortion that the intervals after t can add from its state
 pub record IsTable (j : Job) (m : PinMap) (first : ℕ) (table : List ℕ) : Type 0 where
   pub enough : words j ≤ length table
-  pub holds : (t : ℕ) (s : Levels) → first ≤ t → t ≤ intervals j → InLayer (j .line) s → wordAt j table t s ≡ encode mark (least-total j m t s)
+  pub holds : (t : ℕ) (s : Levels) → first ≤ t → t ≤ intervals j → InLayer (j .line) s → wordAt j table t s ≡ encode 4294967295 (least-total j m t s)
 
 -- the words of a layer, and the word of a state among them
 unfoldable pub layerOf : Line → List ℕ → ℕ → List ℕ

@@ -8,16 +8,15 @@ use native.Mathlib.Decide.{decLt}
 use lib.Dec.{eqb}
 use lib.ListN.{length, getD}
 use borrow.Author.Tests.{eqb-true, eq-eqb, ltb-true, lt-ltb}
-use Rattle.model.specs.If.{if_then_else_}
+use Rattle.base.specs.If.{if_then_else_}
 use Rattle.model.specs.Job.{Job, codingAt}
 use Rattle.model.specs.Pins.{PinTotals, pin-totals}
-use Rattle.model.proofs.Tests.{branch, both-true, true-both}
-use Rattle.model.proofs.All.{all-each, each-all}
+use Rattle.base.proofs.Tests.{branch, both-true, true-both}
+use Rattle.base.proofs.All.{all-each, each-all}
 use Rattle.model.proofs.PinTotals.{totals-same}
-use Rattle.format.specs.JobBytes.{Header, header-in}
+use Rattle.format.specs.JobBytes.{Header, header-in, same-header}
 use Rattle.format.specs.Choices.{no-choice}
-use Rattle.pinning.specs.State.{State}
-use Rattle.format.specs.JobBytes.{same-header}
+use Rattle.pinning.specs.PinSet.{PinSet}
 use Rattle.pinning.specs.Check.{Matches, byte-fits, bytes-fit, same-totals, fits}
 use Rattle.pinning.specs.Claims.{Checks}
 use Rattle.format.proofs.Header.{same-is, is-same}
@@ -51,16 +50,16 @@ same-self : (a b : PinTotals) → a ≡ b → same-totals a b ≡ true
 unfolding same-totals
 same-self a b e = rw e (true-both _ _ (eq-eqb (b .count) (b .count) refl) (true-both _ _ (eq-eqb (b .size) (b .size) refl) (eq-eqb (b .distortion) (b .distortion) refl)))
 
-module _ (j : Job) (s : State) (few : length (j .units) ≤ 512) where
+module _ (j : Job) (s : PinSet) (few : length (j .units) ≤ 512) where
   fits-matches : fits (codingAt j) (header-in j) s ≡ true → Matches j s
   unfolding fits bytes-fit header-in pin-totals
   fits-matches e =
       let p = both-true (same-header (s .header) (header-in j)) _ e in
-      let q = both-true (bytes-fit (header-in j) (s .bytes) 512) _ (p .1) in
+      let q = both-true (bytes-fit (header-in j) (s .pins) 512) _ (p .1) in
       record {
         header = same-is (s .header) (header-in j) (p .0);
-        pins = λ i l. go i (byte-kept (header-in j) i (getD (s .bytes) i 0) (all-each _ 512 (q .0) i (omega arith)));
-        past = λ i l k. past i l (byte-kept (header-in j) i (getD (s .bytes) i 0) (all-each _ 512 (q .0) i k));
+        pins = λ i l. go i (byte-kept (header-in j) i (getD (s .pins) i 0) (all-each _ 512 (q .0) i (omega arith)));
+        past = λ i l k. past i l (byte-kept (header-in j) i (getD (s .pins) i 0) (all-each _ 512 (q .0) i k));
         totals = same-true (s .totals) _ (q .1);
       }
     where
@@ -76,14 +75,14 @@ module _ (j : Job) (s : State) (few : length (j .units) ≤ 512) where
   unfolding fits bytes-fit header-in pin-totals
   matches-fits m =
       true-both _ _ (is-same (s .header) (header-in j) (m .header))
-      (true-both _ _ (each-all _ 512 (λ i l. kept-byte (header-in j) i (getD (s .bytes) i 0) (kept i l (decLt i (length (j .units))))))
+      (true-both _ _ (each-all _ 512 (λ i l. kept-byte (header-in j) i (getD (s .pins) i 0) (kept i l (decLt i (length (j .units))))))
       (same-self (s .totals) _ (m .totals)))
     where
       there : (i : ℕ) {x : ℕ} → i < length (j .units) → (x ≡ no-choice) ⊎ (x < j .choices) → (x ≡ no-choice) ⊎ ((i < length (j .units)) × (x < j .choices))
       there i l (inl e) = inl e
       there i l (inr k) = inr (l, k)
 
-      kept : (i : ℕ) → i < 512 → Dec (i < length (j .units)) → (getD (s .bytes) i 0 ≡ no-choice) ⊎ ((i < length (j .units)) × (getD (s .bytes) i 0 < j .choices))
+      kept : (i : ℕ) → i < 512 → Dec (i < length (j .units)) → (getD (s .pins) i 0 ≡ no-choice) ⊎ ((i < length (j .units)) × (getD (s .pins) i 0 < j .choices))
       kept i l (yes k) = there i k (m .pins i k)
       kept i l (no k) = inl (m .past i (omega arith) l)
 

@@ -2,62 +2,65 @@
 use Prim.Native.Nat.{ℕ, _-_, _<_, _≤_}
 use mathlib.Core.Path.{_≡_, refl, sym, _∙_, ap}
 use mathlib.Core.Logic.{_⊎_, inl, inr}
-use mathlib.Core.Bool.{Bool, true, false}
+use mathlib.Core.Bool.{Bool, true, false, not}
 use mathlib.Core.Option.{Option, none, some, Option·some-injective, Option·none-ne-some}
 use mathlib.Core.List.{List, [], _∷_}
 use native.Mathlib.Omega.{arith}
 use native.Nat.{ℕᴺ-discrete}
-use lib.Dec.{leb, ltb}
+use lib.Dec.{leb, ltb, eqb}
 use lib.ListN.{length, getD, set, length-set, length-replicate, getD-replicate}
 use lib.Seq.{getD-set-same, getD-set-other}
-use borrow.Author.Tests.{leb-true, leb-false, ltb-false}
-use Rattle.model.specs.If.{if_then_else_}
+use borrow.Author.Tests.{leb-true, leb-false, lt-ltb, le-ltb, eq-eqb, ne-eqb}
+use Rattle.base.specs.Refusals.{test, guarded}
+use Rattle.base.proofs.Refusals.{guarded-past, guarded-here, guarded-last}
+use Rattle.base.specs.If.{if_then_else_}
 use Rattle.model.specs.Job.{Job, codingAt}
 use Rattle.model.specs.Pins.{PinMap, no-pins, pinOf, Call, pin, lift, Noted, outside, note-pin, note-lift, note, pins-after, answers, with-line, pin-totals}
 use Rattle.model.proofs.PinTotals.{totals-same, totals-filled, totals-emptied, totals-none}
-use Rattle.format.specs.Parser.{took}
+use Rattle.format.specs.Parser.{took, on-read}
 use Rattle.format.specs.JobBytes.{header-in, parse}
 use Rattle.format.specs.Claims.{InLimits}
 use Rattle.format.proofs.Places.{well-read}
 use Rattle.format.proofs.Bounds.{limited}
 use Rattle.format.specs.Choices.{no-choice, choice-of}
-use Rattle.pinning.specs.State.{State, lines, unpinned, fresh}
+use Rattle.pinning.specs.PinSet.{PinSet, lines, unpinned, fresh}
 use Rattle.pinning.specs.Check.{Matches, checked}
-use Rattle.pinning.specs.Calls.{opened, open-call, Handed, refuse, take-in, with-pin, without-pin, pin-line, lift-line, call-in, calling, call, Sitting, after, run}
+use Rattle.pinning.specs.Calls.{opened, open-call, Handed, refuse, take-in, with-pin, without-pin, pin-of, call-tests, called, call-in, call, CallsMade, after, run}
 use Rattle.pinning.specs.Claims.{HistoryClaim, History}
-use Rattle.format.proofs.Choices.{byte-none, byte-some, of-mark, of-choice}
+use Rattle.format.proofs.Choices.{number-none, number-some, of-mark, of-choice}
+use Rattle.pinning.proofs.Inside.{inside}
 use Rattle.pinning.proofs.Lines.{lines-at, lines-length, lines-set, lines-unpinned}
 use Rattle.pinning.proofs.Agree.{matched}
 
 -- the set holds the map: what `HistoryClaim` says of a set, with what is needed to go on
-pub record Holds (j : Job) (m : PinMap) (s : State) : Type 0 where
+pub record Holds (j : Job) (m : PinMap) (s : PinSet) : Type 0 where
   pub header : s .header ≡ header-in j
-  pub size : length (s .bytes) ≡ 512
-  pub pins : lines (length (j .units)) (s .bytes) ≡ m
+  pub size : length (s .pins) ≡ 512
+  pub pins : lines (length (j .units)) (s .pins) ≡ m
   pub choices : (i x : ℕ) → i < length (j .units) → getD m i none ≡ some x → x < j .choices
-  pub past : (i : ℕ) → length (j .units) ≤ i → i < 512 → getD (s .bytes) i 0 ≡ no-choice
+  pub past : (i : ℕ) → length (j .units) ≤ i → i < 512 → getD (s .pins) i 0 ≡ no-choice
   pub totals : s .totals ≡ pin-totals j m
 
 -- what the book's call answers and leaves is what the call answers and leaves
 pub record Follows (j : Job) (n : Noted) (h : Handed) : Type 0 where
   pub answered : h .refused ≡ n .refused
-  pub holds : Holds j (n .map) (h .state)
+  pub holds : Holds j (n .map) (h .set)
 
 module _ (j : Job) (limits : InLimits j) where
-  module _ (m : PinMap) (s : State) (h : Holds j m s) where
+  module _ (m : PinMap) (s : PinSet) (h : Holds j m s) where
     map-length : length m ≡ length (j .units)
-    map-length = ap length (sym (h .pins)) ∙ lines-length (length (j .units)) (s .bytes) (omega (arith, h .size, limits .units))
+    map-length = ap length (sym (h .pins)) ∙ lines-length (length (j .units)) (s .pins) (omega (arith, h .size, limits .units))
 
-    byte-line : (i : ℕ) → i < length (j .units) → choice-of (getD (s .bytes) i 0) ≡ getD m i none
-    byte-line i l = sym (lines-at (length (j .units)) (s .bytes) i (omega (arith, h .size, limits .units)) l) ∙ ap (λ (k : PinMap). getD k i none) (h .pins)
+    byte-line : (i : ℕ) → i < length (j .units) → choice-of (getD (s .pins) i 0) ≡ getD m i none
+    byte-line i l = sym (lines-at (length (j .units)) (s .pins) i (omega (arith, h .size, limits .units)) l) ∙ ap (λ (k : PinMap). getD k i none) (h .pins)
 
     -- a set that holds a map passes the check
     holds-matches : Matches j s
     holds-matches = record { header = h .header; pins = λ i l. go i l (getD m i none) refl; past = h .past; totals = h .totals ∙ rw (h .pins) refl }
       where
-        go : (i : ℕ) → i < length (j .units) → (o : Option ℕ) → getD m i none ≡ o → (getD (s .bytes) i 0 ≡ no-choice) ⊎ (getD (s .bytes) i 0 < j .choices)
-        go i l none e = inl (byte-none _ (byte-line i l ∙ e))
-        go i l (some x) e = inr (let q = byte-some _ x (byte-line i l ∙ e) in let k = h .choices i x l e in omega arith)
+        go : (i : ℕ) → i < length (j .units) → (o : Option ℕ) → getD m i none ≡ o → (getD (s .pins) i 0 ≡ no-choice) ⊎ (getD (s .pins) i 0 < j .choices)
+        go i l none e = inl (number-none _ (byte-line i l ∙ e))
+        go i l (some x) e = inr (let q = number-some _ x (byte-line i l ∙ e) in let k = h .choices i x l e in omega arith)
 
     -- a refused call leaves both as they were
     refused-follows : (n : ℕ) → Follows j (record { refused = some n; map = m }) (refuse s n)
@@ -66,11 +69,11 @@ module _ (j : Job) (limits : InLimits j) where
 
     module _ (i : ℕ) (l : i < length (j .units)) where
       -- the byte of a unit and its line are changed together
-      kept-past : (x k : ℕ) → length (j .units) ≤ k → k < 512 → getD (set (s .bytes) i x) k 0 ≡ no-choice
-      kept-past x k p q = getD-set-other (s .bytes) i k x 0 (λ e. omega arith) ∙ h .past k p q
+      kept-past : (x k : ℕ) → length (j .units) ≤ k → k < 512 → getD (set (s .pins) i x) k 0 ≡ no-choice
+      kept-past x k p q = getD-set-other (s .pins) i k x 0 (λ e. omega arith) ∙ h .past k p q
 
-      changed-lines : (x : ℕ) → lines (length (j .units)) (set (s .bytes) i x) ≡ set m i (choice-of x)
-      changed-lines x = lines-set (length (j .units)) (s .bytes) i x l ∙ ap (λ (k : PinMap). set k i (choice-of x)) (h .pins)
+      changed-lines : (x : ℕ) → lines (length (j .units)) (set (s .pins) i x) ≡ set m i (choice-of x)
+      changed-lines x = lines-set (length (j .units)) (s .pins) i x l ∙ ap (λ (k : PinMap). set k i (choice-of x)) (h .pins)
 
       changed-choices : (o : Option ℕ) → ((x : ℕ) → o ≡ some x → x < j .choices) → (k y : ℕ) → k < length (j .units) → getD (set m i o) k none ≡ some y → y < j .choices
       changed-choices o f k y p e = go (ℕᴺ-discrete k i)
@@ -107,58 +110,62 @@ module _ (j : Job) (limits : InLimits j) where
           }
 
     -- a unit in 1 to N stands in a place below N
-    inside : (u : ℕ) → outside (length (j .units)) u ≡ false → u - 1 < length (j .units)
-    unfolding outside if_then_else_
-    inside u e = go (leb 1 u) refl e
-      where
-        go : (t : Bool) → leb 1 u ≡ t → (if t then ltb (length (j .units)) u else true) ≡ false → u - 1 < length (j .units)
-        go true p q = let a = leb-true 1 u p in let b = ltb-false (length (j .units)) u q in omega arith
-        go false p q = let z : _≡_ {A = ℕ} 0 1 = cc in absurd (omega arith)
+    place-below : (u : ℕ) → outside (length (j .units)) u ≡ false → u - 1 < length (j .units)
+    place-below u e = let k = inside (length (j .units)) u e in omega arith
 
-    pin-follows : (u x : ℕ) → u - 1 < length (j .units) → x < j .choices → (o : Option ℕ) → getD m (u - 1) none ≡ o → Follows j (note-pin m u x o) (pin-line j s u x o)
-    unfolding note-pin pin-line take-in
-    pin-follows u x l c none e = record { answered = refl; holds = pinned-holds (u - 1) l x c e }
-    pin-follows u x l c (some y) e = refused-follows 9
+    -- the byte of a unit with a line that is empty, and with one that has a choice
+    line-empty : (u : ℕ) → u - 1 < length (j .units) → getD m (u - 1) none ≡ none → eqb (pin-of s u) no-choice ≡ true
+    line-empty u l e = eq-eqb (pin-of s u) no-choice (number-none (pin-of s u) (byte-line (u - 1) l ∙ e))
 
-    lift-follows : (u : ℕ) → u - 1 < length (j .units) → (o : Option ℕ) → getD m (u - 1) none ≡ o → Follows j (note-lift m u o) (lift-line j s u o)
-    unfolding note-lift lift-line take-in
-    lift-follows u l none e = refused-follows 10
-    lift-follows u l (some y) e = record { answered = refl; holds = lifted-holds (u - 1) l y e }
+    line-full : (u y : ℕ) → u - 1 < length (j .units) → getD m (u - 1) none ≡ some y → eqb (pin-of s u) no-choice ≡ false
+    line-full u y l e = ne-eqb (pin-of s u) no-choice (λ q. Option·none-ne-some y (sym of-mark ∙ ap choice-of (sym q) ∙ byte-line (u - 1) l ∙ e))
+
+    pin-follows : (u x : ℕ) → u - 1 < length (j .units) → x < j .choices → (o : Option ℕ) → getD m (u - 1) none ≡ o → Follows j (note-pin m u x o) (guarded (refuse s) (test 9 (eqb (pin-of s u) no-choice) ∷ []) (take-in (called j s (pin u x))))
+    unfolding note-pin take-in called
+    pin-follows u x l c none e = rw (guarded-last (refuse s) (test 9 (eqb (pin-of s u) no-choice)) (take-in (called j s (pin u x))) (line-empty u l e)) (record { answered = refl; holds = pinned-holds (u - 1) l x c e })
+    pin-follows u x l c (some y) e = rw (guarded-here (refuse s) (test 9 (eqb (pin-of s u) no-choice)) [] (take-in (called j s (pin u x))) (line-full u y l e)) (refused-follows 9)
+
+    lift-follows : (u : ℕ) → u - 1 < length (j .units) → (o : Option ℕ) → getD m (u - 1) none ≡ o → Follows j (note-lift m u o) (guarded (refuse s) (test 10 (not (eqb (pin-of s u) no-choice)) ∷ []) (take-in (called j s (lift u))))
+    unfolding note-lift take-in called
+    lift-follows u l none e = rw (guarded-here (refuse s) (test 10 (not (eqb (pin-of s u) no-choice))) [] (take-in (called j s (lift u))) (ap not (line-empty u l e))) (refused-follows 10)
+    lift-follows u l (some y) e =
+        let q : pin-of s u ≡ y = number-some (pin-of s u) y (byte-line (u - 1) l ∙ e) in
+        rw (guarded-last (refuse s) (test 10 (not (eqb (pin-of s u) no-choice))) (take-in (called j s (lift u))) (ap not (line-full u y l e)), q) (record { answered = refl; holds = lifted-holds (u - 1) l y e })
 
     call-follows : (k : Call) → Follows j (note (j .choices) m k) (call-in j s k)
-    unfolding note call-in pinOf if_then_else_
+    unfolding note call-in call-tests pinOf if_then_else_
     call-follows (pin u x) = rw map-length (go (outside (length (j .units)) u) refl (leb (j .choices) x) refl)
       where
-        go : (t : Bool) → outside (length (j .units)) u ≡ t → (c : Bool) → leb (j .choices) x ≡ c → Follows j (if t then record { refused = some 7; map = m } else if c then record { refused = some 8; map = m } else note-pin m u x (getD m (u - 1) none)) (if t then refuse s 7 else if c then refuse s 8 else pin-line j s u x (choice-of (getD (s .bytes) (u - 1) 0)))
-        go true p c q = refused-follows 7
-        go false p true q = refused-follows 8
-        go false p false q = rw (byte-line (u - 1) (inside u p)) (pin-follows u x (inside u p) (leb-false (j .choices) x q) (getD m (u - 1) none) refl)
+        go : (t : Bool) → outside (length (j .units)) u ≡ t → (c : Bool) → leb (j .choices) x ≡ c → Follows j (if t then record { refused = some 7; map = m } else if c then record { refused = some 8; map = m } else note-pin m u x (getD m (u - 1) none)) (guarded (refuse s) (test 7 (not t) ∷ test 8 (ltb x (j .choices)) ∷ test 9 (eqb (pin-of s u) no-choice) ∷ []) (take-in (called j s (pin u x))))
+        go true p c q = rw (guarded-here (refuse s) (test 7 false) (test 8 (ltb x (j .choices)) ∷ test 9 (eqb (pin-of s u) no-choice) ∷ []) (take-in (called j s (pin u x))) refl) (refused-follows 7)
+        go false p true q = rw (guarded-past (refuse s) (test 7 true) (test 8 (ltb x (j .choices)) ∷ test 9 (eqb (pin-of s u) no-choice) ∷ []) (take-in (called j s (pin u x))) refl ∙ guarded-here (refuse s) _ _ _ (le-ltb x (j .choices) (leb-true (j .choices) x q))) (refused-follows 8)
+        go false p false q = rw (guarded-past (refuse s) (test 7 true) (test 8 (ltb x (j .choices)) ∷ test 9 (eqb (pin-of s u) no-choice) ∷ []) (take-in (called j s (pin u x))) refl ∙ guarded-past (refuse s) _ _ _ (lt-ltb x (j .choices) (leb-false (j .choices) x q))) (pin-follows u x (place-below u p) (leb-false (j .choices) x q) (getD m (u - 1) none) refl)
     call-follows (lift u) = rw map-length (go (outside (length (j .units)) u) refl)
       where
-        go : (t : Bool) → outside (length (j .units)) u ≡ t → Follows j (if t then record { refused = some 7; map = m } else note-lift m u (getD m (u - 1) none)) (if t then refuse s 7 else lift-line j s u (choice-of (getD (s .bytes) (u - 1) 0)))
-        go true p = refused-follows 7
-        go false p = rw (byte-line (u - 1) (inside u p)) (lift-follows u (inside u p) (getD m (u - 1) none) refl)
+        go : (t : Bool) → outside (length (j .units)) u ≡ t → Follows j (if t then record { refused = some 7; map = m } else note-lift m u (getD m (u - 1) none)) (guarded (refuse s) (test 7 (not t) ∷ test 10 (not (eqb (pin-of s u) no-choice)) ∷ []) (take-in (called j s (lift u))))
+        go true p = rw (guarded-here (refuse s) (test 7 false) (test 10 (not (eqb (pin-of s u) no-choice)) ∷ []) (take-in (called j s (lift u))) refl) (refused-follows 7)
+        go false p = rw (guarded-past (refuse s) (test 7 true) (test 10 (not (eqb (pin-of s u) no-choice)) ∷ []) (take-in (called j s (lift u))) refl) (lift-follows u (place-below u p) (getD m (u - 1) none) refl)
 
 -- a set that holds a map is taken by the check, and its call is the one for the job
 module _ (b : List ℕ) (j : Job) (n : ℕ) (parsed : parse b ≡ took j n) (limits : InLimits j) where
-  holds-checked : (m : PinMap) (s : State) → Holds j m s → checked b s ≡ took j n
+  holds-checked : (m : PinMap) (s : PinSet) → Holds j m s → checked b s ≡ took j n
   holds-checked m s h = matched b j n parsed s (holds-matches j limits m s h)
 
-  holds-call : (m : PinMap) (s : State) (k : Call) → Holds j m s → call b s k ≡ call-in j s k
-  unfolding call calling
+  holds-call : (m : PinMap) (s : PinSet) (k : Call) → Holds j m s → call b s k ≡ call-in j s k
+  unfolding call on-read
   holds-call m s k h = rw (holds-checked m s h)
 
   -- from any set that holds a map
-  record Followed (m : PinMap) (calls : List Call) (r : Sitting) : Type 0 where
+  record Followed (m : PinMap) (calls : List Call) (r : CallsMade) : Type 0 where
     answered : r .answers ≡ answers (j .choices) m calls
-    holds : Holds j (pins-after (j .choices) m calls) (r .state)
+    holds : Holds j (pins-after (j .choices) m calls) (r .set)
 
-  run-follows : (m : PinMap) (s : State) (calls : List Call) → Holds j m s → Followed m calls (run b s calls)
+  run-follows : (m : PinMap) (s : PinSet) (calls : List Call) → Holds j m s → Followed m calls (run b s calls)
   unfolding run after answers pins-after
   run-follows m s [] h = record { answered = refl; holds = h }
   run-follows m s (k ∷ calls) h =
       let f = call-follows j limits m s h k in
-      let r = run-follows (note (j .choices) m k .map) (call-in j s k .state) calls (f .holds) in
+      let r = run-follows (note (j .choices) m k .map) (call-in j s k .set) calls (f .holds) in
       rw (holds-call m s k h) (record { answered = rw (f .answered, r .answered); holds = r .holds })
 
   fresh-holds : Holds j (no-pins (length (j .units))) (fresh (header-in j))
@@ -172,7 +179,7 @@ module _ (b : List ℕ) (j : Job) (n : ℕ) (parsed : parse b ≡ took j n) (lim
     totals = sym (totals-none (codingAt j) (length (j .units)) (length (j .units)) (omega arith));
   }
 
-  history-claim : (calls : List Call) → HistoryClaim b j n calls (run b (open-call b .state) calls)
+  history-claim : (calls : List Call) → HistoryClaim b j n calls (run b (open-call b .set) calls)
   unfolding open-call opened
   history-claim calls = rw parsed (
       let r = run-follows (no-pins (length (j .units))) (fresh (header-in j)) calls fresh-holds in

@@ -1,4 +1,4 @@
--- The lines that pin bytes stand for.
+-- The lines that pin bytes stand for: each by its byte, with one byte set anew, and those of a set without pins.
 use Prim.Native.Nat.{ℕ, zero, suc, _<_, _≤_}
 use mathlib.Core.Path.{_≡_, refl, _∙_, ap}
 use mathlib.Core.Option.{Option, none}
@@ -9,7 +9,7 @@ use lib.Seq.{take-set-lt}
 use Rattle.model.specs.Pins.{no-pins}
 use Rattle.format.specs.Choices.{no-choice, choice-of}
 use Rattle.format.proofs.Choices.{of-mark}
-use Rattle.pinning.specs.State.{lines, unpinned}
+use Rattle.pinning.specs.PinSet.{lines, unpinned}
 
 -- the line of a unit is what its byte stands for
 pub lines-at : (n : ℕ) (bytes : List ℕ) (i : ℕ) → n ≤ length bytes → i < n → getD (lines n bytes) i none ≡ choice-of (getD bytes i 0)

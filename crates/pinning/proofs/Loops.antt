@@ -7,12 +7,12 @@ use native.Mathlib.Numerals.{add-one}
 use lib.Dec.{ltb}
 use lib.ListN.{length, getD}
 use borrow.Author.Tests.{eq-eqb, ne-eqb, lt-ltb, le-ltb}
-use Rattle.model.specs.If.{if_then_else_}
+use Rattle.base.specs.If.{if_then_else_}
 use Rattle.model.specs.Job.{Coding}
 use Rattle.model.specs.Pins.{PinTotals, with-line, totals-to}
 use Rattle.format.specs.JobBytes.{Header}
 use Rattle.format.specs.Choices.{no-choice, choice-of}
-use Rattle.pinning.specs.State.{lines}
+use Rattle.pinning.specs.PinSet.{lines}
 use Rattle.pinning.specs.Check.{byte-fits}
 use Rattle.pinning.proofs.Lines.{lines-at}
 

@@ -1,63 +1,59 @@
--- A pin or a lift is refused in document 01's order, and then hands back the set as it came: `InOrder` and `Refusing`.
-use Prim.Native.Nat.{ℕ, _-_}
+-- A pin or a lift is refused in document 01's order, and then hands back the set as it came: `Refusals` and `Refusing`.
+use Prim.Native.Nat.{ℕ, _≤_}
 use mathlib.Core.Path.{_≡_, refl}
-use mathlib.Core.Option.{Option, none, some, Option·none-ne-some}
-use lib.Dec.{leb}
-use lib.ListN.{length, getD}
+use mathlib.Core.Logic.{_↔_}
+use mathlib.Core.Bool.{Bool, true, false, not}
+use mathlib.Core.Option.{some, Option·none-ne-some}
+use lib.ListN.{length}
+use native.Mathlib.Omega.{arith}
+use lib.Dec.{eqb}
+use borrow.Author.Tests.{ltb-true, lt-ltb, eqb-true, eqb-false, eq-eqb, ne-eqb}
+use Rattle.base.proofs.Refusals.{no-more, one-more, Guarded, was-refused, was-done, guarded-is}
 use Rattle.model.specs.Job.{Job}
 use Rattle.model.specs.Pins.{Call, pin, lift, outside}
-use Rattle.model.proofs.Tests.{branch}
-use Rattle.format.specs.Parser.{Result, refused, took}
-use Rattle.format.specs.Choices.{choice-of}
-use Rattle.pinning.specs.State.{State}
-use Rattle.pinning.specs.Check.{accept, checked}
-use Rattle.pinning.specs.Calls.{Handed, refuse, take-in, pin-line, lift-line, call-in, calling, call}
-use Rattle.pinning.specs.Claims.{InOrder, Refusing}
-use Rattle.pinning.proofs.Agree.{matched, unmatched}
+use Rattle.format.specs.Parser.{Result, refused, took, on-read}
+use Rattle.format.specs.Choices.{no-choice}
+use Rattle.pinning.specs.PinSet.{PinSet}
+use Rattle.pinning.specs.Check.{checked}
+use Rattle.pinning.specs.Calls.{Handed, refuse, take-in, pin-of, call-tests, called, call-in, call}
+use Rattle.pinning.specs.Claims.{Refusals, Refusing}
+use Rattle.pinning.proofs.Inside.{inside, within}
+use Rattle.pinning.proofs.Agree.{looks-checked}
 
-module _ (s : State) where
+module _ (s : PinSet) where
   abbrev Kept : Handed → Type 0
-  Kept h = (n : ℕ) → h .refused ≡ some n → h .state ≡ s
+  Kept h = (n : ℕ) → h .refused ≡ some n → h .set ≡ s
 
   kept-refuse : (n : ℕ) → Kept (refuse s n)
   unfolding refuse
   kept-refuse n k e = refl
 
-  kept-taken : (t : State) → Kept (take-in t)
+  kept-by : (t : PinSet) (h : Handed) → Guarded (refuse s) (take-in t) h → Kept h
   unfolding take-in
-  kept-taken t n e = absurd (Option·none-ne-some n e)
+  kept-by t h (was-refused n) = kept-refuse n
+  kept-by t h was-done = λ n e. absurd (Option·none-ne-some n e)
 
-  kept-pin : (j : Job) (u x : ℕ) (o : Option ℕ) → Kept (pin-line j s u x o)
-  unfolding pin-line
-  kept-pin j u x none = kept-taken _
-  kept-pin j u x (some y) = kept-refuse 9
-
-  kept-lift : (j : Job) (u : ℕ) (o : Option ℕ) → Kept (lift-line j s u o)
-  unfolding lift-line
-  kept-lift j u none = kept-refuse 10
-  kept-lift j u (some y) = kept-taken _
-
-  kept-call : (j : Job) (k : Call) → Kept (call-in j s k)
-  unfolding call-in
-  kept-call j (pin u x) =
-      branch Kept (outside (length (j .units)) u) (λ e. kept-refuse 7)
-      (λ e. branch Kept (leb (j .choices) x) (λ e. kept-refuse 8) (λ e. kept-pin j u x (choice-of (getD (s .bytes) (u - 1) 0))))
-  kept-call j (lift u) =
-      branch Kept (outside (length (j .units)) u) (λ e. kept-refuse 7) (λ e. kept-lift j u (choice-of (getD (s .bytes) (u - 1) 0)))
-
-  kept-calling : (k : Call) (r : Result Job) → Kept (calling s r (λ j. call-in j s k))
-  unfolding calling
-  kept-calling k (refused n) = kept-refuse n
-  kept-calling k (took j n) = kept-call j k
+  kept-read : (k : Call) (r : Result Job) → Kept (on-read (refuse s) r (λ j. call-in j s k))
+  unfolding on-read call-in
+  kept-read k (refused n) = kept-refuse n
+  kept-read k (took j n) = kept-by (called j s k) _ (guarded-is (refuse s) (call-tests j s k) (take-in (called j s k)))
 
 pub refusing : Refusing
 unfolding call
-refusing b s k = kept-calling s k (checked b s)
+refusing b s k = kept-read s k (checked b s)
 
-pub in-order : InOrder
-unfolding call calling checked accept
-in-order b s k = record {
-  job-first = λ n e. rw e;
-  then-set = λ j n e f. rw (unmatched b j n e s f);
-  then-call = λ j n e m. rw (matched b j n e s m);
-}
+-- each test says what is asked
+not-true : (t : Bool) → not t ≡ true → t ≡ false
+not-true true e = let z : _≡_ {A = ℕ} 0 1 = cc in absurd (omega arith)
+not-true false e = refl
+
+unit-decides : (j : Job) (u : ℕ) → (not (outside (length (j .units)) u) ≡ true) ↔ ((1 ≤ u) × (u ≤ length (j .units)))
+unit-decides j u = (λ e. inside (length (j .units)) u (not-true _ e), λ h. rw (within (length (j .units)) u h))
+
+pin-decides : (x : ℕ) → (not (eqb x no-choice) ≡ true) ↔ (x ≡ no-choice → ⊥)
+pin-decides x = (λ e. eqb-false x no-choice (not-true _ e), λ h. rw (ne-eqb x no-choice h))
+
+pub refusals : Refusals
+unfolding call call-in call-tests
+refusals b s (pin u x) = looks-checked (refuse s) b s (λ j. call-tests j s (pin u x)) _ (λ j. take-in (called j s (pin u x))) (λ j r. r ≡ take-in (called j s (pin u x))) (λ j k e m. (one-more refl (unit-decides j u) (one-more refl (ltb-true x (j .choices), lt-ltb x (j .choices)) (one-more refl (eqb-true (pin-of s u) no-choice, eq-eqb (pin-of s u) no-choice) no-more)), λ a. refl))
+refusals b s (lift u) = looks-checked (refuse s) b s (λ j. call-tests j s (lift u)) _ (λ j. take-in (called j s (lift u))) (λ j r. r ≡ take-in (called j s (lift u))) (λ j k e m. (one-more refl (unit-decides j u) (one-more refl (pin-decides (pin-of s u)) no-more), λ a. refl))

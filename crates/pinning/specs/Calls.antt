@@ -1,18 +1,19 @@
 -- What opening a job, a pin and a lift answer, and the set that they hand back (document 01, "Pins" and "Where each refusal is checked").
 use Prim.Native.Nat.{ℕ, _+_, _-_}
+use mathlib.Core.Bool.{not}
 use mathlib.Core.Option.{Option, none, some}
 use mathlib.Core.List.{List, [], _∷_}
-use lib.Dec.{leb}
+use lib.Dec.{ltb, eqb}
 use lib.ListN.{length, getD, set}
-use Rattle.model.specs.If.{if_then_else_}
-use Rattle.model.specs.Answer.{Answer, refused, gives}
+use Rattle.base.specs.Answer.{Answer, refused, gives}
+use Rattle.base.specs.Refusals.{Test, test, guarded}
 use Rattle.model.specs.Job.{Coding, Job, codingAt}
 use Rattle.model.specs.Pins.{Call, pin, lift, outside}
-use Rattle.format.specs.Parser.{Result}
+use Rattle.format.specs.Parser.{Result, on-read}
 use Rattle.format.specs.Parser as P
 use Rattle.format.specs.JobBytes.{Header, header-in, parse}
-use Rattle.format.specs.Choices.{no-choice, choice-of}
-use Rattle.pinning.specs.State.{State, fresh}
+use Rattle.format.specs.Choices.{no-choice}
+use Rattle.pinning.specs.PinSet.{PinSet, fresh}
 use Rattle.pinning.specs.Check.{checked}
 
 -- a header that no job has
@@ -22,11 +23,11 @@ no-header = record { units = 0; delay = 0; decoder = 0; bucket = 0; drain = 0; l
 -- how many bytes the job took, and the set; a refusal answers its number alone, and the set beside it is that of no job
 pub record Opening : Type 0 where
   pub answer : Answer ℕ
-  pub state : State
+  pub set : PinSet
 
 unfoldable pub opened : Result Job → Opening
-opened (P.refused n) = record { answer = refused n; state = fresh no-header }
-opened (P.took j k) = record { answer = gives k; state = fresh (header-in j) }
+opened (P.refused n) = record { answer = refused n; set = fresh no-header }
+opened (P.took j k) = record { answer = gives k; set = fresh (header-in j) }
 
 unfoldable pub open-call : List ℕ → Opening
 open-call b = opened (parse b)
@@ -34,20 +35,20 @@ open-call b = opened (parse b)
 -- the number that refuses a call, or none, and the set that is handed back
 pub record Handed : Type 0 where
   pub refused : Option ℕ
-  pub state : State
+  pub set : PinSet
 
 -- a refused call hands back the set as it came
-unfoldable pub refuse : State → ℕ → Handed
-refuse s n = record { refused = some n; state = s }
+unfoldable pub refuse : PinSet → ℕ → Handed
+refuse s n = record { refused = some n; set = s }
 
-unfoldable pub take-in : State → Handed
-take-in s = record { refused = none; state = s }
+unfoldable pub take-in : PinSet → Handed
+take-in s = record { refused = none; set = s }
 
 -- the unit in place i pinned at the choice x, which codes it so; all three totals follow
-unfoldable pub with-pin : State → ℕ → ℕ → Coding → State
+unfoldable pub with-pin : PinSet → ℕ → ℕ → Coding → PinSet
 with-pin s i x c = record {
   header = s .header;
-  bytes = set (s .bytes) i x;
+  pins = set (s .pins) i x;
   totals = record {
     count = s .totals .count + 1;
     size = s .totals .size + c .size;
@@ -55,10 +56,10 @@ with-pin s i x c = record {
   };
 }
 
-unfoldable pub without-pin : State → ℕ → Coding → State
+unfoldable pub without-pin : PinSet → ℕ → Coding → PinSet
 without-pin s i c = record {
   header = s .header;
-  bytes = set (s .bytes) i no-choice;
+  pins = set (s .pins) i no-choice;
   totals = record {
     count = s .totals .count - 1;
     size = s .totals .size - c .size;
@@ -66,42 +67,35 @@ without-pin s i c = record {
   };
 }
 
--- a pin of unit u, which has this pin or none: 9, or the pin is set
-unfoldable pub pin-line : Job → State → ℕ → ℕ → Option ℕ → Handed
-pin-line j s u x (some y) = refuse s 9
-pin-line j s u x none = take-in (with-pin s (u - 1) x (codingAt j (u - 1) x))
+-- the number in the place of unit u
+abbrev pub pin-of : PinSet → ℕ → ℕ
+pin-of s u = getD (s .pins) (u - 1) 0
 
--- a lift: 10, or the pin is lifted
-unfoldable pub lift-line : Job → State → ℕ → Option ℕ → Handed
-lift-line j s u none = refuse s 10
-lift-line j s u (some y) = take-in (without-pin s (u - 1) (codingAt j (u - 1) y))
+-- what a call is tested for, of a job that the set matches: 7, then 8 and 9 for a pin, 10 for a lift
+unfoldable pub call-tests : Job → PinSet → Call → List Test
+call-tests j s (pin u x) = test 7 (not (outside (length (j .units)) u)) ∷ test 8 (ltb x (j .choices)) ∷ test 9 (eqb (pin-of s u) no-choice) ∷ []
+call-tests j s (lift u) = test 7 (not (outside (length (j .units)) u)) ∷ test 10 (not (eqb (pin-of s u) no-choice)) ∷ []
 
--- a call for a job that the set matches: 7, then 8
-unfoldable pub call-in : Job → State → Call → Handed
-call-in j s (pin u x) =
-    if outside (length (j .units)) u then refuse s 7
-    else if leb (j .choices) x then refuse s 8
-    else pin-line j s u x (choice-of (getD (s .bytes) (u - 1) 0))
-call-in j s (lift u) =
-    if outside (length (j .units)) u then refuse s 7
-    else lift-line j s u (choice-of (getD (s .bytes) (u - 1) 0))
+-- the set that a call leaves
+unfoldable pub called : Job → PinSet → Call → PinSet
+called j s (pin u x) = with-pin s (u - 1) x (codingAt j (u - 1) x)
+called j s (lift u) = without-pin s (u - 1) (codingAt j (u - 1) (pin-of s u))
 
-unfoldable pub calling : State → Result Job → (Job → Handed) → Handed
-calling s (P.refused n) f = refuse s n
-calling s (P.took j k) f = f j
+unfoldable pub call-in : Job → PinSet → Call → Handed
+call-in j s k = guarded (refuse s) (call-tests j s k) (take-in (called j s k))
 
 -- a pin or a lift with the bytes of a job and a set: 1 to 5, then 6, then its own refusals
-unfoldable pub call : List ℕ → State → Call → Handed
-call b s k = calling s (checked b s) (λ j. call-in j s k)
+unfoldable pub call : List ℕ → PinSet → Call → Handed
+call b s k = on-read (refuse s) (checked b s) (λ j. call-in j s k)
 
 -- a list of calls with the bytes of one job, each given the set that the last handed back: their answers, and the last set
-pub record Sitting : Type 0 where
+pub record CallsMade : Type 0 where
   pub answers : List (Option ℕ)
-  pub state : State
+  pub set : PinSet
 
-unfoldable pub after : Option ℕ → Sitting → Sitting
-after o r = record { answers = o ∷ r .answers; state = r .state }
+unfoldable pub after : Option ℕ → CallsMade → CallsMade
+after o r = record { answers = o ∷ r .answers; set = r .set }
 
-unfoldable pub run : List ℕ → State → List Call → Sitting
-run b s [] = record { answers = []; state = s }
-run b s (k ∷ ks) = after (call b s k .refused) (run b (call b s k .state) ks)
+unfoldable pub run : List ℕ → PinSet → List Call → CallsMade
+run b s [] = record { answers = []; set = s }
+run b s (k ∷ ks) = after (call b s k .refused) (run b (call b s k .set) ks)

@@ -6,22 +6,22 @@ use mathlib.Core.Bool.{Bool, true, false}
 use mathlib.Core.List.{List}
 use lib.Dec.{eqb, ltb}
 use lib.ListN.{length, getD}
-use Rattle.model.specs.If.{if_then_else_}
-use Rattle.model.specs.All.{all-below}
+use Rattle.base.specs.If.{if_then_else_}
+use Rattle.base.specs.All.{all-below}
 use Rattle.model.specs.Job.{Coding, Job, codingAt}
 use Rattle.model.specs.Pins.{PinTotals, totals-to, pin-totals}
-use Rattle.format.specs.JobBytes.{Header, same-header, header-in, parse}
+use Rattle.format.specs.JobBytes.{Header, same-header, header-in, parse, job-in, Opens}
 use Rattle.format.specs.Parser.{Result, refused, took}
 use Rattle.format.specs.Places.{coding-at}
 use Rattle.format.specs.Choices.{no-choice}
-use Rattle.pinning.specs.State.{State, lines}
+use Rattle.pinning.specs.PinSet.{PinSet, lines}
 
 -- in the document's words
-pub record Matches (j : Job) (s : State) : Type 0 where
+pub record Matches (j : Job) (s : PinSet) : Type 0 where
   pub header : s .header ≡ header-in j
-  pub pins : (i : ℕ) → i < length (j .units) → (getD (s .bytes) i 0 ≡ no-choice) ⊎ (getD (s .bytes) i 0 < j .choices)
-  pub past : (i : ℕ) → length (j .units) ≤ i → i < 512 → getD (s .bytes) i 0 ≡ no-choice
-  pub totals : s .totals ≡ pin-totals j (lines (length (j .units)) (s .bytes))
+  pub pins : (i : ℕ) → i < length (j .units) → (getD (s .pins) i 0 ≡ 255) ⊎ (getD (s .pins) i 0 < j .choices)
+  pub past : (i : ℕ) → length (j .units) ≤ i → i < 512 → getD (s .pins) i 0 ≡ 255
+  pub totals : s .totals ≡ pin-totals j (lines (length (j .units)) (s .pins))
 
 -- the byte in place i: of a unit it is 255 or below M, past the last unit it is 255
 unfoldable pub byte-fits : Header → ℕ → ℕ → Bool
@@ -35,10 +35,10 @@ unfoldable pub same-totals : PinTotals → PinTotals → Bool
 same-totals a b = if eqb (a .count) (b .count) then if eqb (a .size) (b .size) then eqb (a .distortion) (b .distortion) else false else false
 
 -- as a test, of a job with this header in which unit i + 1 has the codings in place i
-unfoldable pub fits : (ℕ → ℕ → Coding) → Header → State → Bool
+unfoldable pub fits : (ℕ → ℕ → Coding) → Header → PinSet → Bool
 fits codings h s =
     if same-header (s .header) h then
-    if bytes-fit h (s .bytes) 512 then same-totals (s .totals) (totals-to codings (lines (h .units) (s .bytes)) (h .units))
+    if bytes-fit h (s .pins) 512 then same-totals (s .totals) (totals-to codings (lines (h .units) (s .pins)) (h .units))
     else false
     else false
 
@@ -46,19 +46,16 @@ fits codings h s =
 unfoldable pub codings-in : List ℕ → Header → ℕ → ℕ → Coding
 codings-in b h i x = coding-at b h (suc i) x
 
-unfoldable pub accept : State → Result Job → Result Job
+unfoldable pub accept : PinSet → Result Job → Result Job
 accept s (refused n) = refused n
 accept s (took j k) = if fits (codingAt j) (header-in j) s then took j k else refused 6
 
 -- what every call that takes a job and a set tests first: the job, 1 to 5, then the set against it, 6
-unfoldable pub checked : List ℕ → State → Result Job
+unfoldable pub checked : List ℕ → PinSet → Result Job
 checked b s = accept s (parse b)
 
--- the bytes are those of a job with this header, and the set, of 512 bytes, matches it
-pub record Ready (b : List ℕ) (h : Header) (s : State) : Type 0 where
-  pub job : Job
-  pub taken : ℕ
-  pub parsed : parse b ≡ took job taken
-  pub header-is : header-in job ≡ h
-  pub matches : Matches job s
-  pub size : length (s .bytes) ≡ 512
+-- the bytes are those of a job with this header, and the set, of 512 pins, matches it
+pub record Ready (b : List ℕ) (h : Header) (s : PinSet) : Type 0 where
+  pub opens : Opens b h
+  pub matches : Matches (job-in b) s
+  pub size : length (s .pins) ≡ 512

@@ -3,13 +3,13 @@ use Prim.Native.Nat.{ℕ, _+_, _<_, _≤_}
 use mathlib.Core.Path.{_≡_}
 use mathlib.Core.Option.{Option, none, some}
 use mathlib.Core.List.{List}
-use Rattle.model.specs.Answer.{refused, gives}
-use Rattle.model.specs.Answer as answer
+use Rattle.base.specs.Answer.{refused, gives}
+use Rattle.base.specs.Answer as answer
 use Rattle.model.specs.Pins.{PinTotals, with-line}
 use Rattle.format.specs.JobBytes as format
 use Rattle.job.specs.declared.Coding.{Coding}
 use Rattle.job.specs.Answers.{plain}
-use Rattle.pins.specs.declared.PinSet.{PinSet}
+use Rattle.pins.specs.declared.PinSet as code-set
 use Rattle.pins.specs.declared.Tally.{Tally}
 use Rattle.pins.specs.declared.Opening.{Opening}
 use Rattle.pins.specs.declared.Opening.the-variants as o
@@ -18,14 +18,14 @@ use Rattle.pins.specs.declared.Answer.{Answer}
 use Rattle.pins.specs.declared.Answer.the-variants as a
 use Rattle.pins.specs.declared.Handed.{Handed}
 use Rattle.format.specs.Choices.{choice-of}
-use Rattle.pinning.specs.State.{State}
+use Rattle.pinning.specs.PinSet.{PinSet}
 use Rattle.pinning.specs.Check.{codings-in}
 use Rattle.pinning.specs.Calls as calls
 
-unfoldable pub state : PinSet → State
-state s = record {
+unfoldable pub set-of : code-set.PinSet → PinSet
+set-of s = record {
   header = plain (s .header);
-  bytes = s .pins;
+  pins = s .pins;
   totals = record { count = s .count; size = s .size; distortion = s .distortion };
 }
 
@@ -35,14 +35,14 @@ opening-answer (o.Took k) = gives k
 opening-answer (o.Refused n) = refused n
 
 unfoldable pub opening : Opened → calls.Opening
-opening r = record { answer = opening-answer (r .answer); state = state (r .set) }
+opening r = record { answer = opening-answer (r .answer); set = set-of (r .set) }
 
 unfoldable pub number : Answer → Option ℕ
 number a.Done = none
 number (a.Refused n) = some n
 
 unfoldable pub handed : Handed → calls.Handed
-handed r = record { refused = number (r .answer); state = state (r .set) }
+handed r = record { refused = number (r .answer); set = set-of (r .set) }
 
 -- What the private functions say and ask.
 
@@ -57,14 +57,14 @@ pub record Added (b : List ℕ) (h : format.Header) (place pin : ℕ) (sum r : T
   pub distortion : r .distortion ≤ sum .distortion + 4294967295
 
 -- a pin more does not overflow the totals
-pub record Room (s : PinSet) (place : ℕ) (c : Coding) : Type 0 where
+pub record Room (s : code-set.PinSet) (place : ℕ) (c : Coding) : Type 0 where
   pub place-below : place < 512
   pub count : s .count ≤ 512
   pub size : s .size + c .size < 4294967296
   pub distortion : s .distortion + c .distortion < 4294967296
 
 -- the totals have the pin
-pub record Pinned (s : PinSet) (place : ℕ) (c : Coding) : Type 0 where
+pub record Pinned (s : code-set.PinSet) (place : ℕ) (c : Coding) : Type 0 where
   pub place-below : place < 512
   pub count : 1 ≤ s .count
   pub size : c .size ≤ s .size

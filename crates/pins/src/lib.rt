@@ -9,10 +9,10 @@ ghost use Rattle.format.specs.JobBytes.{header-in};
 ghost use Rattle.format.specs.Parser.{with-value};
 ghost use Rattle.job.specs.Answers.{plain, coding-of, reading};
 ghost use Rattle.format.specs.Choices.{choice-of};
-ghost use Rattle.pinning.specs.State.{lines, fresh};
+ghost use Rattle.pinning.specs.PinSet.{lines, fresh};
 ghost use Rattle.pinning.specs.Check.{byte-fits, bytes-fit, same-totals, fits, codings-in, checked, Ready};
 ghost use Rattle.pinning.specs.Calls.{no-header, open-call, refuse, with-pin, without-pin, call};
-ghost use Rattle.pins.specs.Answers.{state, tallied, opening, handed, Added, Room, Pinned};
+ghost use Rattle.pins.specs.Answers.{set-of, tallied, opening, handed, Added, Room, Pinned};
 use job::Coding;
 use job::Header;
 use job::Reading;
@@ -63,7 +63,7 @@ impl PinSet {
 
     // The set without a pin.
     fn fresh(header: Header) -> PinSet
-        ensures { λ r. ⌜ state r ≡ fresh (plain header) ⌝ }
+        ensures { λ r. ⌜ set-of r ≡ fresh (plain header) ⌝ }
     {
         PinSet {
             header,
@@ -77,7 +77,7 @@ impl PinSet {
     // The unit in place `at` pinned at a choice, which codes it so.
     fn with_pin(mut self, at: usize, choice: u8, coding: Coding) -> PinSet
         requires { ⌜ Room self at coding ⌝ }
-        ensures { λ r. ⌜ state r ≡ with-pin (state self) at choice (coding-of coding) ⌝ }
+        ensures { λ r. ⌜ set-of r ≡ with-pin (set-of self) at choice (coding-of coding) ⌝ }
     {
         self.pins[at] = choice;
         self.count = self.count + 1;
@@ -89,7 +89,7 @@ impl PinSet {
     // Its pin lifted.
     fn without_pin(mut self, at: usize, coding: Coding) -> PinSet
         requires { ⌜ Pinned self at coding ⌝ }
-        ensures { λ r. ⌜ state r ≡ without-pin (state self) at (coding-of coding) ⌝ }
+        ensures { λ r. ⌜ set-of r ≡ without-pin (set-of self) at (coding-of coding) ⌝ }
     {
         self.pins[at] = PinSet::NO_PIN;
         self.count = self.count - 1;
@@ -192,7 +192,7 @@ fn sum_lines(job: &[u8], header: Header, pins: &[u8; 512]) -> Tally
 
 // Whether the set's totals are these sums.
 fn same_totals(set: PinSet, sum: Tally) -> bool
-    ensures { λ r. ⌜ r ≡ same-totals (state set .totals) (tallied sum) ⌝ }
+    ensures { λ r. ⌜ r ≡ same-totals (set-of set .totals) (tallied sum) ⌝ }
 {
     if set.count as u64 != sum.count {
         return false;
@@ -206,7 +206,7 @@ fn same_totals(set: PinSet, sum: Tally) -> bool
 // Whether the set is one of the job with this header: refusal 6 where it is not.
 fn fits(job: &[u8], header: Header, set: PinSet) -> bool
     requires { ⌜ header .units ≤ 512 ⌝ }
-    ensures { λ r. ⌜ r ≡ fits (codings-in (now (job .entry)) (plain header)) (plain header) (state set) ⌝ }
+    ensures { λ r. ⌜ r ≡ fits (codings-in (now (job .entry)) (plain header)) (plain header) (set-of set) ⌝ }
 {
     let own = set.header;
     if !own.same(header) {
@@ -223,7 +223,7 @@ fn fits(job: &[u8], header: Header, set: PinSet) -> bool
 // That a set has 512 pin bytes is handed on to the callers' proofs.
 pub fn check(job: &[u8], set: PinSet) -> Reading
     ensures sized { λ _. ⌜ length (set .pins) ≡ 512 ⌝ }
-    ensures answer { λ r. ⌜ reading r ≡ with-value header-in (checked (now (job .entry)) (state set)) ⌝ }
+    ensures answer { λ r. ⌜ reading r ≡ with-value header-in (checked (now (job .entry)) (set-of set)) ⌝ }
 {
     match job::read(job) {
         Reading::Refused(n) => Reading::Refused(n),
@@ -239,7 +239,7 @@ pub fn check(job: &[u8], set: PinSet) -> Reading
 
 // The set as it came, beside the refusal's number.
 fn refused(set: PinSet, number: u8) -> Handed
-    ensures { λ r. ⌜ handed r ≡ refuse (state set) number ⌝ }
+    ensures { λ r. ⌜ handed r ≡ refuse (set-of set) number ⌝ }
 {
     Handed {
         answer: Answer::Refused(number),
@@ -259,8 +259,8 @@ fn outside(units: u16, unit: u16) -> bool
 
 // A pin, for a job that the set matches: 7, then 8, then 9.
 fn pin_line(job: &[u8], header: Header, set: PinSet, unit: u16, choice: u16) -> Handed
-    requires { ⌜ Ready (now job) (plain header) (state set) ⌝ }
-    ensures { λ r. ⌜ handed r ≡ call (now (job .entry)) (state set) (pin unit choice) ⌝ }
+    requires { ⌜ Ready (now job) (plain header) (set-of set) ⌝ }
+    ensures { λ r. ⌜ handed r ≡ call (now (job .entry)) (set-of set) (pin unit choice) ⌝ }
 {
     let units = header.units;
     let choices = header.choices;
@@ -284,8 +284,8 @@ fn pin_line(job: &[u8], header: Header, set: PinSet, unit: u16, choice: u16) -> 
 
 // A lift, for a job that the set matches: 7, then 10.
 fn lift_line(job: &[u8], header: Header, set: PinSet, unit: u16) -> Handed
-    requires { ⌜ Ready (now job) (plain header) (state set) ⌝ }
-    ensures { λ r. ⌜ handed r ≡ call (now (job .entry)) (state set) (lift unit) ⌝ }
+    requires { ⌜ Ready (now job) (plain header) (set-of set) ⌝ }
+    ensures { λ r. ⌜ handed r ≡ call (now (job .entry)) (set-of set) (lift unit) ⌝ }
 {
     let units = header.units;
     if outside(units, unit) {
@@ -305,7 +305,7 @@ fn lift_line(job: &[u8], header: Header, set: PinSet, unit: u16) -> Handed
 
 // Pins a unit, counted from 1, at a choice, counted from 0.
 pub fn pin(job: &[u8], set: PinSet, unit: u16, choice: u16) -> Handed
-    ensures { λ r. ⌜ handed r ≡ call (now (job .entry)) (state set) (pin unit choice) ⌝ }
+    ensures { λ r. ⌜ handed r ≡ call (now (job .entry)) (set-of set) (pin unit choice) ⌝ }
 {
     match check(job, set) {
         Reading::Refused(n) => refused(set, n),
@@ -315,7 +315,7 @@ pub fn pin(job: &[u8], set: PinSet, unit: u16, choice: u16) -> Handed
 
 // Lifts the pin of a unit.
 pub fn lift(job: &[u8], set: PinSet, unit: u16) -> Handed
-    ensures { λ r. ⌜ handed r ≡ call (now (job .entry)) (state set) (lift unit) ⌝ }
+    ensures { λ r. ⌜ handed r ≡ call (now (job .entry)) (set-of set) (lift unit) ⌝ }
 {
     match check(job, set) {
         Reading::Refused(n) => refused(set, n),

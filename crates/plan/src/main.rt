@@ -5,17 +5,18 @@ ghost use mathlib.Core.Path.{_≡_};
 ghost use Prim.Native.Nat.{_+_, _*_, _≤_};
 ghost use lib.ListN.{length};
 ghost use Rattle.replaying.specs.Entries.{entry-size};
+use interval::Totals;
+use job::Choice;
 use job::Header;
 use job::Reading;
 use libc::STDIN_FILENO;
 use planner::Planned;
-use replay::Totals;
 
 // The most intervals that a job has.
 const MOST_INTERVALS: usize = 576;
 
 // The line of an interval: its number, what it sends, its choice or `-`, the levels that it leads to.
-fn print_interval(number: u64, sent: u16, choice: u8, decoder: u16, bucket: u16) {
+fn print_interval(number: u64, sent: u16, choice: Choice, decoder: u16, bucket: u16) {
     print::count(number);
     print::number(sent as u64);
     print::choice(choice);
@@ -27,22 +28,21 @@ fn print_interval(number: u64, sent: u16, choice: u8, decoder: u16, bucket: u16)
 fn print_intervals(job: &[u8], header: Header, entries: &[u8])
     requires { ⌜ (header .units + header .delay ≤ 576) × (length (now entries) ≡ entry-size * 576) ⌝ }
 {
-    let total = replay::intervals(header);
+    let total = entry::intervals(header);
     let start = 0;
-    let end = replay::ENTRY * total;
+    let end = entry::SIZE * total;
     // levels do not depend on pins, and the set that opening answers has none
     let opened = pins::open(job);
     let set = opened.set;
     let mut levels = [0u16; replay::LEVELS_EACH * MOST_INTERVALS];
     replay::replay(job, set, &entries[start..end], &mut levels);
     for place in 0..total {
-        let at = replay::ENTRY * place;
-        let next = at + 1;
+        let entry = entry::entry_at(entries, place);
         let decoder = replay::LEVELS_EACH * place;
         let bucket = decoder + 1;
         let number = place as u64 + 1;
-        let sent = job::rate_at(job, entries[at] as u16);
-        print_interval(number, sent, entries[next], levels[decoder], levels[bucket]);
+        let sent = job::rate_at(job, entry.rate as u16);
+        print_interval(number, sent, entry.choice, levels[decoder], levels[bucket]);
     }
 }
 
@@ -64,8 +64,8 @@ fn main() {
     let mut input = [0u8; 32769];
     let n = io::read_full(STDIN_FILENO, &mut input);
     let mut table = [0u32; 16384];
-    let mut entries = [0u8; replay::ENTRY * MOST_INTERVALS];
-    match sitting::plan_input(&input[..n], &mut table, &mut entries) {
+    let mut entries = [0u8; entry::SIZE * MOST_INTERVALS];
+    match session::plan_input(&input[..n], &mut table, &mut entries) {
         Planned::Refused(number) => print::refused(number),
         Planned::Best(totals) => print_plan(&input[..n], &entries, totals),
     }

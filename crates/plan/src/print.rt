@@ -1,7 +1,8 @@
 // The lines of the printed plan, in document 01's format.
+use interval::Totals;
+use job::Choice;
 use job::Header;
 use libc::STDOUT_FILENO;
-use replay::Totals;
 
 fn text(s: &[u8]) {
     io::write_all(STDOUT_FILENO, s);
@@ -22,8 +23,8 @@ pub fn end() {
 }
 
 // The choice behind a space, or `-` where no unit is decoded.
-pub fn choice(x: u8) {
-    if x == replay::NO_UNIT {
+pub fn choice(x: Choice) {
+    if x == job::NO_CHOICE {
         text(b" -");
     } else {
         number(x as u64);
@@ -34,7 +35,7 @@ pub fn choice(x: u8) {
 pub fn head(header: Header) {
     text(b"plan");
     number(header.units as u64);
-    number(replay::intervals(header) as u64);
+    number(entry::intervals(header) as u64);
     number(planner::table_words(header) as u64);
     end();
 }

@@ -6,10 +6,12 @@ use mathlib.Core.List.{List, [], _∷_}
 use native.Mathlib.Omega.{arith}
 use native.Mathlib.Nat.{add-mul, one-mul, mul-le-mul-right}
 use lib.ListN.{length, getD}
-use borrow.Author.Tests.{lt-ltb, le-ltb}
+use lib.Dec.{leb}
+use borrow.Author.Tests.{lt-leb, le-leb}
 use Rattle.trellis.specs.Table.{encode}
-use Rattle.model.specs.If.{if_then_else_}
-use Rattle.model.specs.Answer.{refused, gives}
+use Rattle.base.specs.Refusals.{test, guarded}
+use Rattle.base.proofs.Refusals.{guarded-here, guarded-past, guarded-last}
+use Rattle.base.specs.Answer.{refused, gives}
 use Rattle.model.specs.Job.{Bucket, bucketAt, Levels, Job, on-line, intervals}
 use Rattle.model.specs.Pins.{PinMap}
 use Rattle.model.specs.Admissible.{AllWithin}
@@ -21,20 +23,21 @@ use Rattle.model.proofs.Words.{words-of-one}
 use Rattle.model.proofs.Tables.{distortions-small}
 use Rattle.model.proofs.Lines.{own-line, intervals-on, bounded-on}
 use Rattle.format.specs.Parser as P
+use Rattle.format.specs.Parser.{on-read}
 use Rattle.format.specs.JobBytes.{Header, job-in, Opens}
 use Rattle.format.proofs.Bounds.{bounded}
-use Rattle.format.proofs.Opened.{held-job, opens-by, job-formed, job-limits, units-are, intervals-are, decoder-is, buckets-are, start-is}
-use Rattle.pinning.specs.State.{State, lines}
+use Rattle.format.proofs.Opened.{job-formed, job-limits, units-are, intervals-are, decoder-is, buckets-are, start-is}
+use Rattle.pinning.specs.PinSet.{PinSet, lines}
 use Rattle.pinning.specs.Check.{checked, Ready}
 use Rattle.pinning.proofs.Agree.{matched}
-use Rattle.replay.specs.declared.Totals as replay
-use Rattle.replay.specs.Answers.{totals-of}
+use Rattle.interval.specs.declared.Totals as replay
+use Rattle.interval.specs.Answers.{totals-of, buffers-of, line-of, start-of}
 use Rattle.replaying.specs.Entries.{entry-size}
 use Rattle.planning.specs.Words.{table-from}
-use Rattle.planning.specs.Calls.{refuse, searched, search-in, plan-in, on-job, plan-call}
+use Rattle.planning.specs.Calls.{Planned, refuse, searched, search-in, plan-tests, plan-in, plan-call}
 use Rattle.planning.proofs.Layers.{from-length, from-layer, from-table}
 use Rattle.planner.specs.declared.Line.{Line}
-use Rattle.planner.specs.Answers.{line-is, job-on, table-words, LineOf, Tabled, Standing, PlanRead, Searches}
+use Rattle.planner.specs.Answers.{line-is, job-on, words-over, table-words, LineOf, Tabled, Standing, PlanRead, PlansFrom, Searches}
 
 one-within : (k : Bucket) (l : ℕ) → l ≤ k .size → AllWithin (k ∷ []) (l ∷ [])
 one-within k l h i b = let e : i ≡ 0 = omega arith in rw e h
@@ -42,7 +45,7 @@ one-within k l h i b = let e : i ≡ 0 = omega arith in rw e h
 module _ (b : List ℕ) (h : Header) (o : Opens b h) where
   -- the table's size, as the code computes it
   pub words-are : words (job-in b) ≡ table-words h
-  unfolding table-words
+  unfolding words-over buffers-of
   words-are = words-of-one (job-in b) _ (buckets-are b h o) .count ∙ rw (intervals-are b h o, decoder-is b h o)
 
   -- the starting levels are in the layer
@@ -67,11 +70,11 @@ module _ (b : List ℕ) (h : Header) (l : Line) (pins : List ℕ) (first : ℕ) 
   T = table-from J m first table
 
   counted : first ≤ intervals J
-  counted = omega (arith, asks .few, intervals-are b h (asks .starts .opens), intervals-on (job-in b) (line-is l))
+  counted = omega (arith, asks .from .few, intervals-are b h (asks .from .starts .opens), intervals-on (job-in b) (line-is l))
 
   inside-on : InLayer (J .line) s
   unfolding on-line
-  inside-on = asks .inside
+  inside-on = asks .from .inside
 
   -- the table that was filled
   pub tabled : Tabled J m first T
@@ -82,7 +85,7 @@ module _ (b : List ℕ) (h : Header) (l : Line) (pins : List ℕ) (first : ℕ) 
 
   -- where the word of the start stands, and what it is
   pub start-low : place (tops (line-is l)) (flat s) < layerWords (line-is l)
-  start-low = place-below (layer-each (asks .inside))
+  start-low = place-below (layer-each (asks .from .inside))
 
   pub start-below : first * layerWords (line-is l) + place (tops (line-is l)) (flat s) < length T
   unfolding words on-line
@@ -97,7 +100,7 @@ module _ (b : List ℕ) (h : Header) (l : Line) (pins : List ℕ) (first : ℕ) 
   -- a word that is the mark says that there is no plan, another that there is one
   small-value : (v : ℕ) → least-total J m first s ≡ some v → v ≤ bound
   unfolding least-total
-  small-value v e = distortions-small J m late (bounded-on (job-in b) (line-is l) (bounded (job-in b) (job-formed b h (asks .starts .opens)))) (λ t s. Unit {0}) .values (intervals J - first) first s v (omega (arith, counted)) tt e
+  small-value v e = distortions-small J m late (bounded-on (job-in b) (line-is l) (bounded (job-in b) (job-formed b h (asks .from .starts .opens)))) (λ t s. Unit {0}) .values (intervals J - first) first s v (omega (arith, counted)) tt e
 
   pub no-value : encode mark (least-total J m first s) ≡ mark → least-total J m first s ≡ none
   unfolding encode
@@ -123,48 +126,57 @@ module _ (b : List ℕ) (h : Header) (l : Line) (pins : List ℕ) (first : ℕ) 
     unfolding search-in searched
     search-best t new r p = rw (r .least-is, p .totals-are, p .written)
 
-pub plan-refused : (b : List ℕ) (s : State) (table entries : List ℕ) (n : ℕ) → checked b s ≡ P.refused n → record { answer = refused n; table = table; entries = entries } ≡ plan-call b s table entries
-unfolding plan-call on-job refuse
+pub plan-refused : (b : List ℕ) (s : PinSet) (table entries : List ℕ) (n : ℕ) → checked b s ≡ P.refused n → record { answer = refused n; table = table; entries = entries } ≡ plan-call b s table entries
+unfolding plan-call on-read refuse
 plan-refused b s table entries n e = rw e
 
--- for a job that the set matches
-pub ready-opens : (b : List ℕ) (h : Header) (s : State) → Ready b h s → Opens b h
-ready-opens b h s r = opens-by b h (r .job) (r .taken) (r .parsed) (r .header-is)
+-- the tests in front of a search, in their order
+module _ (b : List ℕ) (h : Header) (l : Line) (pins : List ℕ) (first : ℕ) (s : Levels) (table entries : List ℕ) (m : PinMap) (o : Order) (asks : PlansFrom b h l pins first s) where
+  counted-on : intervals (job-on b l) ≡ h .units + h .delay
+  counted-on = intervals-on (job-in b) (line-is l) ∙ intervals-are b h (asks .starts .opens)
 
-module _ (b : List ℕ) (h : Header) (s : State) (r : Ready b h s) (table entries : List ℕ) where
-  plan-on : plan-call b s table entries ≡ plan-in (job-in b) (lines (h .units) (s .bytes)) late 0 (job-in b .start) table entries
-  unfolding plan-call on-job
-  plan-on = rw (matched b (r .job) (r .taken) (r .parsed) s (r .matches), ← units-are b h (ready-opens b h s r), held-job b (r .job) (r .taken) (r .parsed))
+  words-on : words (job-on b l) ≡ words-over h (l .buffers)
+  unfolding words-over line-is line-of on-line
+  words-on = words-of-one (job-on b l) _ refl .count ∙ rw counted-on
 
-  all-left : intervals (job-in b) - 0 ≡ h .units + h .delay
-  all-left = omega (arith, intervals-are b h (ready-opens b h s r))
+  abbrev work : Planned
+  work = search-in (job-on b l) m o first s table entries
 
-  pub plan-11 : length table < table-words h → record { answer = refused 11; table = table; entries = entries } ≡ plan-call b s table entries
-  unfolding plan-in refuse if_then_else_
-  plan-11 l = sym (plan-on ∙ rw (lt-ltb (length table) (words (job-in b)) (omega (arith, words-are b h (ready-opens b h s r)))))
+  pub from-11 : length table < words-over h (l .buffers) → record { answer = refused 11; table = table; entries = entries } ≡ plan-in (job-on b l) m o first s table entries
+  unfolding plan-in plan-tests refuse
+  from-11 k = sym (guarded-here (refuse table entries) _ _ work (lt-leb (words (job-on b l)) (length table) (omega (arith, words-on))))
 
-  module _ (k : table-words h ≤ length table) where
-    room-is : words (job-in b) ≤ length table
-    room-is = omega (arith, words-are b h (ready-opens b h s r))
+  module _ (k : words-over h (l .buffers) ≤ length table) where
+    past-11 : plan-in (job-on b l) m o first s table entries ≡ guarded (refuse table entries) (test 12 (leb (entry-size * (intervals (job-on b l) - first)) (length entries)) ∷ []) work
+    unfolding plan-in plan-tests
+    past-11 = guarded-past (refuse table entries) _ _ work (le-leb (words (job-on b l)) (length table) (omega (arith, words-on)))
 
-    pub plan-12 : length entries < entry-size * (h .units + h .delay) → record { answer = refused 12; table = table; entries = entries } ≡ plan-call b s table entries
-    unfolding plan-in refuse if_then_else_
-    plan-12 l = sym (plan-on ∙ rw (le-ltb (length table) (words (job-in b)) room-is, all-left, lt-ltb (length entries) (entry-size * (h .units + h .delay)) l))
+    pub from-12 : length entries < entry-size * (h .units + h .delay - first) → record { answer = refused 12; table = table; entries = entries } ≡ plan-in (job-on b l) m o first s table entries
+    unfolding refuse
+    from-12 g = sym (past-11 ∙ guarded-here (refuse table entries) _ _ work (lt-leb (entry-size * (intervals (job-on b l) - first)) (length entries) (omega (arith, counted-on))))
 
-    -- the search over the job's own line, from its starting levels
-    module _ (l : Line) (is : LineOf b l) (start : Levels) (e : start ≡ job-in b .start) (space : entry-size * (h .units + h .delay) ≤ length entries) where
-      own : job-on b l ≡ job-in b
-      own = ap (on-line (job-in b)) (is .is) ∙ own-line (job-in b)
+    module _ (g : entry-size * (h .units + h .delay - first) ≤ length entries) where
+      pub searches : Searches b h l pins first s table entries
+      searches = record { from = asks; room = omega (arith, words-on); space = g }
 
-      pub searches : (pins : List ℕ) → length pins ≡ 512 → Searches b h l pins 0 start table entries
-      searches pins n = record {
-        starts = record { opens = ready-opens b h s r; line = is .fits; pins-size = n };
-        few = omega arith;
-        inside = rw (is .is, e) (start-inside b h (ready-opens b h s r));
-        room = rw own room-is;
-        space = omega (arith, space);
-      }
+      pub from-searched : search-in (job-on b l) m o first s table entries ≡ plan-in (job-on b l) m o first s table entries
+      from-searched = sym (past-11 ∙ guarded-last (refuse table entries) _ work (le-leb (entry-size * (intervals (job-on b l) - first)) (length entries) (omega (arith, counted-on))))
 
-      pub plan-searched : search-in (job-on b l) (lines (h .units) (s .bytes)) late 0 start table entries ≡ plan-call b s table entries
-      unfolding plan-in if_then_else_
-      plan-searched = rw (own, e) (sym (plan-on ∙ rw (le-ltb (length table) (words (job-in b)) room-is, all-left, le-ltb (length entries) (entry-size * (h .units + h .delay)) space)))
+-- all of a job that the set matches, over its own line, from its starting levels
+module _ (b : List ℕ) (h : Header) (s : PinSet) (r : Ready b h s) (l : Line) (is : LineOf b l) (start : Levels) (e : start ≡ start-of h) where
+  begins : start ≡ job-in b .start
+  unfolding start-of
+  begins = e ∙ sym (start-is b h (r .opens))
+
+  pub plans-from : (pins : List ℕ) → length pins ≡ 512 → PlansFrom b h l pins 0 start
+  plans-from pins n = record {
+    starts = record { opens = r .opens; line = is .fits; pins-size = n };
+    few = omega arith;
+    inside = rw (is .is, begins) (start-inside b h (r .opens));
+  }
+
+  pub plan-from-start : (table entries : List ℕ) → plan-in (job-on b l) (lines (h .units) (s .pins)) late 0 start table entries ≡ plan-call b s table entries
+  unfolding plan-call on-read
+  plan-from-start table entries =
+      let own : job-on b l ≡ job-in b = ap (on-line (job-in b)) (is .is) ∙ own-line (job-in b) in
+      rw (own, begins, matched b (job-in b) (r .opens .taken) (r .opens .parsed) s (r .matches), units-are b h (r .opens))

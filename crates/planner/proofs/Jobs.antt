@@ -7,7 +7,7 @@ use native.Mathlib.Omega.{arith}
 use lib.ListN.{length, getD, take}
 use lib.Seq.{getD-take}
 use borrow.Author.Tests.{le-leb, lt-leb}
-use Rattle.model.specs.If.{if_then_else_}
+use Rattle.base.specs.If.{if_then_else_}
 use Rattle.model.specs.Job as model
 use Rattle.model.specs.Job.{on-line, codingAt, coding}
 use Rattle.model.specs.Pins.{PinMap, pinOf, pinAt}
@@ -22,11 +22,11 @@ use Rattle.format.proofs.Choices.{of-choice}
 use Rattle.format.proofs.Opened.{job-limits, looked-up, units-are, delay-is, rates-are, choices-are, decoder-is, bucket-is, buckets-are, drain-most}
 use Rattle.job.specs.declared.Header as job
 use Rattle.job.specs.Answers.{plain}
-use Rattle.pinning.specs.State.{lines}
+use Rattle.pinning.specs.PinSet.{lines}
 use Rattle.pinning.proofs.Lines.{lines-at}
 use Rattle.planning.specs.Rule.{choice-in, allowed-in}
-use Rattle.replay.specs.declared.Buffers.{Buffers}
-use Rattle.replay.specs.Answers.{line-of, buffers-of}
+use Rattle.interval.specs.declared.Buffers.{Buffers}
+use Rattle.interval.specs.Answers.{line-of, buffers-of}
 use Rattle.planner.specs.declared.Line.{Line}
 use Rattle.planner.specs.declared.Choices.{Choices}
 use Rattle.planner.specs.Answers.{line-is, job-on, coding-if, allowed-is, LineOf, NoChoices, UnitChoices, ChoicesOf}

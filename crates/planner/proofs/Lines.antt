@@ -1,17 +1,17 @@
 -- A layer is filled by the crate `layer`, of a line with a neutral bucket in front, from the least distortion of each size.
 use Prim.Native.Nat.{ℕ, _+_, _≤_, _<_}
-use mathlib.Core.Path.{_≡_, refl, sym, _∙_, ap}
+use mathlib.Core.Path.{_≡_, refl, _∙_}
 use mathlib.Core.Bool.{Bool, true, false}
 use mathlib.Core.Option.{some}
 use mathlib.Core.List.{List, _++_}
 use native.Mathlib.Omega.{arith}
 use lib.ListN.{length, getD, take, drop, length-take}
 use lib.Seq.{getD-take}
-use Rattle.model.specs.If.{if_then_else_}
+use Rattle.base.specs.If.{if_then_else_}
 use Rattle.model.specs.Job as model
-use Rattle.model.specs.Table.{bound, layerWords}
+use Rattle.model.specs.Table.{layerWords}
 use Rattle.planning.specs.Rule.{layer-from}
-use Rattle.replay.specs.Answers.{line-of}
+use Rattle.interval.specs.Answers.{line-of}
 use Rattle.layer.specs.declared.Line as layer-line
 use Rattle.layer.specs.declared.Aim.the-variants.{Total}
 use Rattle.layer.specs.Answers.{combine, priced, price-at}

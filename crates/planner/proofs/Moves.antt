@@ -10,14 +10,14 @@ use lib.ListN.{length, getD}
 use lib.Seq.{getD-take}
 use Rattle.trellis.specs.Pairs.{Pair, pair}
 use Rattle.trellis.specs.Table.{first-at}
-use Rattle.model.specs.If.{if_then_else_}
+use Rattle.base.specs.If.{if_then_else_}
 use Rattle.model.specs.Job as model
 use Rattle.model.specs.Job.{Coding, on-line, intervals, coding, sends, takes, distorts}
 use Rattle.model.specs.Step.{reaches}
 use Rattle.model.specs.Pins.{PinMap}
 use Rattle.model.specs.Best.{Order, pairs, entry, reached}
 use Rattle.model.specs.Table.{layerWords, words, layerOf, wordIn, IsTable, Bounded}
-use Rattle.model.proofs.Steps.{reaches-poured}
+use Rattle.model.proofs.Steps.{reaches-after-sending}
 use Rattle.model.proofs.Lines.{intervals-on, bounded-on, choice-on, coding-on}
 use Rattle.format.specs.Choices.{choice-of}
 use Rattle.format.specs.JobBytes.{job-in}
@@ -25,10 +25,10 @@ use Rattle.format.proofs.Bounds.{CodingKept, coding-within, bounded}
 use Rattle.format.proofs.Opened.{job-formed, job-limits, delay-is, intervals-are, few-intervals}
 use Rattle.job.specs.declared.Header.{Header}
 use Rattle.job.specs.Answers.{plain}
-use Rattle.pinning.specs.State.{lines}
-use Rattle.replay.specs.declared.Levels.{Levels}
-use Rattle.replay.specs.declared.Interval.{Interval}
-use Rattle.replay.specs.Answers.{levels-of, line-of}
+use Rattle.pinning.specs.PinSet.{lines}
+use Rattle.interval.specs.declared.Levels.{Levels}
+use Rattle.interval.specs.declared.Interval.{Interval}
+use Rattle.interval.specs.Answers.{levels-of, line-of}
 use Rattle.planning.specs.Rule.{pair-offer, allowed-in}
 use Rattle.planning.proofs.Offers.{first-offer-cong}
 use Rattle.planning.proofs.Layers.{layers-table}
@@ -184,7 +184,7 @@ module _ (o : Order) (b : List ℕ) (h : Header) (l : Line) (pins table : List �
                 distortion = is .distortion-is ∙ coding-is .1;
                 limits = (omega (arith, is .sent-is, sent-is, sent-most), omega (arith, is .size-is, coding-is, coding-most), omega (arith, is .distortion-is, coding-is, coding-most));
               };
-              buckets = rw to-is (reaches-poured (J .line) _ _ _ _ (levels-of at) (first .end) (first .step));
+              buckets = rw to-is (reaches-after-sending (J .line) _ _ _ _ (levels-of at) (first .end) (first .step));
               ends = rw to-is (record { inside = first .inside; value = first .value; least-is = first .least-is });
               rest = rw to-is (first .rest);
             }

@@ -5,9 +5,9 @@ use mathlib.Core.Bool.{Bool, true, false}
 use mathlib.Core.Option.{none}
 use lib.ListN.{getD}
 use lib.Seq.{getD-take}
+use Rattle.base.specs.If.{if_then_else_}
 use Rattle.trellis.specs.Pairs.{pair}
-use Rattle.trellis.specs.Table.{fare}
-use Rattle.model.specs.If.{if_then_else_}
+use Rattle.trellis.specs.Table.{offered}
 use Rattle.model.specs.Job as model
 use Rattle.model.specs.Admissible.{Violation}
 use Rattle.model.specs.Step.{violates, reaches, outcome-of}
@@ -16,9 +16,9 @@ use Rattle.model.specs.Table.{mark, layerWords, tops, flat, place}
 use Rattle.model.proofs.Places.{layer-each, place-below}
 use Rattle.model.proofs.Steps.{reaches-in-layer}
 use Rattle.format.proofs.Choices.{of-mark}
-use Rattle.replay.specs.declared.Levels.{Levels}
-use Rattle.replay.specs.declared.Interval.{Interval}
-use Rattle.replay.specs.Answers.{levels-of, line-of}
+use Rattle.interval.specs.declared.Levels.{Levels}
+use Rattle.interval.specs.declared.Interval.{Interval}
+use Rattle.interval.specs.Answers.{levels-of, line-of}
 use Rattle.planning.specs.Rule.{Allowed, coding-offer, pair-offer}
 use Rattle.planning.specs.Passes.{charged}
 use Rattle.planner.specs.declared.Line.{Line}
@@ -47,9 +47,9 @@ module _ (l : Line) (from : Levels) (sent size distortion : ℕ) (x : Interval) 
   -- a choice that it leaves open
   module _ (W : model.Levels → ℕ) (free : Bool) (e : free ≡ true) where
     pub violation-offers : (v : Violation) → step-of (l .buffers) from x ≡ violates v → mark ≡ coding-offer _+_ (line-is l) W (levels-of from) sent (coding-if free size distortion)
-    unfolding coding-offer coding-if if_then_else_ fare reached
+    unfolding coding-offer coding-if if_then_else_ offered reached
     violation-offers v h = rw (e, sym line-steps ∙ h)
 
     pub reached-offers : (to : Levels) → step-of (l .buffers) from x ≡ reaches (levels-of to) → charged _+_ distortion (W (levels-of to)) ≡ coding-offer _+_ (line-is l) W (levels-of from) sent (coding-if free size distortion)
-    unfolding coding-offer coding-if if_then_else_ fare reached charged
+    unfolding coding-offer coding-if if_then_else_ offered reached charged
     reached-offers to h = rw (e, sym line-steps ∙ h)

@@ -4,23 +4,23 @@ use mathlib.Core.Path.{_≡_, refl, sym, _∙_, ap, ap₂}
 use mathlib.Core.List.{List, [], _∷_, _++_, append-assoc, append-nil}
 use native.Mathlib.Numerals.{add-one}
 use native.Mathlib.Omega.{arith}
-use lib.ListN.{length, drop, set, length-append, length-set}
+use lib.ListN.{length, drop, length-append}
 use Rattle.trellis.specs.Trellis.{best}
 use Rattle.model.specs.Job as model
 use Rattle.model.specs.Job.{Bucket, Job, Entry, intervals}
 use Rattle.model.specs.Pins.{PinMap}
 use Rattle.model.specs.Replay.{totals}
 use Rattle.model.specs.Best.{Order, best-plan}
-use Rattle.format.specs.Choices.{choice-byte}
-use Rattle.format.proofs.Choices.{byte-back}
-use Rattle.replaying.specs.Entries.{entry-size, entry-bytes}
-use Rattle.model.specs.Lent.{over}
-use Rattle.replaying.proofs.Entries.{bytes-size, bytes-more}
-use Rattle.replay.specs.declared.Levels.{Levels}
-use Rattle.replay.specs.declared.Totals.{Totals}
-use Rattle.replay.specs.Answers.{levels-of, totals-of, added}
-use Rattle.replay.proofs.Adding.{Added, added-start, added-on, added-end}
-use Rattle.replay.proofs.Replaying.{two-set}
+use Rattle.format.proofs.Choices.{number-back}
+use Rattle.replaying.specs.Entries.{entry-size, one-entry, entry-bytes}
+use Rattle.base.specs.Lent.{over, over-at}
+use Rattle.replaying.proofs.Entries.{one-size, bytes-size, bytes-more}
+use Rattle.interval.specs.declared.Levels.{Levels}
+use Rattle.interval.specs.declared.Totals.{Totals}
+use Rattle.interval.specs.Answers.{levels-of, totals-of, no-totals, added}
+use Rattle.interval.proofs.Adding.{Added, added-start, added-on, added-end}
+use Rattle.base.proofs.Lent.{over-behind, over-at-length}
+use Rattle.entry.specs.Answers.{entry-numbers}
 use Rattle.planner.specs.declared.Move.{Move}
 use Rattle.planner.specs.Answers.{Standing, BestMove, PlanRead}
 
@@ -36,7 +36,7 @@ module _ (j : Job) (m : PinMap) (o : Order) (first : ℕ) (start : model.Levels)
     pub size : length entries ≡ length entries₀
 
 module _ (j : Job) (m : PinMap) (o : Order) (first : ℕ) (start : model.Levels) (entries₀ : List ℕ) (k : Bucket) (only : j .line .buckets ≡ k ∷ []) where
-  pub read-start : (at : Levels) → levels-of at ≡ start → Standing j m first start → ReadTo j m o first start entries₀ first at (record { distortion = 0; source = 0; channel = 0; unused = 0 }) entries₀
+  pub read-start : (at : Levels) → levels-of at ≡ start → Standing j m first start → ReadTo j m o first start entries₀ first at no-totals entries₀
   unfolding entry-bytes
   read-start at e s =
       let z : first - first ≡ 0 = omega arith in
@@ -50,12 +50,17 @@ module _ (j : Job) (m : PinMap) (o : Order) (first : ℕ) (start : model.Levels)
         size = refl;
       }
 
+  entry-is : (place : ℕ) (s : model.Levels) (x : Move) (b : BestMove j m o place s x) → one-entry (b .entry) ≡ entry-numbers (x .rate) (x .choice)
+  unfolding one-entry entry-numbers
+  entry-is place s x b = rw (b .rate, b .choice, number-back (x .choice))
+
   -- one entry more
-  pub read-on : (place : ℕ) (at : Levels) (sum : Totals) (entries : List ℕ) (x : Move) (sum′ : Totals) → ReadTo j m o first start entries₀ place at sum entries → BestMove j m o place (levels-of at) x → totals-of sum′ ≡ added sum (k .drain) at (x .interval) → k .drain ≤ 4095 → entry-size * (place - first) + 2 ≤ length entries₀ → ReadTo j m o first start entries₀ (place + 1) (x .to) sum′ (set (set entries (entry-size * (place - first)) (x .rate)) (entry-size * (place - first) + 1) (x .choice))
+  pub read-on : (place : ℕ) (at : Levels) (sum : Totals) (entries : List ℕ) (x : Move) (sum′ : Totals) → ReadTo j m o first start entries₀ place at sum entries → BestMove j m o place (levels-of at) x → totals-of sum′ ≡ added sum (k .drain) at (x .interval) → k .drain ≤ 4095 → entry-size * (place - first) + entry-size ≤ length entries₀ → ReadTo j m o first start entries₀ (place + 1) (x .to) sum′ (over-at (entry-size * (place - first)) (entry-numbers (x .rate) (x .choice)) entries)
   read-on place at sum entries x sum′ g b e most room =
-      let n : entry-size * (place - first) + 2 ≡ entry-size * (suc place - first) = omega (arith, g .count) in
-      let bytes : entry-bytes (g .done ++ (b .entry ∷ [])) ≡ entry-bytes (g .done) ++ (x .rate ∷ x .choice ∷ []) =
-      bytes-more (g .done) (b .entry) ∙ ap₂ (λ (y z : ℕ). entry-bytes (g .done) ++ (y ∷ z ∷ [])) (b .rate) (ap choice-byte (b .choice) ∙ byte-back (x .choice)) in
+      let i : ℕ = entry-size * (place - first) in
+      let n : i + entry-size ≡ entry-size * (suc place - first) = omega (arith, g .count) in
+      let one = entry-is place (levels-of at) x b in
+      let size : length (entry-numbers (x .rate) (x .choice)) ≡ entry-size = rw (← one) (one-size (b .entry)) in
       rw (add-one place) (record {
         done = g .done ++ (b .entry ∷ []);
         count = let l = length-append (g .done) (b .entry ∷ []) in omega (arith, g .count, l);
@@ -63,10 +68,10 @@ module _ (j : Job) (m : PinMap) (o : Order) (first : ℕ) (start : model.Levels)
         stands = b .ends;
         sums = added-on j k only _ place at sum (b .entry) _ (x .to) (x .interval) sum′ (rw (b .rest) at (g .sums)) (b .does) (b .buckets) e most;
         list =
-            ap (λ (l : List ℕ). set (set l (entry-size * (place - first)) (x .rate)) (entry-size * (place - first) + 1) (x .choice)) (g .list)
-            ∙ two-set (entry-bytes (g .done)) entries₀ (entry-size * (place - first)) (x .rate) (x .choice) (omega (arith, bytes-size (g .done), g .count)) room
-            ∙ ap₂ (λ (w : List ℕ) (i : ℕ). w ++ drop i entries₀) (sym bytes) n;
-        size = simp length-set (g .size);
+            ap (over-at i (entry-numbers (x .rate) (x .choice))) (g .list)
+            ∙ over-behind (entry-bytes (g .done)) (entry-numbers (x .rate) (x .choice)) entries₀ i (omega (arith, bytes-size (g .done), g .count))
+            ∙ ap₂ (λ (w : List ℕ) (i : ℕ). w ++ drop i entries₀) (ap (λ (w : List ℕ). entry-bytes (g .done) ++ w) (sym one) ∙ sym (bytes-more (g .done) (b .entry))) (ap (λ (z : ℕ). i + z) size ∙ n);
+        size = over-at-length i (entry-numbers (x .rate) (x .choice)) entries (omega (arith, size, g .size)) ∙ g .size;
       })
 
   -- behind the last place nothing is left

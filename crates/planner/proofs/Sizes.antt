@@ -1,17 +1,15 @@
 -- The sizes of a line's layer, its places and its rates, as the code computes them.
-use Prim.Native.Nat.{ℕ, _+_, _*_, _/_, _%_, _≤_}
+use Prim.Native.Nat.{ℕ, _+_, _*_, _≤_}
 use mathlib.Core.Path.{_≡_}
-use mathlib.Core.List.{[], _∷_}
-use native.Mathlib.Nat.{mul-one, div-one, mul-le-mul}
+use native.Mathlib.Nat.{mul-one, mul-le-mul}
 use native.Mathlib.Omega.{arith}
 use mir.Syntax.{w64}
 use mir.Val.{Fits}
 use lib.ListN.{length}
 use lib.Seq.{length-take-le}
-use Rattle.model.specs.Job as model
-use Rattle.model.specs.Table.{layerWords, sizes, tops, flat, span, place, levelsAt, stateAt}
-use Rattle.replay.specs.declared.Levels.{Levels}
-use Rattle.replay.specs.Answers.{levels-of, line-of}
+use Rattle.model.specs.Table.{layerWords, tops, flat, span, place}
+use Rattle.interval.specs.declared.Levels.{Levels}
+use Rattle.interval.specs.Answers.{levels-of, line-of}
 use Rattle.planner.specs.declared.Line.{Line}
 use Rattle.planner.specs.Answers.{line-is, LineFits}
 
@@ -23,10 +21,6 @@ pub product-fits : (a b : ℕ) → a ≤ 8589934592 → b ≤ 65536 → Fits w64
 product-fits a b h k = let small : a * b ≤ 562949953421312 = mul-le-mul {n₂ = 8589934592} {m₂ = 65536} h k in record { fits = omega arith }
 
 module _ (l : Line) where
-  pub row-size : l .buffers .bucket + 1 ≡ span (sizes (line-is l))
-  unfolding line-is line-of span
-  row-size = rw (mul-one (l .buffers .bucket + 1))
-
   pub layer-size : (l .buffers .decoder + 1) * (l .buffers .bucket + 1) ≡ layerWords (line-is l)
   unfolding line-is line-of tops span
   layer-size = rw (mul-one (l .buffers .bucket + 1))
@@ -37,10 +31,6 @@ module _ (l : Line) where
   pub place-is : (at : Levels) → at .decoder * (l .buffers .bucket + 1) + at .bucket ≡ place (tops (line-is l)) (flat (levels-of at))
   unfolding line-is line-of tops span flat levels-of place
   place-is at = rw (mul-one (l .buffers .bucket + 1), mul-one (at .bucket)) (omega arith)
-
-  pub state-is : (i : ℕ) → _≡_ {A = model.Levels} (record { decoder = i / (l .buffers .bucket + 1); buckets = (i % (l .buffers .bucket + 1)) ∷ [] }) (stateAt (line-is l) i)
-  unfolding line-is line-of stateAt span levelsAt
-  state-is i = rw (mul-one (l .buffers .bucket + 1), div-one (i % (l .buffers .bucket + 1)))
 
   pub rates-count : LineFits l → length (line-is l .rates) ≡ l .count
   unfolding line-is line-of

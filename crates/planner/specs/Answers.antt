@@ -8,11 +8,11 @@ use lib.Dec.{ltb}
 use lib.ListN.{length, getD, take}
 use Rattle.trellis.specs.Pairs.{Pair}
 use Rattle.trellis.specs.Table.{first-at}
-use Rattle.model.specs.If.{if_then_else_}
-use Rattle.model.specs.Answer.{Answer, refused, gives}
+use Rattle.base.specs.If.{if_then_else_}
+use Rattle.base.specs.Answer.{Answer, refused, gives}
 use Rattle.model.specs.Job as model
 use Rattle.model.specs.Pins.{PinMap}
-use Rattle.model.specs.Step.{Outcome, reaches, poured, pin-held, outcome-of}
+use Rattle.model.specs.Step.{Outcome, reaches, after-sending, pin-held, outcome-of}
 use Rattle.model.specs.Replay as model-replay
 use Rattle.model.specs.Best as model-best
 use Rattle.model.specs.Best.{late, early, pairs, width, least-total, best-plan}
@@ -21,14 +21,14 @@ use Rattle.format.specs.Choices.{no-choice, choice-of}
 use Rattle.format.specs.Places.{coding-at}
 use Rattle.format.specs.JobBytes.{job-in, Opens}
 use Rattle.format.specs.JobBytes as format
-use Rattle.pinning.specs.State.{lines}
-use Rattle.replay.specs.declared.Buffers.{Buffers}
-use Rattle.replay.specs.declared.Totals.{Totals}
-use Rattle.replay.specs.declared.Levels.{Levels}
-use Rattle.replay.specs.declared.Interval.{Interval}
-use Rattle.replay.specs.Answers.{levels-of, totals-of, line-of, Does}
+use Rattle.pinning.specs.PinSet.{lines}
+use Rattle.interval.specs.declared.Buffers.{Buffers}
+use Rattle.interval.specs.declared.Totals.{Totals}
+use Rattle.interval.specs.declared.Levels.{Levels}
+use Rattle.interval.specs.declared.Interval.{Interval}
+use Rattle.interval.specs.Answers.{levels-of, totals-of, buffers-of, line-of, Does}
 use Rattle.replaying.specs.Entries.{entry-size, entry-bytes}
-use Rattle.model.specs.Lent.{over}
+use Rattle.base.specs.Lent.{over}
 use Rattle.planning.specs.Rule.{Allowed, pair-offer, allowed-in}
 use Rattle.planning.specs.Words.{layer}
 use Rattle.planning.specs.Calls as calls
@@ -71,9 +71,12 @@ coding-if free size distortion = if free then some (record { size = size; distor
 unfoldable pub allowed-is : Choices → Allowed
 allowed-is c x = coding-if (getD (c .allowed) x false) (getD (c .sizes) x 0) (getD (c .distortions) x 0)
 
--- (T + 1) × (D + 1) × (K + 1)
-unfoldable pub table-words : format.Header → ℕ
-table-words h = (h .units + h .delay + 1) * (h .decoder + 1) * (h .bucket + 1)
+-- (T + 1) × (D + 1) × (K + 1), over any buffers and over the job's own
+unfoldable pub words-over : format.Header → Buffers → ℕ
+words-over h k = (h .units + h .delay + 1) * (k .decoder + 1) * (k .bucket + 1)
+
+abbrev pub table-words : format.Header → ℕ
+table-words h = words-over h (buffers-of h)
 
 -- What the private functions say and ask.
 
@@ -202,7 +205,7 @@ pub record BestMove (j : model.Job) (m : PinMap) (o : model-best.Order) (place :
   pub rate : entry .rate ≡ x .rate
   pub choice : entry .choice ≡ choice-of (x .choice)
   pub does : Does j (suc place) entry (x .interval)
-  pub buckets : levels-of (x .to) .buckets ≡ poured (model.sends j entry) (j .line .buckets) (s .buckets)
+  pub buckets : levels-of (x .to) .buckets ≡ after-sending (model.sends j entry) (j .line .buckets) (s .buckets)
   pub ends : Standing j m (suc place) (levels-of (x .to))
   pub rest : best-plan j m place s o ≡ entry ∷ best-plan j m (suc place) (levels-of (x .to)) o
 
@@ -219,10 +222,14 @@ pub record PlanRead (j : model.Job) (m : PinMap) (o : model-best.Order) (first :
   pub totals-are : totals-of t ≡ model-replay.totals j first s (best-plan j m first s o)
   pub written : new ≡ over (entry-bytes (best-plan j m first s o)) old
 
--- a first place and its levels, and lists that are long enough
-pub record Searches (b : List ℕ) (h : format.Header) (l : Line) (pins : List ℕ) (first : ℕ) (s : model.Levels) (table entries : List ℕ) : Type 0 where
+-- a first place and its levels
+pub record PlansFrom (b : List ℕ) (h : format.Header) (l : Line) (pins : List ℕ) (first : ℕ) (s : model.Levels) : Type 0 where
   pub starts : Starts b h l pins
   pub few : first ≤ h .units + h .delay
   pub inside : InLayer (line-is l) s
+
+-- and lists that are long enough
+pub record Searches (b : List ℕ) (h : format.Header) (l : Line) (pins : List ℕ) (first : ℕ) (s : model.Levels) (table entries : List ℕ) : Type 0 where
+  pub from : PlansFrom b h l pins first s
   pub room : words (job-on b l) ≤ length table
   pub space : entry-size * (h .units + h .delay - first) ≤ length entries

@@ -5,39 +5,38 @@ pub mod refusal;
 ghost use mathlib.Core.Path.{_≡_};
 ghost use mathlib.Core.Option.{some};
 ghost use mathlib.Core.List.{_++_};
-ghost use Prim.Native.Nat.{suc, _+_, _-_, _*_, _<_, _≤_, min};
-ghost use lib.ListN.{length, getD, set, take, drop, replicate};
-ghost use lib.Seq.{paste};
+ghost use Prim.Native.Nat.{suc, _+_, _-_, _*_, _<_, _≤_};
+ghost use lib.ListN.{length, set, take, drop, replicate};
 ghost use Rattle.trellis.specs.Pairs.{pair};
 ghost use Rattle.trellis.specs.Table.{first-at};
 ghost use Rattle.model.specs.Step.{reaches};
 ghost use Rattle.model.specs.Best.{turn, pairs};
-ghost use Rattle.model.specs.Levels.{build};
-ghost use Rattle.model.specs.Table.{layerWords, sizes, tops, flat, span, place, words, layerOf, wordIn};
+ghost use Rattle.model.specs.Table.{layerWords, sizes, tops, flat, place, words, layerOf, wordIn};
 ghost use Rattle.format.specs.Choices.{choice-of};
 ghost use Rattle.format.specs.JobBytes.{job-in, Opens};
 ghost use Rattle.job.specs.Answers.{plain};
-ghost use Rattle.pinning.specs.State.{lines};
-ghost use Rattle.pins.specs.Answers.{state};
-ghost use Rattle.replay.specs.Answers.{levels-of};
-ghost use Rattle.replaying.specs.Entries.{entry-size};
+ghost use Rattle.pinning.specs.PinSet.{lines};
+ghost use Rattle.pinning.specs.Check.{Ready};
+ghost use Rattle.pins.specs.Answers.{set-of};
+ghost use Rattle.interval.specs.Answers.{levels-of};
 ghost use Rattle.planning.specs.Rule.{coding-offer, pair-offer, layer-from, refilled};
 ghost use Rattle.planning.specs.Passes.{charged};
 ghost use Rattle.planning.specs.Words.{table-from};
-ghost use Rattle.planning.specs.Calls.{search-in, plan-call};
-ghost use Rattle.planner.specs.Answers.{planned, line-is, job-on, order-is, coding-if, allowed-is, table-words, LineFits, ChoicesFit, Offers, Attained, LineOf, NoChoices, UnitChoices, ChoicesOf, Starts, Fills, Layered, LayerLine, IntervalOf, step-of, Reached, chosen, Moves, BestMove, ReadsOff, PlanRead, Searches};
+ghost use Rattle.planning.specs.Calls.{search-in, plan-in, plan-call};
+ghost use Rattle.planner.specs.Answers.{planned, line-is, job-on, order-is, coding-if, allowed-is, words-over, table-words, LineFits, ChoicesFit, Offers, Attained, LineOf, NoChoices, UnitChoices, ChoicesOf, Starts, Fills, Layered, LayerLine, IntervalOf, step-of, Reached, chosen, Moves, BestMove, ReadsOff, PlanRead, PlansFrom, Searches};
 ghost use Rattle.layer.specs.Answers.{price-at};
 ghost use Rattle.layer.specs.Blocks.{LeastOf};
+use interval::Buffers;
+use interval::Interval;
+use interval::Levels;
+use interval::Outcome;
+use interval::Totals;
+use job::Choice;
 use job::Header;
 use job::Reading;
 use layer::Aim;
 use layer::Bucket;
 use pins::PinSet;
-use replay::Buffers;
-use replay::Interval;
-use replay::Levels;
-use replay::Outcome;
-use replay::Totals;
 
 // The totals of the best plan, or the refusal's number.
 pub enum Planned {
@@ -75,7 +74,7 @@ struct Pick {
 // An entry of the best plan: its bytes, what the interval does and the levels that it leads to.
 struct Move {
     rate: u8,
-    choice: u8,
+    choice: Choice,
     interval: Interval,
     to: Levels,
 }
@@ -119,8 +118,8 @@ fn interval_of(sent: u16, size: u16, distortion: u32) -> Interval
         sent,
         size,
         distortion,
-        pin: replay::NO_UNIT,
-        choice: replay::NO_UNIT,
+        pin: job::NO_CHOICE,
+        choice: job::NO_CHOICE,
     }
 }
 
@@ -142,7 +141,7 @@ fn offer(
     }
     let buffers = line.buffers;
     let x = interval_of(sent, size, distortion);
-    match replay::step(buffers, from, x) {
+    match interval::step(buffers, from, x) {
         Outcome::Violates(_) => NONE,
         Outcome::Reaches(to) => {
             let at = word_place(line, to);
@@ -279,7 +278,7 @@ fn no_choices() -> Choices
 }
 
 // The choices of a unit, those open that its pin holds.
-fn unit_choices(job: &[u8], header: Header, unit: u16, pin: u8) -> Choices
+fn unit_choices(job: &[u8], header: Header, unit: u16, pin: Choice) -> Choices
     requires { ⌜ header .choices ≤ 31 ⌝ }
     ensures { λ r. ⌜ UnitChoices (now (job .entry)) (plain header) unit pin r ⌝ }
 {
@@ -289,7 +288,7 @@ fn unit_choices(job: &[u8], header: Header, unit: u16, pin: u8) -> Choices
     let mut distortions = [0u32; 31];
     for choice in 0..count {
         let coding = job::coding_at(job, header, unit, choice as u16);
-        allowed[choice] = replay::pin_holds(pin, choice as u8);
+        allowed[choice] = interval::pin_holds(pin, choice as Choice);
         sizes[choice] = coding.size;
         distortions[choice] = coding.distortion;
     }
@@ -302,7 +301,7 @@ fn unit_choices(job: &[u8], header: Header, unit: u16, pin: u8) -> Choices
 }
 
 // The choices of the interval in a place.
-fn choices_in(job: &[u8], header: Header, pins: &[u8; 512], place: usize) -> Choices
+fn choices_in(job: &[u8], header: Header, pins: &[Choice; 512], place: usize) -> Choices
     requires { ⌜ Opens (now job) (plain header) × (length (now pins) ≡ 512) × (place < header .units + header .delay) ⌝ }
     ensures { λ r. ⌜ ChoicesOf (job-in (now (job .entry))) (lines (header .units) (now (pins .entry))) place r ⌝ }
 {
@@ -320,7 +319,7 @@ fn fill_layers(
     job: &[u8],
     header: Header,
     line: Line,
-    pins: &[u8; 512],
+    pins: &[Choice; 512],
     first: usize,
     last: usize,
     table: &mut [u32],
@@ -344,7 +343,7 @@ fn fill_table(
     job: &[u8],
     header: Header,
     line: Line,
-    pins: &[u8; 512],
+    pins: &[Choice; 512],
     first: usize,
     table: &mut [u32],
 )
@@ -352,7 +351,7 @@ fn fill_table(
     ensures { λ _. ⌜ now (table .exit) ≡ table-from (job-on (now (job .entry)) line) (lines (header .units) (now (pins .entry))) first (now (table .entry)) ⌝ }
 {
     let size = layer_words(line);
-    let last = replay::intervals(header);
+    let last = entry::intervals(header);
     let start = last * size;
     fill_last(&mut table[start..], size);
     fill_layers(job, header, line, pins, first, last, table);
@@ -382,21 +381,21 @@ fn levels_after(buffers: Buffers, at: Levels, x: Interval) -> Levels
     requires { ⌜ Reached buffers at x ⌝ }
     ensures { λ r. ⌜ step-of buffers at x ≡ reaches (levels-of r) ⌝ }
 {
-    match replay::step(buffers, at, x) {
+    match interval::step(buffers, at, x) {
         Outcome::Violates(_) => at,
         Outcome::Reaches(next) => next,
     }
 }
 
-// The choice byte of an entry in this place.
-fn choice_byte(header: Header, place: usize, choice: usize) -> u8
+// The choice that an entry in this place names.
+fn choice_number(header: Header, place: usize, choice: usize) -> Choice
     requires { ⌜ choice < 31 ⌝ }
     ensures { λ r. ⌜ choice-of r ≡ chosen (plain header) place choice ⌝ }
 {
     if place < header.delay as usize {
-        return replay::NO_UNIT;
+        return job::NO_CHOICE;
     }
-    choice as u8
+    choice as Choice
 }
 
 // The entry of the best plan in this place, what it does and where it leads.
@@ -405,7 +404,7 @@ fn best_move(
     job: &[u8],
     header: Header,
     line: Line,
-    pins: &[u8; 512],
+    pins: &[Choice; 512],
     table: &[u32],
     place: usize,
     at: Levels,
@@ -425,21 +424,10 @@ fn best_move(
     let buffers = line.buffers;
     Move {
         rate: index,
-        choice: choice_byte(header, place, choice),
+        choice: choice_number(header, place, choice),
         interval,
         to: levels_after(buffers, at, interval),
     }
-}
-
-// Writes the entry in this place.
-fn put_entry(entries: &mut [u8], place: usize, rate: u8, choice: u8)
-    requires { ⌜ (place < 600) × (entry-size * place + 1 < length (now entries)) ⌝ }
-    ensures { λ _. ⌜ now (entries .exit) ≡ set (set (now (entries .entry)) (entry-size * place) rate) (entry-size * place + 1) choice ⌝ }
-{
-    let at = replay::ENTRY * place;
-    let next = at + 1;
-    entries[at] = rate;
-    entries[next] = choice;
 }
 
 // Reads the best plan of the intervals after `first` off the table, from the levels there, and answers its totals. Its entries are the first of the list.
@@ -448,7 +436,7 @@ fn read_off(
     job: &[u8],
     header: Header,
     line: Line,
-    pins: &[u8; 512],
+    pins: &[Choice; 512],
     table: &[u32],
     first: usize,
     start: Levels,
@@ -457,19 +445,14 @@ fn read_off(
     requires { ⌜ ReadsOff (now job) (plain header) line (now pins) (now table) first (levels-of start) (now entries) ⌝ }
     ensures { λ r. ⌜ PlanRead (job-on (now (job .entry)) line) (lines (header .units) (now (pins .entry))) (order-is order) first (levels-of start) (now (entries .entry)) r (now (entries .exit)) ⌝ }
 {
-    let total = replay::intervals(header);
+    let total = entry::intervals(header);
     let mut at = start;
-    let mut sum = Totals {
-        distortion: 0,
-        source: 0,
-        channel: 0,
-        unused: 0,
-    };
+    let mut sum = Totals::none();
     for place in first..total {
         let index = place - first;
         let taken = best_move(order, job, header, line, pins, table, place, at);
-        put_entry(entries, index, taken.rate, taken.choice);
-        sum = replay::with_interval(sum, line.buffers.drain, at, taken.interval);
+        entry::put_entry(entries, index, taken.rate, taken.choice);
+        sum = interval::with_interval(sum, line.buffers, at, taken.interval);
         at = taken.to;
     }
     sum
@@ -481,7 +464,7 @@ fn search(
     job: &[u8],
     header: Header,
     line: Line,
-    pins: &[u8; 512],
+    pins: &[Choice; 512],
     first: usize,
     start: Levels,
     table: &mut [u32],
@@ -498,44 +481,78 @@ fn search(
     Planned::Best(read_off(order, job, header, line, pins, table, first, start, entries))
 }
 
+// How many words the table of a job with this header has over such buffers.
+fn words_over(header: Header, buffers: Buffers) -> usize
+    ensures { λ r. ⌜ r ≡ words-over (plain header) buffers ⌝ }
+{
+    (entry::intervals(header) + 1) * (buffers.decoder as usize + 1) * (buffers.bucket as usize + 1)
+}
+
 // How many words the table of a job with this header has.
 pub fn table_words(header: Header) -> usize
     ensures { λ r. ⌜ r ≡ table-words (plain header) ⌝ }
 {
-    (replay::intervals(header) + 1) * (header.decoder as usize + 1) * (header.bucket as usize + 1)
+    words_over(header, Buffers::of(header))
+}
+
+// Plans the intervals after `first`, from the levels there: 11, then 12, then the search.
+fn plan_from(
+    order: Order,
+    job: &[u8],
+    header: Header,
+    line: Line,
+    pins: &[Choice; 512],
+    first: usize,
+    start: Levels,
+    table: &mut [u32],
+    entries: &mut [u8],
+) -> Planned
+    requires { ⌜ PlansFrom (now job) (plain header) line (now pins) first (levels-of start) ⌝ }
+    ensures { λ r. ⌜ planned r (now (table .exit)) (now (entries .exit)) ≡ plan-in (job-on (now (job .entry)) line) (lines (header .units) (now (pins .entry))) (order-is order) first (levels-of start) (now (table .entry)) (now (entries .entry)) ⌝ }
+{
+    if table.len() < words_over(header, line.buffers) {
+        return Planned::Refused(refusal::TABLE);
+    }
+    if entries.len() < entry::SIZE * (entry::intervals(header) - first) {
+        return Planned::Refused(job::refusal::LIST);
+    }
+    search(order, job, header, line, pins, first, start, table, entries)
+}
+
+// Planning for a job that the set matches: all of it, over its own line, from its starting levels.
+fn plan_checked(
+    job: &[u8],
+    header: Header,
+    set: PinSet,
+    table: &mut [u32],
+    entries: &mut [u8],
+) -> Planned
+    requires { ⌜ Ready (now job) (plain header) (set-of set) ⌝ }
+    ensures { λ r. ⌜ planned r (now (table .exit)) (now (entries .exit)) ≡ plan-call (now (job .entry)) (set-of set) (now (table .entry)) (now (entries .entry)) ⌝ }
+{
+    let pins = set.pins;
+    let line = line_in(job, header);
+    let start = Levels::start(header);
+    let first = 0;
+    plan_from(
+        Order::Late,
+        job,
+        header,
+        line,
+        &pins,
+        first,
+        start,
+        table,
+        entries,
+    )
 }
 
 // Plans with the pins of a set: the plan of least distortion goes to `entries`, the least distortion of every state to `table`.
 pub fn plan(job: &[u8], set: PinSet, table: &mut [u32], entries: &mut [u8]) -> Planned
-    ensures { λ r. ⌜ planned r (now (table .exit)) (now (entries .exit)) ≡ plan-call (now (job .entry)) (state set) (now (table .entry)) (now (entries .entry)) ⌝ }
+    ensures { λ r. ⌜ planned r (now (table .exit)) (now (entries .exit)) ≡ plan-call (now (job .entry)) (set-of set) (now (table .entry)) (now (entries .entry)) ⌝ }
 {
     match pins::check(job, set) {
         Reading::Refused(n) => Planned::Refused(n),
-        Reading::Read { header, taken: _ } => {
-            if table.len() < table_words(header) {
-                return Planned::Refused(refusal::TABLE);
-            }
-            if entries.len() < replay::ENTRY * replay::intervals(header) {
-                return Planned::Refused(job::refusal::LIST);
-            }
-            let pins = set.pins;
-            let line = line_in(job, header);
-            let start = Levels {
-                decoder: header.level,
-                bucket: header.fill,
-            };
-            let first = 0;
-            search(
-                Order::Late,
-                job,
-                header,
-                line,
-                &pins,
-                first,
-                start,
-                table,
-                entries,
-            )
-        }
+        Reading::Read { header, taken: _ } => plan_checked(job, header, set, table, entries),
     }
 }

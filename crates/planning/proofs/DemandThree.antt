@@ -2,32 +2,36 @@
 use Prim.Native.Nat.{ℕ, _-_, _*_, _≤_}
 use mathlib.Core.Path.{_≡_, refl, _∙_}
 use mathlib.Core.Option.{Option, none, some}
-use mathlib.Core.List.{List}
+use mathlib.Core.List.{List, [], _∷_}
 use native.Mathlib.Omega.{arith}
 use lib.ListN.{length, drop}
 use lib.Seq.{take-at}
-use borrow.Author.Tests.{le-ltb}
-use Rattle.model.specs.If.{if_then_else_}
+use lib.Dec.{leb}
+use borrow.Author.Tests.{le-leb}
+use Rattle.base.specs.Refusals.{test}
+use Rattle.base.proofs.Refusals.{guarded-past, guarded-last}
+use Rattle.format.specs.Parser.{on-read}
 use Rattle.model.specs.Job.{Levels, Job, Entry, intervals}
 use Rattle.model.specs.Pins.{PinMap}
 use Rattle.model.specs.Best.{Order, late, least-total, best-plan}
 use Rattle.model.specs.Table.{words}
 use Rattle.model.specs.Claims.{PlanningClaim}
-use Rattle.model.proofs.Answers.{not-refused}
+use Rattle.base.proofs.Answers.{not-refused}
 use Rattle.model.proofs.Walks.{fits-length}
 use Rattle.model.proofs.Planning.{planning}
 use Rattle.format.proofs.Bounds.{limited}
 use Rattle.format.proofs.Places.{well-read}
 use Rattle.pinning.proofs.History.{history}
+use Rattle.format.specs.Choices.{no-choice}
 use Rattle.replaying.specs.Entries.{entry-size, entry-bytes}
-use Rattle.model.specs.Lent.{over}
+use Rattle.base.specs.Lent.{over}
 use Rattle.replaying.proofs.Entries.{bytes-size, bytes-back}
-use Rattle.model.proofs.Lent.{over-length, over-rest}
-use Rattle.planning.specs.Calls.{searched, search-in, plan-in, on-job, plan-call}
+use Rattle.base.proofs.Lent.{over-length, over-rest}
+use Rattle.planning.specs.Calls.{refuse, searched, search-in, plan-tests, plan-in, plan-call}
 use Rattle.planning.specs.Claims.{BestWritten, PlanClaim, DemandThree}
 use Rattle.planning.proofs.Layers.{from-before, from-rest, from-length, from-table}
 
-module _ (j : Job) (m : PinMap) (o : Order) (s : ℕ) (start : Levels) (few : j .choices ≤ 255) (h : s ≤ intervals j) (table entries : List ℕ) (room : words j ≤ length table) (space : entry-size * (intervals j - s) ≤ length entries) where
+module _ (j : Job) (m : PinMap) (o : Order) (s : ℕ) (start : Levels) (few : j .choices ≤ no-choice) (rates : length (j .line .rates) ≤ 256) (h : s ≤ intervals j) (table entries : List ℕ) (room : words j ≤ length table) (space : entry-size * (intervals j - s) ≤ length entries) where
   abbrev plan : List Entry
   plan = best-plan j m s start o
 
@@ -47,7 +51,7 @@ module _ (j : Job) (m : PinMap) (o : Order) (s : ℕ) (start : Levels) (few : j 
       plan = plan;
       best = claim .best-is v e;
       bytes = unfold over in take-at (entry-bytes plan) (drop (length (entry-bytes plan)) entries) (entry-size * (intervals j - s)) size;
-      read-back = unfold over in rw (← count) (bytes-back j few (drop (length (entry-bytes plan)) entries) (claim .best-is v e .among .shaped));
+      read-back = unfold over in rw (← count) (bytes-back j few rates (drop (length (entry-bytes plan)) entries) (claim .best-is v e .among .shaped));
       totals-are = refl;
       rest = over-rest (entry-bytes plan) entries (omega (arith, size)) (entry-size * (intervals j - s)) size;
       size = over-length (entry-bytes plan) entries (omega (arith, size));
@@ -80,16 +84,19 @@ module _ (j : Job) (m : PinMap) (o : Order) (s : ℕ) (start : Levels) (few : j 
 
   -- where neither list is too short
   pub plan-claim : PlanClaim j m o s start table entries (plan-in j m o s start table entries)
-  unfolding plan-in if_then_else_
-  plan-claim = rw (le-ltb (length table) (words j) room, le-ltb (length entries) (entry-size * (intervals j - s)) space) search-claim
+  unfolding plan-in plan-tests
+  plan-claim =
+      rw (guarded-past (refuse table entries) (test 11 (leb (words j) (length table))) (test 12 (leb (entry-size * (intervals j - s)) (length entries)) ∷ []) (search-in j m o s start table entries) (le-leb (words j) (length table) room)
+      ∙ guarded-last (refuse table entries) (test 12 (leb (entry-size * (intervals j - s)) (length entries))) (search-in j m o s start table entries) (le-leb (entry-size * (intervals j - s)) (length entries) space))
+      search-claim
 
 pub demand-three : DemandThree
-unfolding plan-call on-job
+unfolding plan-call on-read
 demand-three b j n parsed calls =
     let h = history b j n parsed calls in
     let k = limited j (well-read b j n parsed) in
     record {
       history = h;
       planning = λ table entries room space.
-          rw (h .passes, h .pins) (plan-claim j _ late 0 (j .start) (omega (arith, k .choices)) (omega arith) table entries room (omega (arith, space)));
+          rw (h .passes, h .pins) (plan-claim j _ late 0 (j .start) (omega (arith, k .choices)) (omega (arith, k .rates)) (omega arith) table entries room (omega (arith, space)));
     }

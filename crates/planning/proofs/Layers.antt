@@ -10,11 +10,11 @@ use Rattle.trellis.specs.Trellis.{least}
 use Rattle.trellis.specs.Table.{encode, Small, marked-stage}
 use Rattle.trellis.proofs.Tables.{marked-stage-encode}
 use Rattle.model.specs.Job.{Levels, Job, intervals}
-use Rattle.model.specs.Levels.{build}
+use Rattle.base.specs.Lists.{build}
 use Rattle.model.specs.Pins.{PinMap}
 use Rattle.model.specs.Best.{late, width, trellis-of, least-total}
 use Rattle.model.specs.Table.{mark, bound, tops, flat, place, layerWords, stateAt, words, layerOf, wordIn, InLayer, IsTable, Bounded}
-use Rattle.model.proofs.Builds.{build-length, build-at, build-cong}
+use Rattle.base.proofs.Builds.{build-length, build-at, build-cong}
 use Rattle.model.proofs.Places.{layer-each, place-below, state-place, state-in-layer}
 use Rattle.model.proofs.Steps.{layer-closed}
 use Rattle.model.proofs.Layers.{word-in-layer}

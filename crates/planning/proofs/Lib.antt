@@ -7,8 +7,4 @@ pub mod Refilling
 pub mod Reading
 pub mod DemandThree
 pub mod Refusals
-pub mod Sittings
-pub mod Records
-pub mod Numbers
-pub mod Commands
 pub mod Cases

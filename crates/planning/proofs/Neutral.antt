@@ -4,14 +4,14 @@ use mathlib.Core.Path.{_≡_, refl, _∙_, ap}
 use mathlib.Core.Option.{Option, none, some, Option·map}
 use mathlib.Core.List.{List}
 use lib.ListN.{length, getD}
-use Rattle.trellis.specs.Table.{fare}
+use Rattle.trellis.specs.Table.{offered}
 use Rattle.trellis.proofs.Congruence.{lowest-cong}
 use Rattle.model.specs.Job.{Line, Coding, Levels}
 use Rattle.model.specs.Step.{outcome-of}
 use Rattle.model.specs.Best.{late, pairs, reached}
 use Rattle.model.specs.Table.{mark, bound, layerWords, stateAt, wordIn}
 use Rattle.model.specs.Neutral.{fronted, front}
-use Rattle.model.proofs.Builds.{build-cong}
+use Rattle.base.proofs.Builds.{build-cong}
 use Rattle.model.proofs.Entries.{pairs-member}
 use Rattle.model.proofs.Neutral.{words-same, state-same, word-same, reached-same}
 use Rattle.planning.specs.Rule.{Allowed, coding-offer, pair-offer, least-offer, layer-from}
@@ -22,9 +22,9 @@ module _ (drain : ℕ) (line : Line) where
   offer-same c h _⊕_ next s none = refl
   offer-same c h _⊕_ next s (some k) = rw (reached-same drain line c h s (k .size)) (go (reached (outcome-of line none none (s .decoder) (s .buckets) c (k .size))))
     where
-      go : (o : Option Levels) → fare mark bound _⊕_ (k .distortion) (Option·map front o) (wordIn (fronted drain line) next) ≡ fare mark bound _⊕_ (k .distortion) o (wordIn line next)
-      go none = unfold fare in refl
-      go (some u) = unfold fare in rw (word-same drain line next u)
+      go : (o : Option Levels) → offered mark bound _⊕_ (k .distortion) (Option·map front o) (wordIn (fronted drain line) next) ≡ offered mark bound _⊕_ (k .distortion) o (wordIn line next)
+      go none = unfold offered in refl
+      go (some u) = unfold offered in rw (word-same drain line next u)
 
   -- the layer from the next, where the bucket drains every rate
   pub layer-same : ((y : ℕ) → y < length (line .rates) → getD (line .rates) y 0 ≤ drain) → (_⊕_ : ℕ → ℕ → ℕ) (n : ℕ) (allowed : Allowed) (next : List ℕ) → layer-from _⊕_ (fronted drain line) n allowed next ≡ layer-from _⊕_ line n allowed next

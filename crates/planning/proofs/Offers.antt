@@ -7,17 +7,17 @@ use mathlib.Core.List.{List}
 use lib.Dec.{leb}
 use lib.ListN.{length, getD}
 use Rattle.trellis.specs.Pairs.{Pair}
-use Rattle.trellis.specs.Table.{first-at, fare, marked-offer, marked-stage}
-use Rattle.trellis.proofs.Congruence.{lowest-cong, lowest-map, first-at-cong, first-at-map, fare-cong}
-use Rattle.model.specs.If.{if_then_else_}
+use Rattle.trellis.specs.Table.{first-at, offered, marked-offer, marked-stage}
+use Rattle.trellis.proofs.Congruence.{lowest-cong, lowest-map, first-at-cong, first-at-map, offered-cong}
+use Rattle.base.specs.If.{if_then_else_}
 use Rattle.model.specs.Job.{Line, Coding, Levels, Job, coding, sends, takes, distorts}
 use Rattle.model.specs.Pins.{PinMap, pinAt}
-use Rattle.model.specs.Step.{decoder-step, poured, overfull, pin-held, or-overflow, after-decoder, outcome-of, outcome, reaches, violates}
+use Rattle.model.specs.Step.{decoder-step, after-sending, overfull, pin-held, or-overflow, after-decoder, outcome-of, outcome, reaches, violates}
 use Rattle.model.specs.Admissible.{pin-not-held, Decoded, breaks, holds}
 use Rattle.model.specs.Best.{Order, late, pairs, entry, width, entries, reached, trellis-of}
 use Rattle.model.specs.Table.{mark, bound, InLayer, layerWords, stateAt, wordIn}
 use Rattle.model.proofs.Entries.{pairs-member}
-use Rattle.model.proofs.Builds.{build-cong}
+use Rattle.base.proofs.Builds.{build-cong}
 use Rattle.model.proofs.Places.{state-in-layer}
 use Rattle.model.proofs.Walks.{reached-some}
 use Rattle.model.proofs.Steps.{outcome-closed}
@@ -26,9 +26,9 @@ use Rattle.planning.specs.Rule.{Allowed, coding-offer, pair-offer, least
 -- a step with a pin: where the pin is held, the step without pins
 reached-pinned : (line : Line) (pinned choice : Option ℕ) (b : ℕ) (ls : List ℕ) (c r : ℕ) → reached (outcome-of line pinned choice b ls c r) ≡ (if pin-held pinned choice then reached (outcome-of line none none b ls c r) else none)
 unfolding outcome-of reached after-decoder or-overflow if_then_else_ pin-held
-reached-pinned line pinned choice b ls c r = go (decoder-step (line .decoder) b c r) (overfull (line .buckets) (poured c (line .buckets) ls)) (pin-held pinned choice)
+reached-pinned line pinned choice b ls c r = go (decoder-step (line .decoder) b c r) (overfull (line .buckets) (after-sending c (line .buckets) ls)) (pin-held pinned choice)
   where
-    go : (d : Decoded) (o : Option ℕ) (t : Bool) → reached (after-decoder d (λ x. or-overflow o (if t then reaches (record { decoder = x; buckets = poured c (line .buckets) ls }) else violates pin-not-held))) ≡ (if t then reached (after-decoder d (λ x. or-overflow o (reaches (record { decoder = x; buckets = poured c (line .buckets) ls })))) else none)
+    go : (d : Decoded) (o : Option ℕ) (t : Bool) → reached (after-decoder d (λ x. or-overflow o (if t then reaches (record { decoder = x; buckets = after-sending c (line .buckets) ls }) else violates pin-not-held))) ≡ (if t then reached (after-decoder d (λ x. or-overflow o (reaches (record { decoder = x; buckets = after-sending c (line .buckets) ls })))) else none)
     go (breaks v) o true = refl
     go (breaks v) o false = refl
     go (holds x) none true = refl
@@ -42,15 +42,15 @@ module _ (_⊕_ : ℕ → ℕ → ℕ) (j : Job) (m : PinMap) (t : ℕ) (W : Lev
   unfolding marked-offer trellis-of outcome pair-offer allowed-in choice-in entry sends takes distorts
   offer-is o a =
       let x = (if leb′ then none else some (a .inner)) in
-      ap (λ (u : Option Levels). fare mark bound _⊕_ (coding j (suc t) x .distortion) u W) (reached-pinned (j .line) (pinAt j m (suc t)) x (s .decoder) (s .buckets) (getD (j .line .rates) (a .outer) 0) (coding j (suc t) x .size))
+      ap (λ (u : Option Levels). offered mark bound _⊕_ (coding j (suc t) x .distortion) u W) (reached-pinned (j .line) (pinAt j m (suc t)) x (s .decoder) (s .buckets) (getD (j .line .rates) (a .outer) 0) (coding j (suc t) x .size))
       ∙ go x (pin-held (pinAt j m (suc t)) x)
     where
       leb′ : Bool
       leb′ = leb (suc t) (j .delay)
 
-      go : (x : Option ℕ) (p : Bool) → fare mark bound _⊕_ (coding j (suc t) x .distortion) (if p then reached (outcome-of (j .line) none none (s .decoder) (s .buckets) (getD (j .line .rates) (a .outer) 0) (coding j (suc t) x .size)) else none) W ≡ coding-offer _⊕_ (j .line) W s (getD (j .line .rates) (a .outer) 0) (if p then some (coding j (suc t) x) else none)
+      go : (x : Option ℕ) (p : Bool) → offered mark bound _⊕_ (coding j (suc t) x .distortion) (if p then reached (outcome-of (j .line) none none (s .decoder) (s .buckets) (getD (j .line .rates) (a .outer) 0) (coding j (suc t) x .size)) else none) W ≡ coding-offer _⊕_ (j .line) W s (getD (j .line .rates) (a .outer) 0) (if p then some (coding j (suc t) x) else none)
       go x true = unfold if_then_else_ coding-offer in refl
-      go x false = unfold if_then_else_ coding-offer fare in refl
+      go x false = unfold if_then_else_ coding-offer offered in refl
 
   -- the least, and the first that offers a number
   pub stage-is : marked-stage (trellis-of j m late) _⊕_ mark bound t W s ≡ least-offer _⊕_ (j .line) (width j (suc t)) (allowed-in j m (suc t)) W s
@@ -72,7 +72,7 @@ module _ (_⊕_ : ℕ → ℕ → ℕ) (line : Line) (n : ℕ) (a b : Allowed) (
   coding-offer-cong : (c : ℕ) (k : Option Coding) → coding-offer _⊕_ line W s c k ≡ coding-offer _⊕_ line L s c k
   unfolding coding-offer
   coding-offer-cong c none = refl
-  coding-offer-cong c (some k) = fare-cong mark bound _⊕_ (k .distortion) (reached (outcome-of line none none (s .decoder) (s .buckets) c (k .size))) W L (λ u e. words u (outcome-closed line none none c (k .size) s u inside e))
+  coding-offer-cong c (some k) = offered-cong mark bound _⊕_ (k .distortion) (reached (outcome-of line none none (s .decoder) (s .buckets) c (k .size))) W L (λ u e. words u (outcome-closed line none none c (k .size) s u inside e))
 
   pair-offer-cong : (p : Pair) → p .inner < n → pair-offer _⊕_ line a W s p ≡ pair-offer _⊕_ line b L s p
   unfolding pair-offer

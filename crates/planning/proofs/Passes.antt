@@ -10,16 +10,16 @@ use borrow.Author.Tests.{ltb-true, ltb-false, lt-ltb, le-ltb}
 use lib.Dec.{ltb}
 use lib.ListN.{length, getD}
 use Rattle.trellis.specs.Pairs.{Pair, pair, row, rows}
-use Rattle.trellis.specs.Table.{lowest, fare}
+use Rattle.trellis.specs.Table.{lowest, offered}
 use Rattle.trellis.proofs.Scans.{lowest-snoc, lowest-append}
-use Rattle.model.specs.If.{if_then_else_}
+use Rattle.base.specs.If.{if_then_else_}
 use Rattle.model.specs.Job.{Line, Coding, Levels}
-use Rattle.model.specs.Levels.{build}
-use Rattle.model.specs.Step.{reaches, decoder-step, poured, overfull, pin-held, or-overflow, after-decoder, outcome-of}
+use Rattle.base.specs.Lists.{build}
+use Rattle.model.specs.Step.{reaches, decoder-step, after-sending, overfull, pin-held, or-overflow, after-decoder, outcome-of}
 use Rattle.model.specs.Claims.{DecoderClaim}
 use Rattle.model.specs.Best.{late, turn, pairs, reached}
 use Rattle.model.specs.Table.{mark, bound, sizes, tops, flat, span, place, InLayer, layerWords, stateAt, wordIn}
-use Rattle.model.proofs.Builds.{build-at, build-cong}
+use Rattle.base.proofs.Builds.{build-at, build-cong}
 use Rattle.model.proofs.Decoder.{decoder-steps}
 use Rattle.model.proofs.Places.{layer-each, span-positive, place-below, place-levels, state-place, state-in-layer}
 use Rattle.model.proofs.Steps.{outcome-closed}
@@ -65,7 +65,7 @@ module _ (line : Line) (s : Levels) (c r : ℕ) where
   arrives = go (ltb (line .decoder) (s .decoder + c)) (ltb (s .decoder + c) r) (overfull (line .buckets) ls) refl refl
     where
       ls : List ℕ
-      ls = poured c (line .buckets) (s .buckets)
+      ls = after-sending c (line .buckets) (s .buckets)
 
       does : DecoderClaim (line .decoder) (s .decoder) c r
       does = decoder-steps (line .decoder) (s .decoder) c r
@@ -90,7 +90,7 @@ module _ (_⊕_ : ℕ → ℕ → ℕ) where
   -- a choice offers to the levels before what it offers to the levels between, and nothing where none arrive
   module _ (line : Line) (W : Levels → ℕ) (s : Levels) (c : ℕ) where
     offers-none : arrived line s c ≡ none → (k : Option Coding) → coding-offer _⊕_ line W s c k ≡ mark
-    unfolding coding-offer fare then-decoded
+    unfolding coding-offer offered then-decoded
     offers-none e none = refl
     offers-none e (some k) = rw (arrives line s c (k .size), e)
 
@@ -144,14 +144,14 @@ module _ (_⊕_ : ℕ → ℕ → ℕ) where
     row-offers none = refl
     row-offers (some k) = go (ltb i (k .size * w)) refl
       where
-        go : (t : Bool) → ltb i (k .size * w) ≡ t → fare mark bound _⊕_ (k .distortion) (decoded (stateAt line i) (k .size)) (wordIn line next) ≡ (if t then mark else charged _⊕_ (k .distortion) (getD next (i - k .size * w) 0))
+        go : (t : Bool) → ltb i (k .size * w) ≡ t → offered mark bound _⊕_ (k .distortion) (decoded (stateAt line i) (k .size)) (wordIn line next) ≡ (if t then mark else charged _⊕_ (k .distortion) (getD next (i - k .size * w) 0))
         go true e =
             let h : i / w < k .size = div-lt-iff-lt-mul {k = w} {x = i} {y = k .size} (span-positive (sizes line)) .1 (ltb-true i (k .size * w) e) in
-            unfold if_then_else_ decoded fare stateAt in rw (lt-ltb (i / w) (k .size) h)
+            unfold if_then_else_ decoded offered stateAt in rw (lt-ltb (i / w) (k .size) h)
         go false e =
             let l = ltb-false i (k .size * w) e in
             let h : k .size ≤ i / w = le-div-iff-mul-le {k = w} {x = k .size} {y = i} (span-positive (sizes line)) .1 l in
-            unfold if_then_else_ decoded fare charged stateAt wordIn flat tops place in rw (le-ltb (i / w) (k .size) h, place-levels (sizes line) (i % w) (mod-lt i (span-positive (sizes line))), row-place (k .size) l)
+            unfold if_then_else_ decoded offered charged stateAt wordIn flat tops place in rw (le-ltb (i / w) (k .size) h, place-levels (sizes line) (i % w) (mod-lt i (span-positive (sizes line))), row-place (k .size) l)
 
   -- the first pass, in the terms of rows
   pub decoded-rows : (line : Line) (n : ℕ) (allowed : Allowed) (next : List ℕ) → decoded-from _⊕_ line n allowed next ≡ build (layerWords line) (λ i. least-below n (λ x. row-offer _⊕_ (span (sizes line)) next i (allowed x)))

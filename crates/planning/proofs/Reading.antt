@@ -9,7 +9,7 @@ use lib.ListN.{length}
 use Rattle.trellis.specs.Pairs.{Pair}
 use Rattle.trellis.specs.Table.{encode, first-at}
 use Rattle.trellis.proofs.Congruence.{first-at-member}
-use Rattle.model.specs.If.{if_then_else_}
+use Rattle.base.specs.If.{if_then_else_}
 use Rattle.model.specs.Job.{Levels, Job, EntryFits, coding, sends, takes, intervals}
 use Rattle.model.specs.Pins.{PinMap, pinAt}
 use Rattle.model.specs.Step.{reaches, pin-held, outcome-of, outcome}

@@ -8,11 +8,11 @@ use native.Mathlib.Omega.{arith}
 use lib.ListN.{length, take, drop, replicate, length-append, length-drop, length-replicate, getD-replicate, take-append-drop}
 use lib.Seq.{take-at, drop-at, drop-drop, take-take, length-take-le, take-append-le, ext-getD}
 use Rattle.model.specs.Job.{Job, intervals}
-use Rattle.model.specs.Levels.{build}
+use Rattle.base.specs.Lists.{build}
 use Rattle.model.specs.Pins.{PinMap}
 use Rattle.model.specs.Best.{width}
 use Rattle.model.specs.Table.{layerWords, words, layerOf, Bounded}
-use Rattle.model.proofs.Builds.{build-length, build-at}
+use Rattle.base.proofs.Builds.{build-length, build-at}
 use Rattle.planning.specs.Rule.{layer-from, allowed-in, refill, refilled}
 use Rattle.planning.specs.Words.{layer, layers, table-from}
 use Rattle.planning.proofs.Layers.{from-before, from-rest, from-length, from-layer, layer-last, layer-step}

@@ -1,30 +1,47 @@
--- In which order planning refuses, and what a refusal leaves: `Refusals`.
-use Prim.Native.Nat.{ℕ, _-_, _*_}
+-- Planning is refused in document 01's order, and else gives 13 or a best plan: `PlanCalls`; and what a refusal leaves: `Keeps`.
+use Prim.Native.Nat.{ℕ, _-_, _*_, _≤_}
 use mathlib.Core.Path.{_≡_, refl, sym}
+use mathlib.Core.Logic.{_↔_}
+use mathlib.Core.Bool.{true}
 use mathlib.Core.Option.{Option, none, some}
-use mathlib.Core.List.{List}
+use mathlib.Core.List.{List, [], _∷_}
 use native.Mathlib.Omega.{arith}
-use lib.Dec.{ltb}
+use lib.Dec.{leb}
 use lib.ListN.{length}
-use borrow.Author.Tests.{lt-ltb, le-ltb}
-use Rattle.model.specs.If.{if_then_else_}
-use Rattle.model.specs.Answer.{refused}
+use borrow.Author.Tests.{leb-true, le-leb}
+use Rattle.base.specs.Refusals.{Test, guarded, condition}
+use Rattle.base.proofs.Answers.{refused-same, not-refused}
+use Rattle.base.proofs.Refusals.{no-more, one-more, Guarded, was-refused, was-done, guarded-is}
 use Rattle.model.specs.Job.{Levels, Job, intervals}
 use Rattle.model.specs.Pins.{PinMap}
 use Rattle.model.specs.Best.{Order, late, least-total}
 use Rattle.model.specs.Table.{words}
-use Rattle.model.proofs.Tests.{branch}
-use Rattle.model.proofs.Answers.{refused-same, not-refused}
-use Rattle.format.specs.Parser as P
-use Rattle.pinning.specs.State.{State, lines}
+use Rattle.format.specs.Parser.{Result, refused, took, on-read}
+use Rattle.format.specs.JobBytes.{parse}
+use Rattle.format.proofs.Bounds.{limited}
+use Rattle.format.proofs.Places.{well-read}
+use Rattle.pinning.specs.PinSet.{PinSet, lines}
 use Rattle.pinning.specs.Check.{checked}
-use Rattle.pinning.proofs.Agree.{matched, unmatched, checked-refused}
+use Rattle.pinning.proofs.Agree.{looks-checked}
 use Rattle.replaying.specs.Entries.{entry-size}
-use Rattle.planning.specs.Calls.{refuse, searched, search-in, on-job, plan-in, plan-call}
-use Rattle.planning.specs.Claims.{Keeping, Refusals}
+use Rattle.planning.specs.Calls.{Planned, refuse, searched, search-in, plan-tests, plan-in, plan-call}
+use Rattle.planning.specs.Claims.{PlanClaim, Keeping, PlanCalls, Keeps}
+use Rattle.planning.proofs.DemandThree.{search-claim}
+
+pub plan-calls : PlanCalls
+unfolding plan-call plan-in plan-tests
+plan-calls b s table entries =
+    looks-checked (refuse table entries) b s (λ j. plan-tests j 0 (length table) (length entries)) (λ j. condition 11 (words j ≤ length table) ∷ condition 12 (entry-size * intervals j ≤ length entries) ∷ []) (λ j. search-in j (lines (length (j .units)) (s .pins)) late 0 (j .start) table entries) (λ j r. PlanClaim j (lines (length (j .units)) (s .pins)) late 0 (j .start) table entries r)
+    (λ j k e m. (
+      one-more refl (leb-true (words j) (length table), le-leb (words j) (length table)) (one-more refl (entries-decide j) no-more),
+      λ h. search-claim j (lines (length (j .units)) (s .pins)) late 0 (j .start) (omega (arith, limited j (well-read b j k e) .choices)) (omega (arith, limited j (well-read b j k e) .rates)) (omega arith) table entries (h .0) (omega (arith, h .1)),
+    ))
+  where
+    entries-decide : (j : Job) → (leb (entry-size * (intervals j - 0)) (length entries) ≡ true) ↔ (entry-size * intervals j ≤ length entries)
+    entries-decide j = (λ q. omega (arith, leb-true (entry-size * (intervals j - 0)) (length entries) q), λ q. le-leb (entry-size * (intervals j - 0)) (length entries) (omega arith))
 
 module _ (table entries : List ℕ) where
-  pub refuse-keeps : (n : ℕ) → Keeping table entries (refuse n table entries)
+  pub refuse-keeps : (n : ℕ) → Keeping table entries (refuse table entries n)
   unfolding refuse
   refuse-keeps n = record { entries-kept = λ k e. refl; table-kept = λ k e f. refl }
 
@@ -33,25 +50,22 @@ module _ (table entries : List ℕ) where
   searched-keeps j m o s start none = record { entries-kept = λ k e. refl; table-kept = λ k e f. absurd (f (sym (refused-same e))) }
   searched-keeps j m o s start (some v) = record { entries-kept = λ k e. absurd (not-refused e); table-kept = λ k e f. absurd (not-refused e) }
 
+  pub guarded-keeps : (ts : List Test) (r : Planned) → Keeping table entries r → Keeping table entries (guarded (refuse table entries) ts r)
+  guarded-keeps ts r h = go (guarded-is (refuse table entries) ts r)
+    where
+      go : {q : Planned} → Guarded (refuse table entries) r q → Keeping table entries q
+      go (was-refused n) = refuse-keeps n
+      go was-done = h
+
+  pub read-keeps : (f : Job → Planned) (r : Result Job) → ((j : Job) → Keeping table entries (f j)) → Keeping table entries (on-read (refuse table entries) r f)
+  unfolding on-read
+  read-keeps f (refused n) h = refuse-keeps n
+  read-keeps f (took j k) h = h j
+
   pub in-keeps : (j : Job) (m : PinMap) (o : Order) (s : ℕ) (start : Levels) → Keeping table entries (plan-in j m o s start table entries)
   unfolding plan-in search-in
-  in-keeps j m o s start =
-      branch (Keeping table entries) (ltb (length table) (words j)) (λ e. refuse-keeps 11)
-      (λ e. branch (Keeping table entries) (ltb (length entries) (entry-size * (intervals j - s))) (λ q. refuse-keeps 12) (λ q. searched-keeps j m o s start (least-total j m s start)))
+  in-keeps j m o s start = guarded-keeps (plan-tests j s (length table) (length entries)) _ (searched-keeps j m o s start (least-total j m s start))
 
-  call-keeps : (s : State) (r : P.Result Job) → Keeping table entries (on-job r table entries (λ j. plan-in j (lines (length (j .units)) (s .bytes)) late 0 (j .start) table entries))
-  unfolding on-job
-  call-keeps s (P.refused n) = refuse-keeps n
-  call-keeps s (P.took j k) = in-keeps j (lines (length (j .units)) (s .bytes)) late 0 (j .start)
-
-pub refusals : Refusals
-unfolding plan-call on-job plan-in if_then_else_
-refusals b s table entries = (
-  record {
-    job-first = λ n e. rw (checked-refused b s n e);
-    then-set = λ j n e f. rw (unmatched b j n e s f);
-    then-table = λ j n e m l. rw (matched b j n e s m, lt-ltb _ _ l);
-    then-entries = λ j n e m k l. let z : intervals j - 0 ≡ intervals j = omega arith in rw (matched b j n e s m, le-ltb (length table) (words j) k, z, lt-ltb _ _ l);
-  },
-  call-keeps table entries s (checked b s),
-)
+pub keeps : Keeps
+unfolding plan-call
+keeps b s table entries = read-keeps table entries _ (checked b s) (λ j. in-keeps table entries j (lines (length (j .units)) (s .pins)) late 0 (j .start))

@@ -1,21 +1,21 @@
 -- What planning answers, and what it leaves in the two lists that were lent (document 01, "The best plan" and "Where each refusal is checked").
 use Prim.Native.Nat.{ℕ, _-_, _*_}
 use mathlib.Core.Option.{Option, none, some}
-use mathlib.Core.List.{List}
-use lib.Dec.{ltb}
+use mathlib.Core.List.{List, [], _∷_}
+use lib.Dec.{leb}
 use lib.ListN.{length}
-use Rattle.model.specs.If.{if_then_else_}
-use Rattle.model.specs.Answer.{Answer, refused, gives}
+use Rattle.base.specs.Answer.{Answer, refused, gives}
+use Rattle.base.specs.Refusals.{Test, test, guarded}
 use Rattle.model.specs.Job.{Levels, Job, intervals}
 use Rattle.model.specs.Pins.{PinMap}
 use Rattle.model.specs.Replay.{Totals, totals}
 use Rattle.model.specs.Best.{Order, late, least-total, best-plan}
 use Rattle.model.specs.Table.{words}
-use Rattle.format.specs.Parser as P
-use Rattle.pinning.specs.State.{State, lines}
+use Rattle.format.specs.Parser.{on-read}
+use Rattle.pinning.specs.PinSet.{PinSet, lines}
 use Rattle.pinning.specs.Check.{checked}
 use Rattle.replaying.specs.Entries.{entry-size, entry-bytes}
-use Rattle.model.specs.Lent.{over}
+use Rattle.base.specs.Lent.{over}
 use Rattle.planning.specs.Words.{table-from}
 
 -- the answer, and the lists that were lent for the table and the entries
@@ -25,8 +25,8 @@ pub record Planned : Type 0 where
   pub entries : List ℕ
 
 -- a refusal writes nothing
-unfoldable pub refuse : ℕ → List ℕ → List ℕ → Planned
-refuse n table entries = record { answer = refused n; table = table; entries = entries }
+unfoldable pub refuse : List ℕ → List ℕ → ℕ → Planned
+refuse table entries n = record { answer = refused n; table = table; entries = entries }
 
 -- what a search for the intervals after s found, from the levels `start` there: 13, which leaves the table and keeps the entries; or the best plan, its totals and its bytes
 unfoldable pub searched : Job → PinMap → Order → ℕ → Levels → Option ℕ → List ℕ → List ℕ → Planned
@@ -44,17 +44,13 @@ searched j m o s start (some v) table entries = record {
 unfoldable pub search-in : Job → PinMap → Order → ℕ → Levels → List ℕ → List ℕ → Planned
 search-in j m o s start table entries = searched j m o s start (least-total j m s start) table entries
 
--- 11, then 12, then the search
-unfoldable pub plan-in : Job → PinMap → Order → ℕ → Levels → List ℕ → List ℕ → Planned
-plan-in j m o s start table entries =
-    if ltb (length table) (words j) then refuse 11 table entries
-    else if ltb (length entries) (entry-size * (intervals j - s)) then refuse 12 table entries
-    else search-in j m o s start table entries
+-- what planning of the intervals after s is tested for: the table, 11, then the list for their entries, 12
+unfoldable pub plan-tests : Job → ℕ → ℕ → ℕ → List Test
+plan-tests j s table entries = test 11 (leb (words j) table) ∷ test 12 (leb (entry-size * (intervals j - s)) entries) ∷ []
 
-unfoldable pub on-job : P.Result Job → List ℕ → List ℕ → (Job → Planned) → Planned
-on-job (P.refused n) table entries f = refuse n table entries
-on-job (P.took j k) table entries f = f j
+unfoldable pub plan-in : Job → PinMap → Order → ℕ → Levels → List ℕ → List ℕ → Planned
+plan-in j m o s start table entries = guarded (refuse table entries) (plan-tests j s (length table) (length entries)) (search-in j m o s start table entries)
 
 -- the job, 1 to 5, the set, 6, then the two lists: the whole job, from its starting levels, in document 01's order
-unfoldable pub plan-call : List ℕ → State → List ℕ → List ℕ → Planned
-plan-call b s table entries = on-job (checked b s) table entries (λ j. plan-in j (lines (length (j .units)) (s .bytes)) late 0 (j .start) table entries)
+unfoldable pub plan-call : List ℕ → PinSet → List ℕ → List ℕ → Planned
+plan-call b s table entries = on-read (refuse table entries) (checked b s) (λ j. plan-in j (lines (length (j .units)) (s .pins)) late 0 (j .start) table entries)

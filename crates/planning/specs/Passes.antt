@@ -5,11 +5,11 @@ use mathlib.Core.Option.{Option, none, some}
 use mathlib.Core.List.{List}
 use lib.Dec.{leb, ltb}
 use lib.ListN.{length, getD}
-use Rattle.trellis.specs.Table.{charge, fare}
-use Rattle.model.specs.If.{if_then_else_}
+use Rattle.trellis.specs.Table.{charge, offered}
+use Rattle.base.specs.If.{if_then_else_}
 use Rattle.model.specs.Job.{Line, Coding, Levels}
-use Rattle.model.specs.Levels.{build}
-use Rattle.model.specs.Step.{poured, overfull}
+use Rattle.base.specs.Lists.{build}
+use Rattle.model.specs.Step.{after-sending, overfull}
 use Rattle.model.specs.Table.{mark, bound, layerWords, stateAt, wordIn}
 use Rattle.planning.specs.Rule.{Allowed}
 
@@ -27,7 +27,7 @@ unless-over (some i) s = none
 unfoldable pub arrived : Line → Levels → ℕ → Option Levels
 arrived line s c =
     if ltb (line .decoder) (s .decoder + c) then none
-    else unless-over (overfull (line .buckets) (poured c (line .buckets) (s .buckets))) (record { decoder = s .decoder + c; buckets = poured c (line .buckets) (s .buckets) })
+    else unless-over (overfull (line .buckets) (after-sending c (line .buckets) (s .buckets))) (record { decoder = s .decoder + c; buckets = after-sending c (line .buckets) (s .buckets) })
 
 -- and when a unit of size r has left the decoder: none where it is not all there
 unfoldable pub decoded : Levels → ℕ → Option Levels
@@ -47,7 +47,7 @@ module _ (_⊕_ : ℕ → ℕ → ℕ) where
   -- what decoding this coding offers to levels between, from the words W of the next layer
   unfoldable pub decoded-offer : (Levels → ℕ) → Levels → Option Coding → ℕ
   decoded-offer W s none = mark
-  decoded-offer W s (some k) = fare mark bound _⊕_ (k .distortion) (decoded s (k .size)) W
+  decoded-offer W s (some k) = offered mark bound _⊕_ (k .distortion) (decoded s (k .size)) W
 
   -- the first pass, over n choices: the words of the levels between
   unfoldable pub decoded-from : Line → ℕ → Allowed → List ℕ → List ℕ

@@ -3,11 +3,11 @@ use Prim.Native.Nat.{ℕ, zero, suc, _+_, _*_}
 use mathlib.Core.Option.{Option, none, some}
 use mathlib.Core.List.{List, _++_}
 use lib.ListN.{length, getD, take, drop}
-use Rattle.trellis.specs.Table.{lowest, fare}
+use Rattle.trellis.specs.Table.{lowest, offered}
 use Rattle.trellis.specs.Pairs.{Pair, pair}
-use Rattle.model.specs.If.{if_then_else_}
+use Rattle.base.specs.If.{if_then_else_}
 use Rattle.model.specs.Job.{Line, Coding, Levels, Job, coding}
-use Rattle.model.specs.Levels.{build}
+use Rattle.base.specs.Lists.{build}
 use Rattle.model.specs.Pins.{PinMap, pinAt}
 use Rattle.model.specs.Step.{outcome-of, pin-held}
 use Rattle.model.specs.Best.{late, pairs, entry, width, reached}
@@ -22,7 +22,7 @@ module _ (_⊕_ : ℕ → ℕ → ℕ) where
   -- what an interval that sends c and decodes this coding offers to a state: the coding's distortion and the word of the levels that it leads to, or the mark. The pins are in the coding already
   unfoldable pub coding-offer : Line → (Levels → ℕ) → Levels → ℕ → Option Coding → ℕ
   coding-offer line W s c none = mark
-  coding-offer line W s c (some k) = fare mark bound _⊕_ (k .distortion) (reached (outcome-of line none none (s .decoder) (s .buckets) c (k .size))) W
+  coding-offer line W s c (some k) = offered mark bound _⊕_ (k .distortion) (reached (outcome-of line none none (s .decoder) (s .buckets) c (k .size))) W
 
   -- of a rate index and a choice index
   unfoldable pub pair-offer : Line → Allowed → (Levels → ℕ) → Levels → Pair → ℕ

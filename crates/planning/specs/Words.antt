@@ -4,7 +4,7 @@ use mathlib.Core.List.{List, [], _++_}
 use lib.ListN.{take, drop}
 use Rattle.trellis.specs.Table.{encode}
 use Rattle.model.specs.Job.{Job, intervals}
-use Rattle.model.specs.Levels.{build}
+use Rattle.base.specs.Lists.{build}
 use Rattle.model.specs.Pins.{PinMap}
 use Rattle.model.specs.Best.{least-total}
 use Rattle.model.specs.Table.{mark, layerWords, stateAt, words}

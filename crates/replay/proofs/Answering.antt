@@ -2,85 +2,90 @@
 use Prim.Native.Nat.{ℕ, suc, _+_, _*_, _<_, _≤_}
 use mathlib.Core.Path.{_≡_, sym, _∙_, ap}
 use mathlib.Core.Bool.{true, false}
-use mathlib.Core.List.{List}
+use mathlib.Core.List.{List, [], _∷_}
 use native.Mathlib.Omega.{arith}
 use lib.ListN.{length}
-use borrow.Author.Tests.{lt-ltb, le-ltb}
-use Rattle.model.specs.If.{if_then_else_}
-use Rattle.model.specs.Answer.{refused, gives}
-use Rattle.model.specs.Job.{Job, intervals}
+use lib.Dec.{leb}
+use borrow.Author.Tests.{le-leb, lt-leb}
+use Rattle.base.specs.Refusals.{test, guarded}
+use Rattle.base.proofs.Refusals.{guarded-past, guarded-here, guarded-last}
+use Rattle.base.specs.Answer.{refused, gives}
+use Rattle.model.specs.Job.{Job}
 use Rattle.model.specs.Levels.{effectiveBuffers}
-use Rattle.format.specs.Parser.{took}
+use Rattle.format.specs.Parser.{on-read}
 use Rattle.format.specs.Parser as P
-use Rattle.format.specs.JobBytes.{Header, header-in, parse, job-in}
-use Rattle.format.proofs.Places.{well-read}
-use Rattle.format.proofs.Opened.{held-job, opens-by}
-use Rattle.pinning.specs.State.{State, lines}
+use Rattle.format.specs.JobBytes.{Header, parse, job-in, Opens}
+use Rattle.format.proofs.Opened.{job-formed, units-are, intervals-are}
+use Rattle.pinning.specs.PinSet.{PinSet, lines}
 use Rattle.pinning.specs.Check.{checked, Ready}
 use Rattle.pinning.proofs.Agree.{matched}
 use Rattle.replaying.specs.Entries.{plan-of, shaped}
-use Rattle.model.specs.Lent.{over, refuse}
-use Rattle.replaying.specs.Calls.{level-count, played, replay-in, on-job, replay-call, report-in, report-call}
+use Rattle.base.specs.Lent.{Ended, over, refuse}
+use Rattle.replaying.specs.Calls.{Replayed, level-count, played, replay-tests, replay-call, reported, report-tests, report-call}
 use Rattle.replay.specs.Answers.{Shaped}
 
 -- the bytes of a job with this header
-module _ (b : List ℕ) (h : Header) (j : Job) (k : ℕ) (parsed : parse b ≡ took j k) (header-is : header-in j ≡ h) where
+module _ (b : List ℕ) (h : Header) (o : Opens b h) where
   pub shaped-plan : (entries : List ℕ) → shaped h entries ≡ true → Shaped b h entries
-  shaped-plan entries e = record { opens = opens-by b h j k parsed header-is; in-shape = e }
-
-  units-are : length (j .units) ≡ h .units
-  unfolding header-in
-  units-are = ap (λ (i : Header). i .units) header-is
+  shaped-plan entries e = record { opens = o; in-shape = e }
 
   -- two numbers an interval
-  levels-are : level-count j ≡ 2 * (h .units + h .delay)
-  unfolding level-count intervals header-in
-  levels-are =
-      let n = units-are in
-      let d : j .delay ≡ h .delay = ap (λ (i : Header). i .delay) header-is in
-      rw (well-read b j k parsed .one-bucket, n, d)
+  levels-are : level-count (job-in b) ≡ 2 * (h .units + h .delay)
+  unfolding level-count
+  levels-are = rw (job-formed b h o .one-bucket, intervals-are b h o)
 
   module _ (entries list : List ℕ) where
+    -- the report goes on to the tests of the job
+    report-on : report-call b entries list ≡ guarded (refuse list) (test 14 (shaped h entries) ∷ test 12 (leb (suc (length (job-in b .units))) (length list)) ∷ []) (reported (job-in b) entries list)
+    unfolding report-call on-read report-tests
+    report-on = rw (o .parsed, o .header-is)
+
     pub report-14 : shaped h entries ≡ false → record { answer = refused 14; list = list } ≡ report-call b entries list
-    unfolding report-call on-job report-in refuse if_then_else_
-    report-14 e = rw (parsed, header-is, e)
+    unfolding refuse
+    report-14 e = sym (report-on ∙ guarded-here (refuse list) _ _ _ e)
 
     module _ (e : shaped h entries ≡ true) where
       pub report-12 : length list ≤ h .units → record { answer = refused 12; list = list } ≡ report-call b entries list
-      unfolding report-call on-job report-in refuse if_then_else_
-      report-12 l = rw (parsed, header-is, e, lt-ltb (length list) (suc (length (j .units))) (omega (arith, units-are)))
+      unfolding refuse
+      report-12 l = sym (report-on ∙ guarded-past (refuse list) _ _ _ e ∙ guarded-here (refuse list) _ _ _ (lt-leb (suc (length (job-in b .units))) (length list) (omega (arith, units-are b h o))))
 
       pub report-done : (sums : List ℕ) → h .units < length list → sums ≡ over (effectiveBuffers (job-in b) (plan-of (job-in b) entries)) list → record { answer = gives tt; list = sums } ≡ report-call b entries list
-      unfolding report-call on-job report-in if_then_else_
-      report-done sums l q = rw (parsed, header-is, e, le-ltb (length list) (suc (length (j .units))) (omega (arith, units-are)), q, held-job b j k parsed)
+      unfolding reported
+      report-done sums l q = sym (report-on ∙ guarded-past (refuse list) _ _ _ e ∙ guarded-last (refuse list) _ _ (le-leb (suc (length (job-in b .units))) (length list) (omega (arith, units-are b h o))) ∙ rw q)
 
 pub report-refused : (b entries list : List ℕ) (n : ℕ) → parse b ≡ P.refused n → record { answer = refused n; list = list } ≡ report-call b entries list
-unfolding report-call on-job refuse
+unfolding report-call on-read refuse
 report-refused b entries list n e = rw e
 
-pub replay-refused : (b : List ℕ) (s : State) (entries levels : List ℕ) (n : ℕ) → checked b s ≡ P.refused n → record { answer = refused n; list = levels } ≡ replay-call b s entries levels
-unfolding replay-call on-job refuse
+pub replay-refused : (b : List ℕ) (s : PinSet) (entries levels : List ℕ) (n : ℕ) → checked b s ≡ P.refused n → record { answer = refused n; list = levels } ≡ replay-call b s entries levels
+unfolding replay-call on-read refuse
 replay-refused b s entries levels n e = rw e
 
 -- for a job that the set matches
-module _ (b : List ℕ) (h : Header) (s : State) (r : Ready b h s) (entries levels : List ℕ) where
-  replay-on : replay-call b s entries levels ≡ replay-in (r .job) s entries levels
-  unfolding replay-call on-job
-  replay-on = rw (matched b (r .job) (r .taken) (r .parsed) s (r .matches))
+module _ (b : List ℕ) (h : Header) (s : PinSet) (r : Ready b h s) (entries levels : List ℕ) where
+  abbrev J : Job
+  J = job-in b
+
+  abbrev work : Ended Replayed
+  work = played J (lines (length (J .units)) (s .pins)) entries levels
+
+  replay-on : replay-call b s entries levels ≡ guarded (refuse levels) (test 14 (shaped h entries) ∷ test 12 (leb (level-count J) (length levels)) ∷ []) work
+  unfolding replay-call on-read replay-tests
+  replay-on = rw (matched b J (r .opens .taken) (r .opens .parsed) s (r .matches), r .opens .header-is)
 
   pub replay-14 : shaped h entries ≡ false → record { answer = refused 14; list = levels } ≡ replay-call b s entries levels
-  unfolding replay-in refuse if_then_else_
-  replay-14 e = sym (replay-on ∙ rw (r .header-is, e))
+  unfolding refuse
+  replay-14 e = sym (replay-on ∙ guarded-here (refuse levels) _ _ _ e)
+
+  counted : level-count J ≡ 2 * (h .units + h .delay)
+  counted = levels-are b h (r .opens)
 
   module _ (e : shaped h entries ≡ true) where
     pub replay-12 : length levels < 2 * (h .units + h .delay) → record { answer = refused 12; list = levels } ≡ replay-call b s entries levels
-    unfolding replay-in refuse if_then_else_
-    replay-12 l = sym (replay-on ∙ rw (r .header-is, e, lt-ltb (length levels) (level-count (r .job)) (omega (arith, levels-are b h (r .job) (r .taken) (r .parsed) (r .header-is)))))
+    unfolding refuse
+    replay-12 l = sym (replay-on ∙ guarded-past (refuse levels) _ _ _ e ∙ guarded-here (refuse levels) _ _ _ (lt-leb (level-count J) (length levels) (omega (arith, counted))))
 
-    pub replay-played : 2 * (h .units + h .delay) ≤ length levels → played (job-in b) (lines (h .units) (s .bytes)) entries levels ≡ replay-call b s entries levels
-    unfolding replay-in if_then_else_
+    pub replay-played : 2 * (h .units + h .delay) ≤ length levels → played J (lines (h .units) (s .pins)) entries levels ≡ replay-call b s entries levels
     replay-played l =
-        sym (
-        replay-on
-        ∙ rw (r .header-is, e, le-ltb (length levels) (level-count (r .job)) (omega (arith, levels-are b h (r .job) (r .taken) (r .parsed) (r .header-is))), units-are b h (r .job) (r .taken) (r .parsed) (r .header-is), held-job b (r .job) (r .taken) (r .parsed))
-        )
+        ap (λ (n : ℕ). played J (lines n (s .pins)) entries levels) (sym (units-are b h (r .opens)))
+        ∙ sym (replay-on ∙ guarded-past (refuse levels) _ _ _ e ∙ guarded-last (refuse levels) _ _ (le-leb (level-count J) (length levels) (omega (arith, counted))))

@@ -7,12 +7,12 @@ use native.Mathlib.Omega.{arith}
 use lib.Dec.{eqb, ltb}
 use lib.ListN.{length}
 use borrow.Author.Tests.{eqb-true, ltb-true, lt-ltb, le-ltb, le-leb, lt-leb}
-use Rattle.model.specs.If.{if_then_else_}
+use Rattle.base.specs.If.{if_then_else_}
 use Rattle.model.specs.Job as model
 use Rattle.model.specs.Job.{codingAt, coding, sends, takes, distorts}
 use Rattle.model.specs.Pins.{pinOf, pinAt}
-use Rattle.model.proofs.Tests.{both-true}
-use Rattle.model.proofs.All.{all-each}
+use Rattle.base.proofs.Tests.{both-true}
+use Rattle.base.proofs.All.{all-each}
 use Rattle.format.specs.Choices.{no-choice, choice-of}
 use Rattle.format.specs.JobBytes.{Header, job-in}
 use Rattle.format.specs.Places.{rate-at, coding-at}
@@ -20,9 +20,9 @@ use Rattle.format.proofs.Choices.{of-mark, of-choice}
 use Rattle.format.proofs.Opened.{job-limits, looked-up, units-are, delay-is, rates-are, choices-are}
 use Rattle.job.specs.declared.Coding.{Coding}
 use Rattle.job.specs.Answers.{coding-of}
-use Rattle.pinning.specs.State.{lines}
+use Rattle.pinning.specs.PinSet.{lines}
 use Rattle.pinning.proofs.Lines.{lines-at}
-use Rattle.replaying.specs.Entries.{entry-size, rate-byte, mark-byte, entry-at, entry-fits, entries-fit, shaped}
+use Rattle.replaying.specs.Entries.{entry-size, rate-field, choice-field, entry-at, entry-fits, entries-fit, shaped}
 use Rattle.replay.specs.Answers.{Shaped, CodingIn, no-coding, coded, PinIn, no-pin, pinned, IsInterval}
 
 module _ (b : List ℕ) (h : Header) (entries : List ℕ) (s : Shaped b h entries) where
@@ -31,41 +31,41 @@ module _ (b : List ℕ) (h : Header) (entries : List ℕ) (s : Shaped b h entrie
   entries-size = eqb-true _ _ (both-true _ _ (s .in-shape) .0)
 
   module _ (i : ℕ) (l : i < h .units + h .delay) where
-    in-range : entry-fits h i (rate-byte entries i) (mark-byte entries i) ≡ true
+    in-range : entry-fits h i (rate-field entries i) (choice-field entries i) ≡ true
     unfolding shaped entries-fit
     in-range = all-each _ (h .units + h .delay) (both-true _ _ (s .in-shape) .1) i l
 
-    rate-below : rate-byte entries i < h .rates
+    rate-below : rate-field entries i < h .rates
     unfolding entry-fits
     rate-below = ltb-true _ _ (both-true _ _ in-range .0)
 
     -- up to the delay there is no choice, after it one of the job's
-    mark-fits : (if ltb i (h .delay) then eqb (mark-byte entries i) no-choice else ltb (mark-byte entries i) (h .choices)) ≡ true
+    mark-fits : (if ltb i (h .delay) then eqb (choice-field entries i) no-choice else ltb (choice-field entries i) (h .choices)) ≡ true
     unfolding entry-fits
     mark-fits = both-true _ _ in-range .1
 
-    no-unit : i < h .delay → mark-byte entries i ≡ no-choice
+    no-unit : i < h .delay → choice-field entries i ≡ no-choice
     unfolding if_then_else_
     no-unit k = eqb-true _ _ (rw (lt-ltb i (h .delay) k) at mark-fits)
 
-    choice-below : h .delay ≤ i → mark-byte entries i < h .choices
+    choice-below : h .delay ≤ i → choice-field entries i < h .choices
     unfolding if_then_else_
     choice-below k = ltb-true _ _ (rw (le-ltb i (h .delay) k) at mark-fits)
 
-    pub sent-is : rate-at b (rate-byte entries i) ≡ sends (job-in b) (entry-at entries i)
+    pub sent-is : rate-at b (rate-field entries i) ≡ sends (job-in b) (entry-at entries i)
     unfolding sends entry-at
-    sent-is = (looked-up b h (s .opens)) .rate (rate-byte entries i) (omega (arith, (rates-are b h (s .opens)), rate-below))
+    sent-is = (looked-up b h (s .opens)) .rate (rate-field entries i) (omega (arith, (rates-are b h (s .opens)), rate-below))
 
-    pub sent-most : rate-at b (rate-byte entries i) ≤ 4095
-    sent-most = rw ((looked-up b h (s .opens)) .rate (rate-byte entries i) (omega (arith, (rates-are b h (s .opens)), rate-below))) ((job-limits b h (s .opens)) .rate (rate-byte entries i) (omega (arith, (rates-are b h (s .opens)), rate-below)))
+    pub sent-most : rate-at b (rate-field entries i) ≤ 4095
+    sent-most = rw ((looked-up b h (s .opens)) .rate (rate-field entries i) (omega (arith, (rates-are b h (s .opens)), rate-below))) ((job-limits b h (s .opens)) .rate (rate-field entries i) (omega (arith, (rates-are b h (s .opens)), rate-below)))
 
     -- the coding that was read is the one that the interval decodes, and within its limits
     record Codes (x : Coding) : Type 0 where
-      is : coding-of x ≡ coding (job-in b) (suc i) (choice-of (mark-byte entries i))
+      is : coding-of x ≡ coding (job-in b) (suc i) (choice-of (choice-field entries i))
       size-most : x .size ≤ 4095
       distortion-most : x .distortion ≤ 1000000
 
-    coding-is : (x : Coding) → CodingIn b h i (mark-byte entries i) x → Codes x
+    coding-is : (x : Coding) → CodingIn b h i (choice-field entries i) x → Codes x
     unfolding coding coding-of
     coding-is x (no-coding k e) = record {
       is = rw (no-unit k, of-mark) e;
@@ -73,7 +73,7 @@ module _ (b : List ℕ) (h : Header) (entries : List ℕ) (s : Shaped b h entrie
       distortion-most = let z : x .distortion ≡ 0 = ap (λ (k : model.Coding). k .distortion) e in omega arith;
     }
     coding-is x (coded k e) =
-        let m = mark-byte entries i in
+        let m = choice-field entries i in
         let below = choice-below k in
         let u = i - h .delay + 1 in
         let place : suc i - (job-in b .delay + 1) ≡ u - 1 = omega (arith, (delay-is b h (s .opens))) in
@@ -97,7 +97,7 @@ module _ (b : List ℕ) (h : Header) (entries : List ℕ) (s : Shaped b h entrie
         let place : suc i - job-in b .delay - 1 ≡ i - h .delay = omega (arith, (delay-is b h (s .opens))) in
         rw (lt-leb (suc i) (job-in b .delay) (omega (arith, (delay-is b h (s .opens)))), place, lines-at (h .units) pins (i - h .delay) (omega (arith, n, (units-are b h (s .opens)), (job-limits b h (s .opens)) .units)) (omega arith), e)
 
-    pub interval-is : (pins : List ℕ) (coding : Coding) (pin : ℕ) → length pins ≡ 512 → CodingIn b h i (mark-byte entries i) coding → PinIn h pins i pin → IsInterval (job-in b) (lines (h .units) pins) entries i (record { sent = rate-at b (rate-byte entries i); size = coding .size; distortion = coding .distortion; pin = pin; choice = mark-byte entries i })
+    pub interval-is : (pins : List ℕ) (coding : Coding) (pin : ℕ) → length pins ≡ 512 → CodingIn b h i (choice-field entries i) coding → PinIn h pins i pin → IsInterval (job-in b) (lines (h .units) pins) entries i (record { sent = rate-at b (rate-field entries i); size = coding .size; distortion = coding .distortion; pin = pin; choice = choice-field entries i })
     unfolding takes distorts entry-at coding-of
     interval-is pins x pin n d q =
         let w = coding-is x d in

@@ -1,5 +1,5 @@
 -- The sums of the effective buffer report, one rate and one sum after another.
-use Prim.Native.Nat.{ℕ, zero, suc, _+_, _*_, _-_, _<_, _≤_}
+use Prim.Native.Nat.{ℕ, zero, suc, _+_, _-_, _*_, _<_, _≤_}
 use mathlib.Core.Path.{_≡_, sym, _∙_, ap}
 use mathlib.Core.List.{List, _++_}
 use native.Mathlib.Decide.{decLt}
@@ -7,15 +7,16 @@ use native.Mathlib.Numerals.{add-one}
 use native.Mathlib.Omega.{arith}
 use lib.ListN.{length, getD, drop, List·getD-eq-default}
 use Rattle.model.specs.Job.{Job, Entry, intervals, sends}
-use Rattle.model.specs.Levels.{sum, no-entry, entryOf, sent, sentAfter, effectiveBuffer, build, effectiveBuffers}
-use Rattle.model.proofs.Builds.{build-length}
+use Rattle.model.specs.Levels.{no-entry, entryOf, sent, sentAfter, effectiveBuffer, effectiveBuffers}
+use Rattle.base.specs.Lists.{sum, build}
+use Rattle.base.proofs.Builds.{build-length}
 use Rattle.model.proofs.Buffers.{running-buffers}
 use Rattle.format.specs.JobBytes.{Header, job-in}
 use Rattle.format.specs.Places.{rate-at}
 use Rattle.format.specs.Claims.{InLimits}
 use Rattle.format.proofs.Opened.{intervals-are}
-use Rattle.replaying.specs.Entries.{rate-byte, entry-at, plan-from, plan-of}
-use Rattle.model.specs.Lent.{over}
+use Rattle.replaying.specs.Entries.{rate-field, entry-at, plan-from, plan-of}
+use Rattle.base.specs.Lent.{over}
 use Rattle.replay.specs.Answers.{Shaped}
 use Rattle.replay.proofs.Entries.{sent-is}
 
@@ -26,7 +27,7 @@ plan-at entries i (suc n) zero h = let e : i + 0 ≡ i = omega arith in rw e
 plan-at entries i (suc n) (suc k) h = let e : i + suc k ≡ suc i + k = omega arith in rw e (plan-at entries (suc i) n k (omega arith))
 
 -- the rate that was read is what the interval sends
-pub sent-read : (b : List ℕ) (h : Header) (entries : List ℕ) (s : Shaped b h entries) (i : ℕ) → i < h .units + h .delay → rate-at b (rate-byte entries i) ≡ sent (job-in b) (plan-of (job-in b) entries) (i + 1)
+pub sent-read : (b : List ℕ) (h : Header) (entries : List ℕ) (s : Shaped b h entries) (i : ℕ) → i < h .units + h .delay → rate-at b (rate-field entries i) ≡ sent (job-in b) (plan-of (job-in b) entries) (i + 1)
 unfolding sent entryOf plan-of
 sent-read b h entries s i l =
     let z : 0 + i ≡ i = omega arith in
@@ -56,6 +57,11 @@ pub window-more : (j : Job) (p : List Entry) (n : ℕ) → sentAfter j p 0 n + s
 unfolding sum sentAfter
 window-more j p n = let z : 0 + suc n ≡ suc n = omega arith in rw (add-one n, z)
 
+-- a sum and any rate are small
+pub sum-small : (j : Job) (p : List Entry) (i n x a : ℕ) → x ≡ effectiveBuffer j p i → a ≡ sent j p n → InLimits j → x + a ≤ 2400000
+unfolding effectiveBuffer
+sum-small j p i n x a e f k = omega (arith, window-most j k p i (j .delay), sent-most j k p n, k .delay)
+
 -- one sum from the one before it: x is the sum for i, a the rate that arrives and l the one that leaves
 module _ (j : Job) (p : List Entry) (i d x a l : ℕ) (delay : j .delay ≡ d) (sum-is : x ≡ effectiveBuffer j p i) (arrives : a ≡ sent j p (i + d + 1)) (leaves : l ≡ sent j p (i + 1)) where
   here : (l ≤ x + a) × ((x + a) - l ≡ effectiveBuffer j p (i + 1))
@@ -69,10 +75,6 @@ module _ (j : Job) (p : List Entry) (i d x a l : ℕ) (delay : j .delay ≡ d) (
 
   pub leaves-less : l ≤ x + a
   leaves-less = here .0
-
-  pub sum-small : InLimits j → d ≤ 576 → x + a ≤ 2400000
-  unfolding effectiveBuffer
-  sum-small k few = omega (arith, window-most j k p i (j .delay), sent-most j k p (i + d + 1))
 
 -- all sums
 pub sums-end : (j : Job) (p : List Entry) (l : List ℕ) (i : ℕ) → i ≡ suc (length (j .units)) → build i (effectiveBuffer j p) ++ drop i l ≡ over (effectiveBuffers j p) l

@@ -5,20 +5,20 @@ use mathlib.Core.List.{List, [], _∷_, map}
 use native.Mathlib.Omega.{arith}
 use lib.ListN.{length, getD}
 use Rattle.model.specs.Evaluate.{evaluate}
-use Rattle.model.specs.All.{all-below}
-use Rattle.model.specs.Lent as lent
+use Rattle.base.specs.Evaluate as base
 use Rattle.format.specs.Choices.{choice-of}
 use Rattle.format.specs.JobBytes.{computes, same-header}
+use Rattle.format.specs.Parser.{on-read}
 use Rattle.format.specs.JobA.{bytes-a}
-use Rattle.pinning.specs.State.{lines, unpinned, fresh}
+use Rattle.pinning.specs.PinSet.{lines, unpinned, fresh}
 use Rattle.pinning.specs.Check.{byte-fits, bytes-fit, same-totals, fits, accept, checked}
-use Rattle.pinning.specs.Calls.{opened, open-call, refuse, take-in, with-pin, without-pin, pin-line, lift-line, call-in, calling, call, after, run}
-use Rattle.replaying.specs.Entries.{rate-byte, mark-byte, entry-at, plan-from, plan-of, entry-fits, entries-fit, shaped}
+use Rattle.pinning.specs.Calls.{opened, open-call, refuse, take-in, with-pin, without-pin, call-tests, called, call-in, call, after, run}
+use Rattle.replaying.specs.Entries.{entry-fields, rate-field, choice-field, entry-at, plan-from, plan-of, entry-fits, entries-fit, shaped}
 use Rattle.replaying.specs.Calls as c
 use Rattle.replaying.specs.Cases.{Question, Reply, delayed, set-after, reply, questions, replies, Cases}
 
-cases : Cases
-unfolding evaluate computes all-below choice-of same-header bytes-a lines unpinned fresh byte-fits bytes-fit same-totals fits accept checked opened open-call refuse take-in with-pin without-pin pin-line lift-line call-in calling call after run rate-byte mark-byte entry-at plan-from plan-of entry-fits entries-fit shaped c.replayed c.flat c.level-count lent.over lent.refuse c.played c.replay-in c.on-job c.replay-call c.report-in c.report-call delayed set-after reply questions replies
+pub cases : Cases
+unfolding base.evaluate evaluate computes on-read choice-of same-header bytes-a lines unpinned fresh byte-fits bytes-fit same-totals fits accept checked opened open-call refuse take-in with-pin without-pin call-tests called call-in call after run entry-fields rate-field choice-field entry-at plan-from plan-of entry-fits entries-fit shaped c.replayed c.flat c.level-count c.played c.replay-tests c.replay-call c.reported c.report-tests c.report-call delayed set-after reply questions replies
 cases = refl
 
 -- what a computed list says of each of its members

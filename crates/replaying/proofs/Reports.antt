@@ -1,71 +1,81 @@
--- The report writes the effective buffer sizes of (6): `Reports`; and in which order replay and report refuse, and that a refusal keeps the list: `Refusals`.
-use Prim.Native.Nat.{ℕ, suc, _≤_}
+-- Replay and report are refused in document 01's order, and else are as claimed: `ReplayCalls` and `Reports`; and a refusal keeps the list: `Keeps`.
+use Prim.Native.Nat.{ℕ, suc, _+_, _*_, _≤_}
 use mathlib.Core.Path.{_≡_, refl, _∙_}
-use mathlib.Core.Bool.{Bool, true, false}
-use mathlib.Core.List.{List}
+use mathlib.Core.Logic.{_↔_}
+use mathlib.Core.Bool.{true}
+use mathlib.Core.List.{List, [], _∷_}
 use native.Mathlib.Omega.{arith}
-use lib.Dec.{ltb}
+use lib.Dec.{leb}
 use lib.ListN.{length}
-use borrow.Author.Tests.{lt-ltb, le-ltb}
-use Rattle.model.specs.If.{if_then_else_}
-use Rattle.model.specs.Job.{Job}
-use Rattle.model.specs.Levels.{effectiveBuffer, build, effectiveBuffers}
-use Rattle.model.proofs.Builds.{build-length, build-at}
-use Rattle.model.proofs.Tests.{branch}
-use Rattle.format.specs.Parser as P
+use borrow.Author.Tests.{leb-true, le-leb}
+use Rattle.base.specs.Lists.{build}
+use Rattle.base.specs.Refusals.{condition}
+use Rattle.base.specs.Lent.{Ended, refuse, Keeping}
+use Rattle.base.proofs.Builds.{build-length, build-at}
+use Rattle.base.proofs.Refusals.{Decides, no-more, one-more, Guarded, was-refused, was-done, guarded-is}
+use Rattle.base.proofs.Lent.{over-length, over-here, over-rest, refuse-keeps, gives-keeps}
+use Rattle.model.specs.Job.{Job, intervals}
+use Rattle.model.specs.Levels.{effectiveBuffer, effectiveBuffers}
+use Rattle.format.specs.Parser.{Result, refused, took, on-read}
 use Rattle.format.specs.JobBytes.{header-in, parse}
-use Rattle.pinning.specs.State.{lines}
+use Rattle.format.proofs.Parsing.{looks-read}
+use Rattle.pinning.specs.PinSet.{lines}
 use Rattle.pinning.specs.Check.{checked}
-use Rattle.pinning.proofs.Agree.{matched, unmatched, checked-refused}
+use Rattle.pinning.proofs.Agree.{looks-checked}
 use Rattle.replaying.specs.Entries.{plan-of, shaped}
-use Rattle.model.specs.Lent.{Ended, refuse, Keeping}
-use Rattle.replaying.specs.Calls.{level-count, played, replay-in, on-job, replay-call, report-in, report-call}
-use Rattle.replaying.specs.Claims.{Reports, Refusals}
-use Rattle.replaying.proofs.DemandTwo.{two-each}
-use Rattle.model.proofs.Lent.{over-length, over-here, over-rest, refuse-keeps, gives-keeps}
+use Rattle.replaying.specs.Calls.{level-count, played, replay-tests, replay-call, reported, report-tests, report-call}
+use Rattle.replaying.specs.Claims.{InShape, Reported, DemandTwo, ReplayCalls, Reports, Keeps}
+use Rattle.replaying.proofs.Entries.{plan-bytes}
+use Rattle.replaying.proofs.DemandTwo.{played-claim}
 
-pub reports : Reports
-unfolding report-call on-job report-in effectiveBuffers if_then_else_
-reports b j n entries sums parsed fit room =
+-- the report of a plan in shape, in a list that is long enough
+reported-claim : (j : Job) (entries sums : List ℕ) → length (j .units) + 1 ≤ length sums → Reported j (plan-of j entries) sums (reported j entries sums)
+unfolding reported effectiveBuffers
+reported-claim j entries sums room =
     let size = build-length (suc (length (j .units))) (effectiveBuffer j (plan-of j entries)) in
     let fits : length (build (suc (length (j .units))) (effectiveBuffer j (plan-of j entries))) ≤ length sums = omega arith in
-    rw (parsed, fit, le-ltb (length sums) (suc (length (j .units))) room)
-    (record {
+    record {
       given = refl;
       sum = λ i h. over-here _ sums fits i (omega arith) ∙ build-at (suc (length (j .units))) (effectiveBuffer j (plan-of j entries)) i (omega arith);
       rest = over-rest _ sums fits (suc (length (j .units))) size;
       size = over-length _ sums fits;
-    })
+    }
 
--- a test that is not passed
-not-passed : (t : Bool) → (t ≡ true → ⊥) → t ≡ false
-not-passed true f = absurd (f refl)
-not-passed false f = refl
+-- a list of at least so many numbers
+levels-decide : (j : Job) (levels : List ℕ) → (leb (level-count j) (length levels) ≡ true) ↔ ((1 + length (j .line .buckets)) * intervals j ≤ length levels)
+unfolding level-count
+levels-decide j levels = (λ q. omega (arith, leb-true (suc (length (j .line .buckets)) * intervals j) (length levels) q), λ q. le-leb (suc (length (j .line .buckets)) * intervals j) (length levels) (omega arith))
 
-module _ (list : List ℕ) where
-  pub on-job-keeps : {A : Type 0} (f : Job → Ended A) (r : P.Result Job) → ((j : Job) → Keeping list (f j)) → Keeping list (on-job r list f)
-  unfolding on-job
-  on-job-keeps f (P.refused n) h = refuse-keeps list n
-  on-job-keeps f (P.took j k) h = h j
+-- what replay is tested for, of a job that opens
+pub replay-decides : (b : List ℕ) (j : Job) (k : ℕ) → parse b ≡ took j k → (entries levels : List ℕ) → Decides (replay-tests j entries (length levels)) (condition 14 (InShape j entries) ∷ condition 12 ((1 + length (j .line .buckets)) * intervals j ≤ length levels) ∷ [])
+unfolding replay-tests
+replay-decides b j k e entries levels = one-more refl (plan-bytes b j k e .shaped-iff entries) (one-more refl (levels-decide j levels) no-more)
 
-  -- 14, then 12, then what is given
-  tests-keep : {A : Type 0} (t u : Bool) (r : Ended A) → Keeping list r → Keeping list (if t then if u then refuse 12 list else r else refuse 14 list)
-  tests-keep t u r h = branch (Keeping list) t (λ e. branch (Keeping list) u (λ q. refuse-keeps list 12) (λ q. h)) (λ e. refuse-keeps list 14)
+pub replay-calls : ReplayCalls
+unfolding replay-call
+replay-calls b s entries levels =
+    looks-checked (refuse levels) b s (λ j. replay-tests j entries (length levels)) (λ j. condition 14 (InShape j entries) ∷ condition 12 ((1 + length (j .line .buckets)) * intervals j ≤ length levels) ∷ []) (λ j. played j (lines (length (j .units)) (s .pins)) entries levels) (λ j r. DemandTwo j (lines (length (j .units)) (s .pins)) (plan-of j entries) levels r)
+    (λ j k e m. (replay-decides b j k e entries levels, λ h. played-claim b j k e (lines (length (j .units)) (s .pins)) entries levels (h .0) (h .1 .0)))
 
-pub refusals : Refusals
-unfolding replay-call report-call on-job replay-in report-in played if_then_else_
-refusals b s entries list = (
-  record {
-    job-first = λ n e. rw (checked-refused b s n e);
-    then-set = λ j n e f. rw (unmatched b j n e s f);
-    then-plan = λ j n e m f. rw (matched b j n e s m, not-passed (shaped (header-in j) entries) f);
-    then-list = λ j n e m f l. rw (matched b j n e s m, f, two-each b j n e, lt-ltb _ _ l);
-  },
-  record {
-    job-first = λ n e. rw e;
-    then-plan = λ j n e f. rw (e, not-passed (shaped (header-in j) entries) f);
-    then-list = λ j n e f l. rw (e, f, lt-ltb _ _ l);
-  },
-  on-job-keeps list (λ j. replay-in j s entries list) (checked b s) (λ j. tests-keep list (shaped (header-in j) entries) (ltb (length list) (level-count j)) (played j (lines (length (j .units)) (s .bytes)) entries list) (gives-keeps list _ _)),
-  on-job-keeps list (λ j. report-in j entries list) (parse b) (λ j. tests-keep list (shaped (header-in j) entries) (ltb (length list) (suc (length (j .units)))) _ (gives-keeps list _ _)),
+pub reports : Reports
+unfolding report-call report-tests
+reports b entries sums =
+    looks-read (refuse sums) (parse b) (λ j. report-tests j entries (length sums)) (λ j. condition 14 (InShape j entries) ∷ condition 12 (length (j .units) + 1 ≤ length sums) ∷ []) (λ j. reported j entries sums) (λ j r. Reported j (plan-of j entries) sums r)
+    (λ j k e. (one-more refl (plan-bytes b j k e .shaped-iff entries) (one-more refl (λ q. omega (arith, leb-true (suc (length (j .units))) (length sums) q), λ q. le-leb (suc (length (j .units))) (length sums) (omega arith)) no-more), λ h. reported-claim j entries sums (h .1 .0)))
+
+module _ {A : Type 0} (list : List ℕ) where
+  guarded-keeps : (r q : Ended A) → Keeping list r → Guarded (refuse list) r q → Keeping list q
+  guarded-keeps r q h (was-refused n) = refuse-keeps list n
+  guarded-keeps r q h was-done = h
+
+  pub read-keeps : {B : Type 0} (f : B → Ended A) (r : Result B) → ((a : B) → Keeping list (f a)) → Keeping list (on-read (refuse list) r f)
+  unfolding on-read
+  read-keeps f (refused n) h = refuse-keeps list n
+  read-keeps f (took a k) h = h a
+
+pub keeps : Keeps
+unfolding replay-call report-call played reported
+keeps b s entries list = (
+  read-keeps list _ (checked b s) (λ j. guarded-keeps list _ _ (gives-keeps list _ _) (guarded-is (refuse list) (replay-tests j entries (length list)) (played j (lines (length (j .units)) (s .pins)) entries list))),
+  read-keeps list _ (parse b) (λ j. guarded-keeps list _ _ (gives-keeps list _ _) (guarded-is (refuse list) (report-tests j entries (length list)) (reported j entries list))),
 )

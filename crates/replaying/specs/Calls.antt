@@ -1,19 +1,19 @@
 -- What replay and the effective buffer report answer, and what they leave in the list that was lent (document 01, "Levels, interval by interval" and "Where each refusal is checked").
 use Prim.Native.Nat.{ℕ, suc, _*_}
 use mathlib.Core.List.{List, [], _∷_, _++_}
-use lib.Dec.{ltb}
+use lib.Dec.{leb}
 use lib.ListN.{length}
-use Rattle.model.specs.If.{if_then_else_}
-use Rattle.model.specs.Answer.{gives}
-use Rattle.model.specs.Lent.{Ended, over, refuse}
+use Rattle.base.specs.Refusals.{Test, test, guarded}
+use Rattle.base.specs.Answer.{gives}
+use Rattle.base.specs.Lent.{Ended, over, refuse}
 use Rattle.model.specs.Job.{Levels, Job, intervals}
 use Rattle.model.specs.Levels.{effectiveBuffers}
 use Rattle.model.specs.Pins.{PinMap}
 use Rattle.model.specs.Admissible.{Violation}
 use Rattle.model.specs.Replay.{Totals, totals, Result, clean, stopped, replay}
-use Rattle.format.specs.Parser as P
+use Rattle.format.specs.Parser.{on-read}
 use Rattle.format.specs.JobBytes.{header-in, parse}
-use Rattle.pinning.specs.State.{State, lines}
+use Rattle.pinning.specs.PinSet.{PinSet, lines}
 use Rattle.pinning.specs.Check.{checked}
 use Rattle.replaying.specs.Entries.{plan-of, shaped}
 
@@ -42,29 +42,21 @@ played j m entries levels = record {
   list = over (flat (replay j m 0 (j .start) (plan-of j entries) .levels)) levels;
 }
 
--- for a job that the set matches: 14, then 12
-unfoldable pub replay-in : Job → State → List ℕ → List ℕ → Ended Replayed
-replay-in j s entries levels =
-    if shaped (header-in j) entries then
-    if ltb (length levels) (level-count j) then refuse 12 levels
-    else played j (lines (length (j .units)) (s .bytes)) entries levels
-    else refuse 14 levels
-
-unfoldable pub on-job : {A : Type 0} → P.Result Job → List ℕ → (Job → Ended A) → Ended A
-on-job (P.refused n) list f = refuse n list
-on-job (P.took j k) list f = f j
+-- what replay is tested for, of a job that the set matches: the plan's shape, 14, then the list, 12
+unfoldable pub replay-tests : Job → List ℕ → ℕ → List Test
+replay-tests j entries levels = test 14 (shaped (header-in j) entries) ∷ test 12 (leb (level-count j) levels) ∷ []
 
 -- the job, 1 to 5, the set, 6, then the plan and the list
-unfoldable pub replay-call : List ℕ → State → List ℕ → List ℕ → Ended Replayed
-replay-call b s entries levels = on-job (checked b s) levels (λ j. replay-in j s entries levels)
+unfoldable pub replay-call : List ℕ → PinSet → List ℕ → List ℕ → Ended Replayed
+replay-call b s entries levels = on-read (refuse levels) (checked b s) (λ j. guarded (refuse levels) (replay-tests j entries (length levels)) (played j (lines (length (j .units)) (s .pins)) entries levels))
+
+-- the report of a plan in shape
+unfoldable pub reported : Job → List ℕ → List ℕ → Ended (Unit {0})
+reported j entries sums = record { answer = gives tt; list = over (effectiveBuffers j (plan-of j entries)) sums }
+
+unfoldable pub report-tests : Job → List ℕ → ℕ → List Test
+report-tests j entries sums = test 14 (shaped (header-in j) entries) ∷ test 12 (leb (suc (length (j .units))) sums) ∷ []
 
 -- the report takes no set: 1 to 5, then 14, then 12
-unfoldable pub report-in : Job → List ℕ → List ℕ → Ended (Unit {0})
-report-in j entries sums =
-    if shaped (header-in j) entries then
-    if ltb (length sums) (suc (length (j .units))) then refuse 12 sums
-    else record { answer = gives tt; list = over (effectiveBuffers j (plan-of j entries)) sums }
-    else refuse 14 sums
-
 unfoldable pub report-call : List ℕ → List ℕ → List ℕ → Ended (Unit {0})
-report-call b entries sums = on-job (parse b) sums (λ j. report-in j entries sums)
+report-call b entries sums = on-read (refuse sums) (parse b) (λ j. guarded (refuse sums) (report-tests j entries (length sums)) (reported j entries sums))

@@ -4,13 +4,13 @@ use mathlib.Core.Path.{_≡_}
 use mathlib.Core.Option.{Option, none, some}
 use mathlib.Core.List.{List, [], _∷_, map}
 use lib.ListN.{set, replicate}
-use Rattle.model.specs.Answer.{refused, gives}
+use Rattle.base.specs.Answer.{refused, gives}
 use Rattle.model.specs.Admissible.{decoder-overflow, decoder-underflow, pin-not-held}
 use Rattle.model.specs.Pins.{Call, pin, lift, PinTotals}
 use Rattle.format.specs.JobA.{bytes-a}
-use Rattle.pinning.specs.State.{State}
+use Rattle.pinning.specs.PinSet.{PinSet}
 use Rattle.pinning.specs.Calls.{open-call, run}
-use Rattle.model.specs.Lent.{Ended}
+use Rattle.base.specs.Lent.{Ended}
 use Rattle.replaying.specs.Calls.{Replayed, totals-are, violated, replay-call, report-call}
 
 -- Job A with the delay d
@@ -31,11 +31,11 @@ pub data Reply : Type 0 where
   replayed : Ended Replayed → Reply
   reported : Ended (Unit {0}) → Reply
 
-unfoldable pub set-after : List ℕ → List Call → State
-set-after b ks = run b (open-call b .state) ks .state
+unfoldable pub set-after : List ℕ → List Call → PinSet
+set-after b ks = run b (open-call b .set) ks .set
 
 unfoldable pub reply : Question → Reply
-reply (calls ks) = answered (run bytes-a (open-call bytes-a .state) ks .answers) (set-after bytes-a ks .totals)
+reply (calls ks) = answered (run bytes-a (open-call bytes-a .set) ks .answers) (set-after bytes-a ks .totals)
 reply (replays-with d room ks entries) = replayed (replay-call (delayed d) (set-after (delayed d) ks) entries (replicate room 7))
 reply (reports entries) = reported (report-call bytes-a entries (replicate 4 7))
 

@@ -3,36 +3,46 @@ use Prim.Native.Nat.{ℕ, suc, _+_, _*_, _-_, _<_, _≤_}
 use mathlib.Core.Path.{_≡_}
 use mathlib.Core.Logic.{_↔_}
 use mathlib.Core.Bool.{true}
-use mathlib.Core.List.{List}
+use mathlib.Core.List.{List, [], _∷_}
 use lib.ListN.{length, getD, drop}
 use lib.IntN.{pos}
-use Rattle.model.specs.Answer.{gives}
+use Rattle.base.specs.Answer.{gives}
+use Rattle.base.specs.Refusals.{condition}
 use Rattle.model.specs.Job.{bucketAt, Job, Entry, intervals, PlanFits}
 use Rattle.model.specs.Levels.{decoderLevel, bucketLevel, effectiveBuffer}
 use Rattle.model.specs.Pins.{PinMap}
 use Rattle.model.specs.Admissible.{Violation, Admissible, FirstViolation}
 use Rattle.model.specs.Replay.{Totals, totals, clean, replay}
-use Rattle.format.specs.Parser.{refused, took}
+use Rattle.format.specs.Parser.{took, Looks}
 use Rattle.format.specs.JobBytes.{header-in, parse}
-use Rattle.pinning.specs.State.{State, lines}
+use Rattle.pinning.specs.PinSet.{PinSet, lines}
 use Rattle.pinning.specs.Check.{Matches}
-use Rattle.replaying.specs.Entries.{entry-size, plan-of, shaped, entry-bytes}
-use Rattle.model.specs.Lent.{Ended, refuse, Keeping}
+use Rattle.replaying.specs.Entries.{plan-of, shaped, entry-bytes}
+use Rattle.base.specs.Lent.{Ended, refuse, Keeping}
 use Rattle.replaying.specs.Calls.{Replayed, totals-are, violated, flat, level-count, replay-call, report-call}
 
--- the shape check passes exactly the bytes of the plans in shape: T entries in range, two bytes each
+-- the bytes are a plan of the job in shape: T entries of so many bytes, each in range (14 where they are not)
+pub record InShape (j : Job) (entries : List ℕ) : Type 0 where
+  pub size : length entries ≡ 2 * intervals j
+  pub fits : PlanFits j 0 (plan-of j entries)
+
+-- the shape check passes exactly the bytes of the plans in shape
 pub record Shapes (j : Job) : Type 0 where
-  pub shaped-iff : (b : List ℕ) → (shaped (header-in j) b ≡ true) ↔ ((length b ≡ entry-size * intervals j) × PlanFits j 0 (plan-of j b))
+  pub shaped-iff : (b : List ℕ) → (shaped (header-in j) b ≡ true) ↔ InShape j b
   -- every plan in shape has its bytes
   pub written : (p : List Entry) → PlanFits j 0 p → (shaped (header-in j) (entry-bytes p) ≡ true) × (plan-of j (entry-bytes p) ≡ p)
 
--- demand 2 and E3's balance, of a job with one bucket, a matching set, a plan in shape and a list that is long enough: m are the set's pins, p is the plan and r what the call answers and leaves
+-- demand 2 and E3's balance, of a plan in shape and a list that is long enough: m are the set's pins, p is the plan and r what the call answers and leaves
 module _ (j : Job) (m : PinMap) (p : List Entry) (levels : List ℕ) where
+  -- how many numbers an interval has: the decoder's level, then each bucket's
+  abbrev pub each : ℕ
+  each = 1 + length (j .line .buckets)
+
   -- the levels of the first n intervals stand in the list, those of (16) and of Example 1 (17), and the rest of it is as before
   pub record Written (n : ℕ) (list : List ℕ) : Type 0 where
-    pub decoder : (i : ℕ) → i < n → pos (getD list (2 * i) 0) ≡ decoderLevel j 0 p (j .start .decoder) (suc i)
-    pub bucket : (i : ℕ) → i < n → getD list (2 * i + 1) 0 ≡ bucketLevel j 0 p (bucketAt (j .line .buckets) 0) (getD (j .start .buckets) 0 0) (suc i)
-    pub rest : drop (2 * n) list ≡ drop (2 * n) levels
+    pub decoder : (i : ℕ) → i < n → pos (getD list (each * i) 0) ≡ decoderLevel j 0 p (j .start .decoder) (suc i)
+    pub bucket : (i k : ℕ) → i < n → k < length (j .line .buckets) → getD list (each * i + suc k) 0 ≡ bucketLevel j 0 p (bucketAt (j .line .buckets) k) (getD (j .start .buckets) k 0) (suc i)
+    pub rest : drop (each * n) list ≡ drop (each * n) levels
     pub size : length list ≡ length levels
 
   pub record DemandTwo (r : Ended Replayed) : Type 0 where
@@ -42,20 +52,8 @@ module _ (j : Job) (m : PinMap) (p : List Entry) (levels : List ℕ) where
     -- a violation is named exactly where it is the first; then the levels of the intervals before it are written
     pub violated-iff : (n : ℕ) (v : Violation) → (r .answer ≡ gives (violated (suc n) v)) ↔ FirstViolation j m 0 (j .start) p n v
     pub violated-written : (n : ℕ) (v : Violation) → r .answer ≡ gives (violated (suc n) v) → Written n (r .list)
-    -- document 02, E3: where totals are given, starting level + channel total + unused total = T × drain + last level, which is the last number written
-    pub balance : (t : Totals) → r .answer ≡ gives (totals-are t) → getD (j .start .buckets) 0 0 + t .channel + getD (t .unused) 0 0 ≡ intervals j * bucketAt (j .line .buckets) 0 .drain + getD (r .list) (2 * intervals j - 1) 0
-
--- in which order replay looks at what it is given; 12 where the list has not T numbers for the decoder and T for the bucket
-pub record ReplayOrder (b : List ℕ) (s : State) (entries levels : List ℕ) : Type 0 where
-  pub job-first : (n : ℕ) → parse b ≡ refused n → replay-call b s entries levels ≡ refuse n levels
-  pub then-set : (j : Job) (n : ℕ) → parse b ≡ took j n → (Matches j s → ⊥) → replay-call b s entries levels ≡ refuse 6 levels
-  pub then-plan : (j : Job) (n : ℕ) → parse b ≡ took j n → Matches j s → (shaped (header-in j) entries ≡ true → ⊥) → replay-call b s entries levels ≡ refuse 14 levels
-  pub then-list : (j : Job) (n : ℕ) → parse b ≡ took j n → Matches j s → shaped (header-in j) entries ≡ true → length levels < 2 * intervals j → replay-call b s entries levels ≡ refuse 12 levels
-
-pub record ReportOrder (b entries sums : List ℕ) : Type 0 where
-  pub job-first : (n : ℕ) → parse b ≡ refused n → report-call b entries sums ≡ refuse n sums
-  pub then-plan : (j : Job) (n : ℕ) → parse b ≡ took j n → (shaped (header-in j) entries ≡ true → ⊥) → report-call b entries sums ≡ refuse 14 sums
-  pub then-list : (j : Job) (n : ℕ) → parse b ≡ took j n → shaped (header-in j) entries ≡ true → length sums < suc (length (j .units)) → report-call b entries sums ≡ refuse 12 sums
+    -- document 02, E3: where totals are given, of each bucket starting level + channel total + unused total = T × drain + last level, which stands among the last numbers written
+    pub balance : (t : Totals) (k : ℕ) → r .answer ≡ gives (totals-are t) → k < length (j .line .buckets) → getD (j .start .buckets) k 0 + t .channel + getD (t .unused) k 0 ≡ intervals j * bucketAt (j .line .buckets) k .drain + getD (r .list) (each * (intervals j - 1) + suc k) 0
 
 -- how many numbers a job's levels are, with any number of buckets: T for the decoder and T for each bucket; and a replay without a violation has as many
 pub record LevelsClaim (j : Job) : Type 0 where
@@ -77,11 +75,14 @@ PlanBytes = (b : List ℕ) (j : Job) (n : ℕ) → parse b ≡ took j n → Shap
 abbrev pub LevelNumbers : Type 0
 LevelNumbers = (j : Job) → LevelsClaim j
 
+-- demands 1 and 2, of replay: the job, 1 to 5, then the set, the plan, and room for T numbers of the decoder and T of each bucket; where nothing refuses it, it is as demand 2 says
 abbrev pub ReplayCalls : Type 0
-ReplayCalls = (b : List ℕ) (j : Job) (n : ℕ) (s : State) (entries levels : List ℕ) → parse b ≡ took j n → Matches j s → shaped (header-in j) entries ≡ true → 2 * intervals j ≤ length levels → DemandTwo j (lines (length (j .units)) (s .bytes)) (plan-of j entries) levels (replay-call b s entries levels)
+ReplayCalls = (b : List ℕ) (s : PinSet) (entries levels : List ℕ) → Looks (replay-call b s entries levels) (refuse levels) (parse b) (λ j. condition 6 (Matches j s) ∷ condition 14 (InShape j entries) ∷ condition 12 ((1 + length (j .line .buckets)) * intervals j ≤ length levels) ∷ []) (λ j. DemandTwo j (lines (length (j .units)) (s .pins)) (plan-of j entries) levels (replay-call b s entries levels))
 
+-- demand 1, of the report, and what it writes
 abbrev pub Reports : Type 0
-Reports = (b : List ℕ) (j : Job) (n : ℕ) (entries sums : List ℕ) → parse b ≡ took j n → shaped (header-in j) entries ≡ true → length (j .units) < length sums → Reported j (plan-of j entries) sums (report-call b entries sums)
+Reports = (b entries sums : List ℕ) → Looks (report-call b entries sums) (refuse sums) (parse b) (λ j. condition 14 (InShape j entries) ∷ condition 12 (length (j .units) + 1 ≤ length sums) ∷ []) (λ j. Reported j (plan-of j entries) sums (report-call b entries sums))
 
-abbrev pub Refusals : Type 0
-Refusals = (b : List ℕ) (s : State) (entries list : List ℕ) → ReplayOrder b s entries list × ReportOrder b entries list × Keeping list (replay-call b s entries list) × Keeping list (report-call b entries list)
+-- a refusal leaves the list as it came
+abbrev pub Keeps : Type 0
+Keeps = (b : List ℕ) (s : PinSet) (entries list : List ℕ) → Keeping list (replay-call b s entries list) × Keeping list (report-call b entries list)

@@ -1,28 +1,35 @@
--- A plan as bytes: two for each interval, the rate index and the choice index, which is 255 where no unit is decoded (document 01, "Levels, interval by interval").
+-- A plan as bytes: for each interval the rate index and the choice index, which is the mark where no unit is decoded (document 01, "Levels, interval by interval").
 use Prim.Native.Nat.{ℕ, zero, suc, _+_, _*_}
 use mathlib.Core.Bool.{Bool, false}
-use mathlib.Core.List.{List, [], _∷_}
+use mathlib.Core.List.{List, [], _∷_, _++_}
 use lib.Dec.{eqb, ltb}
-use lib.ListN.{length, getD}
-use Rattle.model.specs.If.{if_then_else_}
-use Rattle.model.specs.All.{all-below}
+use lib.ListN.{length, getD, drop}
+use Rattle.base.specs.If.{if_then_else_}
+use Rattle.base.specs.All.{all-below}
 use Rattle.model.specs.Job.{Job, Entry, intervals}
+use Rattle.format.specs.Fields.{fields, spelled}
 use Rattle.format.specs.JobBytes.{Header}
-use Rattle.format.specs.Choices.{no-choice, choice-of, choice-byte}
+use Rattle.format.specs.Choices.{no-choice, choice-width, choice-of, choice-number}
 
--- how many bytes an entry takes
+-- the fields of an entry, and how many bytes they take
+abbrev pub entry-widths : List ℕ
+entry-widths = 1 ∷ choice-width ∷ []
+
 abbrev pub entry-size : ℕ
-entry-size = 2
+entry-size = 1 + choice-width
 
--- the entry in place i, which is that of interval i + 1
-unfoldable pub rate-byte : List ℕ → ℕ → ℕ
-rate-byte b i = getD b (entry-size * i) 0
+-- the numbers of the entry in place i, which is that of interval i + 1
+unfoldable pub entry-fields : List ℕ → ℕ → List ℕ
+entry-fields b i = fields entry-widths (drop (entry-size * i) b)
 
-unfoldable pub mark-byte : List ℕ → ℕ → ℕ
-mark-byte b i = getD b (entry-size * i + 1) 0
+unfoldable pub rate-field : List ℕ → ℕ → ℕ
+rate-field b i = getD (entry-fields b i) 0 0
+
+unfoldable pub choice-field : List ℕ → ℕ → ℕ
+choice-field b i = getD (entry-fields b i) 1 0
 
 unfoldable pub entry-at : List ℕ → ℕ → Entry
-entry-at b i = record { rate = rate-byte b i; choice = choice-of (mark-byte b i) }
+entry-at b i = record { rate = rate-field b i; choice = choice-of (choice-field b i) }
 
 -- the entries from place i on, n of them
 unfoldable pub plan-from : List ℕ → ℕ → ℕ → List Entry
@@ -35,20 +42,23 @@ plan-of j b = plan-from b 0 (intervals j)
 
 -- an entry in range in place i: up to the delay it has no choice, after it one below M
 unfoldable pub entry-fits : Header → ℕ → ℕ → ℕ → Bool
-entry-fits h i rate mark =
+entry-fits h i rate choice =
     if ltb rate (h .rates) then
-    if ltb i (h .delay) then eqb mark no-choice else ltb mark (h .choices)
+    if ltb i (h .delay) then eqb choice no-choice else ltb choice (h .choices)
     else false
 
 -- the first n entries
 unfoldable pub entries-fit : Header → List ℕ → ℕ → Bool
-entries-fit h b n = all-below (λ i. entry-fits h i (rate-byte b i) (mark-byte b i)) n
+entries-fit h b n = all-below (λ i. entry-fits h i (rate-field b i) (choice-field b i)) n
 
--- 14: the bytes are not 2 × T, or an entry is out of range
+-- 14: the bytes are not those of T entries, or an entry is out of range
 unfoldable pub shaped : Header → List ℕ → Bool
 shaped h b = if eqb (length b) (entry-size * (h .units + h .delay)) then entries-fit h b (h .units + h .delay) else false
 
--- the bytes of a plan
+-- the bytes of an entry, and of a plan
+unfoldable pub one-entry : Entry → List ℕ
+one-entry e = spelled entry-widths (e .rate ∷ choice-number (e .choice) ∷ [])
+
 unfoldable pub entry-bytes : List Entry → List ℕ
 entry-bytes [] = []
-entry-bytes (e ∷ p) = e .rate ∷ choice-byte (e .choice) ∷ entry-bytes p
+entry-bytes (e ∷ p) = one-entry e ++ entry-bytes p

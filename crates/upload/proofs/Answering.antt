@@ -1,86 +1,162 @@
 -- What the exported calls answer and leave, from what the calls within them answered.
 use Prim.Native.Nat.{ℕ, _<_, _≤_}
-use mathlib.Core.Path.{_≡_}
+use mathlib.Core.Path.{_≡_, sym, _∙_, ap}
+use mathlib.Core.Option.{Option, none, some}
 use mathlib.Core.List.{List, [], _∷_}
 use lib.ListN.{length}
-use borrow.Author.Tests.{lt-ltb, le-ltb, eq-eqb, ne-eqb}
-use Rattle.model.specs.If.{if_then_else_}
-use Rattle.format.specs.JobBytes.{header-of}
+use borrow.Author.Tests.{lt-leb, le-leb, eq-eqb, ne-eqb}
+use Rattle.base.specs.Refusals.{refusal, unless, first}
+use Rattle.base.specs.Lent.{over, put}
+use Rattle.base.proofs.Refusals.{refusal-here, refusal-last, unless-some, unless-none, guarded-here, guarded-last}
+use Rattle.format.specs.Parser.{on-took}
+use Rattle.format.specs.JobBytes.{header-of, header-in, parse}
 use Rattle.job.specs.declared.Header.{Header}
 use Rattle.job.specs.Answers.{plain}
-use Rattle.writing.specs.Calls.{write-call}
+use Rattle.writing.specs.Calls.{write-refusal, write-call}
 use Rattle.writer.specs.declared.Wrote.{Wrote}
 use Rattle.writer.specs.declared.Wrote.the-variants as wrotes
 use Rattle.writer.specs.Answers.{wrote-answer, wrote}
+use Rattle.pinning.specs.PinSet.{PinSet, fresh}
 use Rattle.pinning.specs.Calls.{open-call}
 use Rattle.pins.specs.declared.Opened.{Opened}
 use Rattle.pins.specs.declared.Opening.the-variants as opens
-use Rattle.pins.specs.Answers.{state, opening-answer, opening}
-use Rattle.replay.specs.declared.Totals.{Totals}
-use Rattle.replay.specs.declared.Violation.{Violation}
+use Rattle.pins.specs.Answers.{set-of, opening-answer, opening}
+use Rattle.interval.specs.declared.Totals.{Totals}
+use Rattle.interval.specs.declared.Violation.{Violation}
+use Rattle.interval.specs.Answers.{violation, totals-of, no-totals}
 use Rattle.replay.specs.declared.Replayed.{Replayed}
 use Rattle.replay.specs.declared.Replayed.the-variants as replays
 use Rattle.replay.specs.declared.Reported.{Reported}
 use Rattle.replay.specs.declared.Reported.the-variants as reports
-use Rattle.replay.specs.Answers.{violation, totals-of, ended, report-answer}
+use Rattle.replay.specs.Answers.{ended, report-answer}
 use Rattle.replay.specs.Answers as replay
-use Rattle.model.specs.Lent.{over}
 use Rattle.replaying.specs.Calls.{report-call}
 use Rattle.planner.specs.declared.Planned.{Planned}
 use Rattle.planner.specs.declared.Planned.the-variants as plans
 use Rattle.planner.specs.Answers as planner
-use Rattle.planning.specs.Sittings.{sitting-call, replay-sitting}
-use Rattle.sitting.specs.Answers.{sat-is}
-use Rattle.upload.specs.Exports.{number-of, put, opened-values, opened, open-export, totals-list, totals-values, planned, after-sitting, plan-export, violation-number, replayed-list, replayed, after-replay, replay-export, reported, report-export, written, after-write, write-export}
+use Rattle.calling.specs.Sessions.{calls-refusal, calls-call, plan-refusal, session-call, replay-refusal, replay-session}
+use Rattle.session.specs.declared.Called.{Called}
+use Rattle.session.specs.declared.Called.the-variants as calls
+use Rattle.session.specs.declared.PinTotals.{PinTotals}
+use Rattle.session.specs.Answers.{called-answer, session-is}
+use Rattle.session.specs.Answers as session
+use Rattle.session.proofs.Inputs.{Open, is-open, not-open, answer-is, state-is}
+use Rattle.upload.specs.Exports.{number-of, room-for, opened-values, opened, open-export, pins-list, called, after-calls, calls-export, totals-list, totals-values, planned, after-session, plan-export, violation-number, replayed-list, replayed, after-replay, replay-export, reported, report-export, written, after-write, write-export}
+
+-- what was looked at before, then room for the values
+module _ {R : Type 0} (refuse : ℕ → R) (o : Option ℕ) (least : ℕ) (values : List ℕ) (work : R) where
+  abbrev whole : R
+  whole = unless refuse (first o (refusal (room-for least values))) work
+
+  before : (n : ℕ) → some n ≡ o → refuse n ≡ whole
+  before n e = sym (unless-some refuse _ n work (unless-some some o n _ (sym e)))
+
+  module _ (e : none ≡ o) where
+    few : length values < least → refuse 12 ≡ whole
+    few l = sym (unless-some refuse _ 12 work (unless-none some o _ (sym e) ∙ refusal-here _ _ (lt-leb least (length values) l)))
+
+    behind : least ≤ length values → whole ≡ work
+    behind l = unless-none refuse _ work (unless-none some o _ (sym e) ∙ refusal-last _ (le-leb least (length values) l))
 
 -- opening
-module _ (job values : List ℕ) where
-  pub open-12 : length values < 4 → opened 12 values ≡ open-export job values
-  unfolding open-export if_then_else_
-  open-12 l = rw (lt-ltb (length values) 4 l)
+module _ (job values : List ℕ) (r : Opened) (i : opening r ≡ open-call job) where
+  pub open-refused : (n : ℕ) → r .answer ≡ opens.Refused n → opened n values ≡ open-export job values
+  unfolding open-export on-took opening-answer
+  open-refused n e = rw (not-open _ n (answer-is job r i ∙ ap opening-answer e) .0)
 
-  module _ (room : 4 ≤ length values) (r : Opened) (i : opening r ≡ open-call job) where
-    pub open-refused : (n : ℕ) → r .answer ≡ opens.Refused n → opened n values ≡ open-export job values
-    unfolding open-export if_then_else_ opening opening-answer number-of put
-    open-refused n e = rw (le-ltb (length values) 4 room, ← i, e)
+  module _ (k : ℕ) (e : r .answer ≡ opens.Took k) where
+    here : Open (parse job) k
+    unfolding opening-answer
+    here = is-open (parse job) k (answer-is job r i ∙ ap opening-answer e)
 
-    pub open-took : (k : ℕ) → r .answer ≡ opens.Took k → (new : List ℕ) → new ≡ over (opened-values k (plain (r .set .header))) values → opened 0 new ≡ open-export job values
-    unfolding open-export if_then_else_ opening opening-answer state number-of put
-    open-took k e new w = rw (le-ltb (length values) 4 room, ← i, e, w)
+    -- the header that is handed back is the job's
+    header-here : plain (r .set .header) ≡ header-in (here .job)
+    unfolding set-of fresh
+    header-here = ap (λ (s : PinSet). s .header) (state-is job r i ∙ here .fresh-is)
+
+    pub open-12 : length values < 4 → opened 12 values ≡ open-export job values
+    unfolding open-export on-took
+    open-12 l = rw (here .is) (sym (guarded-here (λ n. opened n values) _ _ _ (lt-leb 4 (length values) l)))
+
+    pub open-took : 4 ≤ length values → (new : List ℕ) → new ≡ over (opened-values k (plain (r .set .header))) values → opened 0 new ≡ open-export job values
+    unfolding open-export on-took
+    open-took l new w = rw (here .is, w, header-here) (sym (guarded-last (λ n. opened n values) _ _ (le-leb 4 (length values) l)))
+
+-- calls alone
+module _ (job ks answers values : List ℕ) where
+  pub calls-before : (n : ℕ) → some n ≡ calls-refusal job ks (length answers) → called n answers values ≡ calls-export job ks answers values
+  unfolding calls-export
+  calls-before = before (λ n. called n answers values) (calls-refusal job ks (length answers)) 3 values _
+
+  module _ (e : none ≡ calls-refusal job ks (length answers)) where
+    pub calls-12 : length values < 3 → called 12 answers values ≡ calls-export job ks answers values
+    unfolding calls-export
+    calls-12 = few (λ n. called n answers values) (calls-refusal job ks (length answers)) 3 values _ e
+
+    module _ (room : 3 ≤ length values) (x : Called) (a : List ℕ) (i : session.called x a ≡ calls-call job ks answers) where
+      on-calls : calls-export job ks answers values ≡ after-calls (session.called x a) values
+      unfolding calls-export
+      on-calls = behind (λ n. called n answers values) (calls-refusal job ks (length answers)) 3 values _ e room ∙ rw (← i)
+
+      pub calls-refused : (n : ℕ) → x ≡ calls.Refused n → called n a values ≡ calls-export job ks answers values
+      unfolding after-calls session.called called-answer number-of put
+      calls-refused n q = sym (on-calls ∙ rw q)
+
+      pub calls-done : (t : PinTotals) → x ≡ calls.Done t → (new : List ℕ) → new ≡ over (t .count ∷ t .size ∷ t .distortion ∷ []) values → called 0 a new ≡ calls-export job ks answers values
+      unfolding after-calls session.called called-answer number-of put pins-list
+      calls-done t q new w = sym (on-calls ∙ rw (q, w))
 
 -- planning after calls
-module _ (job calls answers table entries values : List ℕ) where
-  pub plan-12 : length values < 4 → planned 12 answers table entries values ≡ plan-export job calls answers table entries values
-  unfolding plan-export if_then_else_
-  plan-12 l = rw (lt-ltb (length values) 4 l)
+module _ (job ks answers table entries values : List ℕ) where
+  pub plan-before : (n : ℕ) → some n ≡ plan-refusal job ks (length answers) (length table) (length entries) → planned n answers table entries values ≡ plan-export job ks answers table entries values
+  unfolding plan-export
+  plan-before = before (λ n. planned n answers table entries values) (plan-refusal job ks (length answers) (length table) (length entries)) 4 values _
 
-  module _ (room : 4 ≤ length values) (x : Planned) (a t e : List ℕ) (i : sat-is x a t e ≡ sitting-call job calls answers table entries) where
-    pub plan-refused : (n : ℕ) → x ≡ plans.Refused n → planned n a t e values ≡ plan-export job calls answers table entries values
-    unfolding plan-export if_then_else_ after-sitting sat-is planner.planned planner.answered number-of put
-    plan-refused n q = rw (le-ltb (length values) 4 room, ← i, q)
+  module _ (e : none ≡ plan-refusal job ks (length answers) (length table) (length entries)) where
+    pub plan-12 : length values < 4 → planned 12 answers table entries values ≡ plan-export job ks answers table entries values
+    unfolding plan-export
+    plan-12 = few (λ n. planned n answers table entries values) (plan-refusal job ks (length answers) (length table) (length entries)) 4 values _ e
 
-    pub plan-best : (best : Totals) → x ≡ plans.Best best → (new : List ℕ) → new ≡ over (totals-values best) values → planned 0 a t e new ≡ plan-export job calls answers table entries values
-    unfolding plan-export if_then_else_ after-sitting sat-is planner.planned planner.answered number-of put totals-values
-    plan-best best q new w = rw (le-ltb (length values) 4 room, ← i, q, w)
+    module _ (room : 4 ≤ length values) (x : Planned) (a t p : List ℕ) (i : session-is x a t p ≡ session-call job ks answers table entries) where
+      on-plan : plan-export job ks answers table entries values ≡ after-session (session-is x a t p) values
+      unfolding plan-export
+      on-plan = behind (λ n. planned n answers table entries values) (plan-refusal job ks (length answers) (length table) (length entries)) 4 values _ e room ∙ rw (← i)
+
+      pub plan-refused : (n : ℕ) → x ≡ plans.Refused n → planned n a t p values ≡ plan-export job ks answers table entries values
+      unfolding after-session session-is planner.planned planner.answered number-of put
+      plan-refused n q = sym (on-plan ∙ rw q)
+
+      pub plan-best : (best : Totals) → x ≡ plans.Best best → (new : List ℕ) → new ≡ over (totals-values best) values → planned 0 a t p new ≡ plan-export job ks answers table entries values
+      unfolding after-session session-is planner.planned planner.answered number-of put totals-values
+      plan-best best q new w = sym (on-plan ∙ rw (q, w))
 
 -- a replay after calls
-module _ (job calls entries levels values : List ℕ) where
-  pub replay-12 : length values < 6 → replayed 12 levels values ≡ replay-export job calls entries levels values
-  unfolding replay-export if_then_else_
-  replay-12 l = rw (lt-ltb (length values) 6 l)
+module _ (job ks entries levels values : List ℕ) where
+  pub replay-before : (n : ℕ) → some n ≡ replay-refusal job ks entries (length levels) → replayed n levels values ≡ replay-export job ks entries levels values
+  unfolding replay-export
+  replay-before = before (λ n. replayed n levels values) (replay-refusal job ks entries (length levels)) 6 values _
 
-  module _ (room : 6 ≤ length values) (x : Replayed) (l : List ℕ) (i : ended x l ≡ replay-sitting job calls entries levels) where
-    pub replay-refused : (n : ℕ) → x ≡ replays.Refused n → replayed n l values ≡ replay-export job calls entries levels values
-    unfolding replay-export if_then_else_ after-replay ended replay.answered number-of put
-    replay-refused n q = rw (le-ltb (length values) 6 room, ← i, q)
+  module _ (e : none ≡ replay-refusal job ks entries (length levels)) where
+    pub replay-12 : length values < 6 → replayed 12 levels values ≡ replay-export job ks entries levels values
+    unfolding replay-export
+    replay-12 = few (λ n. replayed n levels values) (replay-refusal job ks entries (length levels)) 6 values _ e
 
-    pub replay-clean : (t : Totals) → x ≡ replays.Clean t → (new : List ℕ) → new ≡ over (0 ∷ 0 ∷ totals-values t) values → replayed 0 l new ≡ replay-export job calls entries levels values
-    unfolding replay-export if_then_else_ after-replay ended replay.answered number-of put replayed-list totals-values
-    replay-clean t q new w = rw (le-ltb (length values) 6 room, ← i, q, w)
+    module _ (room : 6 ≤ length values) (x : Replayed) (l : List ℕ) (i : ended x l ≡ replay-session job ks entries levels) where
+      on-replay : replay-export job ks entries levels values ≡ after-replay (ended x l) values
+      unfolding replay-export
+      on-replay = behind (λ n. replayed n levels values) (replay-refusal job ks entries (length levels)) 6 values _ e room ∙ rw (← i)
 
-    pub replay-violated : (n : ℕ) (v : Violation) → x ≡ replays.Violated n v → (k : ℕ) → k ≡ violation-number (violation v) → (new : List ℕ) → new ≡ over (k ∷ n ∷ totals-values record { distortion = 0; source = 0; channel = 0; unused = 0 }) values → replayed 0 l new ≡ replay-export job calls entries levels values
-    unfolding replay-export if_then_else_ after-replay ended replay.answered number-of put replayed-list totals-values totals-list totals-of
-    replay-violated n v q k f new w = rw (le-ltb (length values) 6 room, ← i, q, w, f)
+      pub replay-refused : (n : ℕ) → x ≡ replays.Refused n → replayed n l values ≡ replay-export job ks entries levels values
+      unfolding after-replay ended replay.answered number-of put
+      replay-refused n q = sym (on-replay ∙ rw q)
+
+      pub replay-clean : (t : Totals) → x ≡ replays.Clean t → (new : List ℕ) → new ≡ over (0 ∷ 0 ∷ totals-values t) values → replayed 0 l new ≡ replay-export job ks entries levels values
+      unfolding after-replay ended replay.answered number-of put replayed-list totals-values
+      replay-clean t q new w = sym (on-replay ∙ rw (q, w))
+
+      pub replay-violated : (n : ℕ) (v : Violation) → x ≡ replays.Violated n v → (k : ℕ) → k ≡ violation-number (violation v) → (t : Totals) → t ≡ no-totals → (new : List ℕ) → new ≡ over (k ∷ n ∷ totals-values t) values → replayed 0 l new ≡ replay-export job ks entries levels values
+      unfolding after-replay ended replay.answered number-of put replayed-list totals-values totals-list totals-of
+      replay-violated n v q k f t z new w = sym (on-replay ∙ rw (q, w, f, z))
 
 -- the report
 module _ (job entries sums : List ℕ) (x : Reported) (new : List ℕ) (i : replay.reported x new ≡ report-call job entries sums) where
@@ -94,20 +170,33 @@ module _ (job entries sums : List ℕ) (x : Reported) (new : List ℕ) (i : repl
 
 -- writing a job
 module _ (fields rates sizes distortions job values : List ℕ) where
-  pub write-12 : length values < 1 → written 12 job values ≡ write-export fields rates sizes distortions job values
-  unfolding write-export if_then_else_
-  write-12 l = rw (lt-ltb (length values) 1 l)
+  pub write-3 : (length fields ≡ 9 → ⊥) → written 3 job values ≡ write-export fields rates sizes distortions job values
+  unfolding write-export
+  write-3 f = sym (guarded-here (λ n. written n job values) _ _ _ (ne-eqb (length fields) 9 f))
 
-  module _ (room : 1 ≤ length values) where
-    pub write-3 : (length fields ≡ 9 → ⊥) → written 3 job values ≡ write-export fields rates sizes distortions job values
-    unfolding write-export if_then_else_
-    write-3 f = rw (le-ltb (length values) 1 room, ne-eqb (length fields) 9 f)
+  module _ (nine : length fields ≡ 9) (h : Header) (given : plain h ≡ header-of fields) where
+    abbrev looked : Option ℕ
+    looked = write-refusal (plain h) rates sizes distortions (length job)
 
-    module _ (nine : length fields ≡ 9) (h : Header) (given : plain h ≡ header-of fields) (x : Wrote) (new : List ℕ) (i : wrote x new ≡ write-call (plain h) rates sizes distortions job) where
-      pub write-refused : (n : ℕ) → x ≡ wrotes.Refused n → written n new values ≡ write-export fields rates sizes distortions job values
-      unfolding write-export if_then_else_ after-write wrote wrote-answer number-of put
-      write-refused n q = rw (le-ltb (length values) 1 room, eq-eqb (length fields) 9 nine, ← given, ← i, q)
+    nine-fields : write-export fields rates sizes distortions job values ≡ unless (λ n. written n job values) (first looked (refusal (room-for 1 values))) (after-write (write-call (plain h) rates sizes distortions job) values)
+    unfolding write-export
+    nine-fields = guarded-last (λ n. written n job values) _ _ (eq-eqb (length fields) 9 nine) ∙ rw (← given)
 
-      pub write-done : (n : ℕ) → x ≡ wrotes.Done n → (list : List ℕ) → list ≡ over (n ∷ []) values → written 0 new list ≡ write-export fields rates sizes distortions job values
-      unfolding write-export if_then_else_ after-write wrote wrote-answer number-of put
-      write-done n q list w = rw (le-ltb (length values) 1 room, eq-eqb (length fields) 9 nine, ← given, ← i, q, w)
+    pub write-before : (n : ℕ) → some n ≡ looked → written n job values ≡ write-export fields rates sizes distortions job values
+    write-before n e = before (λ n. written n job values) looked 1 values _ n e ∙ sym nine-fields
+
+    module _ (e : none ≡ looked) where
+      pub write-12 : length values < 1 → written 12 job values ≡ write-export fields rates sizes distortions job values
+      write-12 l = few (λ n. written n job values) looked 1 values _ e l ∙ sym nine-fields
+
+      module _ (room : 1 ≤ length values) (x : Wrote) (new : List ℕ) (i : wrote x new ≡ write-call (plain h) rates sizes distortions job) where
+        on-write : write-export fields rates sizes distortions job values ≡ after-write (wrote x new) values
+        on-write = nine-fields ∙ behind (λ n. written n job values) looked 1 values _ e room ∙ rw (← i)
+
+        pub write-refused : (n : ℕ) → x ≡ wrotes.Refused n → written n new values ≡ write-export fields rates sizes distortions job values
+        unfolding after-write wrote wrote-answer number-of put
+        write-refused n q = sym (on-write ∙ rw q)
+
+        pub write-done : (n : ℕ) → x ≡ wrotes.Done n → (list : List ℕ) → list ≡ over (n ∷ []) values → written 0 new list ≡ write-export fields rates sizes distortions job values
+        unfolding after-write wrote wrote-answer number-of put
+        write-done n q list w = sym (on-write ∙ rw (q, w))

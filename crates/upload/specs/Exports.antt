@@ -1,31 +1,31 @@
 -- What the exported calls answer and leave: the inner calls' answers as a number, 0 where a call is not refused, and values in a list.
 use Prim.Native.Nat.{ℕ, _+_}
 use mathlib.Core.List.{List, [], _∷_}
-use lib.Dec.{ltb, eqb}
+use lib.Dec.{leb, eqb}
 use lib.ListN.{length}
-use Rattle.model.specs.If.{if_then_else_}
-use Rattle.model.specs.Answer.{Answer, refused, gives}
+use Rattle.base.specs.Answer.{Answer, refused, gives}
+use Rattle.base.specs.Refusals.{Test, test, refusal, unless, first, guarded}
+use Rattle.base.specs.Lent.{Ended, over, put}
 use Rattle.model.specs.Admissible as v
+use Rattle.model.specs.Pins.{PinTotals}
 use Rattle.model.specs.Replay as model
-use Rattle.format.specs.JobBytes.{Header, header-of}
-use Rattle.pinning.specs.Calls.{open-call}
-use Rattle.replay.specs.declared.Totals.{Totals}
-use Rattle.replay.specs.Answers.{totals-of}
-use Rattle.model.specs.Lent.{Ended, over}
+use Rattle.format.specs.Parser.{on-took}
+use Rattle.format.specs.JobBytes.{Header, header-of, header-in, parse}
+use Rattle.interval.specs.declared.Totals.{Totals}
+use Rattle.interval.specs.Answers.{totals-of}
 use Rattle.replaying.specs.Calls.{Replayed, totals-are, violated, report-call}
-use Rattle.writing.specs.Calls.{write-call}
+use Rattle.writing.specs.Calls.{write-refusal, write-call}
 use Rattle.planner.specs.Answers.{table-words}
-use Rattle.planning.specs.Sittings.{Sat, sitting-call, replay-sitting}
+use Rattle.calling.specs.Sessions.{calls-refusal, calls-call, Session, plan-refusal, session-call, replay-refusal, replay-session}
 
 -- 0, or the number of the refusal
 unfoldable pub number-of : {A : Type 0} → Answer A → ℕ
 number-of (refused n) = n
 number-of (gives a) = 0
 
--- values over the first of a list, where there are any
-unfoldable pub put : {A : Type 0} → Answer A → (A → List ℕ) → List ℕ → List ℕ
-put (refused n) f list = list
-put (gives a) f list = over (f a) list
+-- 12: a list has room for so many values
+abbrev pub room-for : ℕ → List ℕ → List Test
+room-for n values = test 12 (leb n (length values)) ∷ []
 
 -- how many bytes a job took, N, T, and how many words its table has
 unfoldable pub opened-values : ℕ → Header → List ℕ
@@ -38,10 +38,30 @@ pub record Opened : Type 0 where
 abbrev pub opened : ℕ → List ℕ → Opened
 opened n values = record { number = n; values = values }
 
+-- the job, 1 to 5, then 12
 unfoldable pub open-export : List ℕ → List ℕ → Opened
-open-export b values =
-    if ltb (length values) 4 then opened 12 values
-    else opened (number-of (open-call b .answer)) (put (open-call b .answer) (λ k. opened-values k (open-call b .state .header)) values)
+open-export b values = on-took (λ n. opened n values) (parse b) (λ j k. guarded (λ n. opened n values) (room-for 4 values) (opened 0 (over (opened-values k (header-in j)) values)))
+
+-- how many pins there are, the sum of their sizes and the sum of their distortions
+unfoldable pub pins-list : PinTotals → List ℕ
+pins-list t = t .count ∷ t .size ∷ t .distortion ∷ []
+
+pub record Called : Type 0 where
+  pub number : ℕ
+  pub answers : List ℕ
+  pub values : List ℕ
+
+abbrev pub called : ℕ → List ℕ → List ℕ → Called
+called n answers values = record { number = n; answers = answers; values = values }
+
+unfoldable pub after-calls : Ended PinTotals → List ℕ → Called
+after-calls r values = called (number-of (r .answer)) (r .list) (put (r .answer) pins-list values)
+
+-- what refuses the calls, then 12 for the values, then the calls
+unfoldable pub calls-export : List ℕ → List ℕ → List ℕ → List ℕ → Called
+calls-export b calls answers values =
+    unless (λ n. called n answers values) (first (calls-refusal b calls (length answers)) (refusal (room-for 3 values)))
+    (after-calls (calls-call b calls answers) values)
 
 -- distortion, source size, channel size, and of each bucket the drain that went unused
 unfoldable pub totals-list : model.Totals → List ℕ
@@ -60,13 +80,13 @@ pub record Planned : Type 0 where
 abbrev pub planned : ℕ → List ℕ → List ℕ → List ℕ → List ℕ → Planned
 planned n answers table entries values = record { number = n; answers = answers; table = table; entries = entries; values = values }
 
-unfoldable pub after-sitting : Sat → List ℕ → Planned
-after-sitting r values = planned (number-of (r .planned .answer)) (r .answers) (r .planned .table) (r .planned .entries) (put (r .planned .answer) totals-list values)
+unfoldable pub after-session : Session → List ℕ → Planned
+after-session r values = planned (number-of (r .planned .answer)) (r .answers) (r .planned .table) (r .planned .entries) (put (r .planned .answer) totals-list values)
 
 unfoldable pub plan-export : List ℕ → List ℕ → List ℕ → List ℕ → List ℕ → List ℕ → Planned
 plan-export b calls answers table entries values =
-    if ltb (length values) 4 then planned 12 answers table entries values
-    else after-sitting (sitting-call b calls answers table entries) values
+    unless (λ n. planned n answers table entries values) (first (plan-refusal b calls (length answers) (length table) (length entries)) (refusal (room-for 4 values)))
+    (after-session (session-call b calls answers table entries) values)
 
 -- document 01's breaches, counted from 1 in the order in which it names them; there is one bucket
 unfoldable pub violation-number : v.Violation → ℕ
@@ -93,8 +113,8 @@ after-replay r values = replayed (number-of (r .answer)) (r .list) (put (r .answ
 
 unfoldable pub replay-export : List ℕ → List ℕ → List ℕ → List ℕ → List ℕ → Played
 replay-export b calls entries levels values =
-    if ltb (length values) 6 then replayed 12 levels values
-    else after-replay (replay-sitting b calls entries levels) values
+    unless (λ n. replayed n levels values) (first (replay-refusal b calls entries (length levels)) (refusal (room-for 6 values)))
+    (after-replay (replay-session b calls entries levels) values)
 
 pub record Reported : Type 0 where
   pub number : ℕ
@@ -121,6 +141,6 @@ after-write r values = written (number-of (r .answer)) (r .list) (put (r .answer
 -- fields that are not nine are no header
 unfoldable pub write-export : List ℕ → List ℕ → List ℕ → List ℕ → List ℕ → List ℕ → Written
 write-export fields rates sizes distortions job values =
-    if ltb (length values) 1 then written 12 job values
-    else if eqb (length fields) 9 then after-write (write-call (header-of fields) rates sizes distortions job) values
-    else written 3 job values
+    guarded (λ n. written n job values) (test 3 (eqb (length fields) 9) ∷ [])
+    (unless (λ n. written n job values) (first (write-refusal (header-of fields) rates sizes distortions (length job)) (refusal (room-for 1 values)))
+    (after-write (write-call (header-of fields) rates sizes distortions job) values))

@@ -1,2 +1,3 @@
--- What the exported calls answer and leave.
+-- What the exported calls answer and leave, and what is claimed of them.
 pub mod Exports
+pub mod Claims

@@ -1,25 +1,30 @@
 // The planner for programs in other languages: numbers and lists alone. Each function answers 0, or the number of document 01's refusal; its values go to a list that is lent.
-// A list for values that is too short is refused with 12 before anything else is looked at.
+// The job's refusals come first. A list for values that is too short is refused with 12, behind the other lists.
 ghost use mathlib.Core.Path.{_≡_};
 ghost use Prim.Native.Nat.{_≤_};
-ghost use mathlib.Core.List.{_∷_};
+ghost use mathlib.Core.List.{[], _∷_};
 ghost use lib.ListN.{length};
 ghost use Rattle.format.specs.JobBytes.{header-of};
 ghost use Rattle.job.specs.Answers.{plain};
-ghost use Rattle.replay.specs.Answers.{violation};
-ghost use Rattle.model.specs.Lent.{over};
-ghost use Rattle.upload.specs.Exports.{opened-values, totals-values, violation-number, opened, open-export, planned, plan-export, replayed, replay-export, reported, report-export, written, write-export};
+ghost use Rattle.interval.specs.Answers.{violation};
+ghost use Rattle.base.specs.Lent.{over};
+ghost use Rattle.upload.specs.Exports.{opened-values, totals-values, violation-number, opened, open-export, called, calls-export, planned, plan-export, replayed, replay-export, reported, report-export, written, write-export};
+use interval::Totals;
+use interval::Violation;
 use job::Header;
+use job::Verdict;
 use pins::Opening;
 use planner::Planned;
 use replay::Replayed;
 use replay::Reported;
-use replay::Totals;
-use replay::Violation;
+use session::Called;
+use session::PinTotals;
 use writer::Wrote;
 
 // How many values each call gives.
 const OPEN_VALUES: usize = 4;
+
+const CALLS_VALUES: usize = 3;
 
 const PLAN_VALUES: usize = 4;
 
@@ -46,7 +51,7 @@ fn put_opened(values: &mut [u64], taken: usize, header: Header)
 {
     values[0] = taken as u64;
     values[1] = header.units as u64;
-    values[2] = replay::intervals(header) as u64;
+    values[2] = entry::intervals(header) as u64;
     values[3] = planner::table_words(header) as u64;
 }
 
@@ -55,15 +60,15 @@ fn put_opened(values: &mut [u64], taken: usize, header: Header)
 pub extern "C" fn upload_open(job: &[u8], values: &mut [u64]) -> u32
     ensures { λ r. ⌜ opened r (now (values .exit)) ≡ open-export (now (job .entry)) (now (values .entry)) ⌝ }
 {
-    if values.len() < OPEN_VALUES {
-        return SHORT_LIST;
-    }
     let open = pins::open(job);
     let answer = open.answer;
     let set = open.set;
     match answer {
         Opening::Refused(n) => n as u32,
         Opening::Took(taken) => {
+            if values.len() < OPEN_VALUES {
+                return SHORT_LIST;
+            }
             let header = set.header;
             put_opened(values, taken, header);
             DONE
@@ -82,7 +87,42 @@ fn put_totals(values: &mut [u64], totals: Totals)
     values[3] = totals.unused as u64;
 }
 
-// Makes calls as numbers, three a call (6 pins, 7 lifts; the unit; the choice), refused ones included, and plans with the pins that they leave. Values: distortion, source size, channel size and unused drain of the plan.
+// Of pins: how many, the sum of their sizes and the sum of their distortions.
+fn put_pins(values: &mut [u64], totals: PinTotals)
+    requires { ⌜ 3 ≤ length (now values) ⌝ }
+    ensures { λ _. ⌜ now (values .exit) ≡ over (totals .count ∷ totals .size ∷ totals .distortion ∷ []) (now (values .entry)) ⌝ }
+{
+    values[0] = totals.count as u64;
+    values[1] = totals.size as u64;
+    values[2] = totals.distortion as u64;
+}
+
+// Makes calls as numbers, three a call (6 pins, 7 lifts; the unit; the choice), refused ones included, and no more. Each call's number goes to `answers`, 0 where it was taken. Values: how many pins the calls leave, the sum of their sizes and the sum of their distortions.
+#[no_mangle]
+pub extern "C" fn upload_calls(
+    job: &[u8],
+    calls: &[u16],
+    answers: &mut [u8],
+    values: &mut [u64],
+) -> u32
+    ensures { λ r. ⌜ called r (now (answers .exit)) (now (values .exit)) ≡ calls-export (now (job .entry)) (now (calls .entry)) (now (answers .entry)) (now (values .entry)) ⌝ }
+{
+    if let Verdict::Refused(n) = session::calls_refusal(job, calls, answers.len()) {
+        return n as u32;
+    }
+    if values.len() < CALLS_VALUES {
+        return SHORT_LIST;
+    }
+    match session::make_calls(job, calls, answers) {
+        Called::Refused(n) => n as u32,
+        Called::Done(totals) => {
+            put_pins(values, totals);
+            DONE
+        }
+    }
+}
+
+// Makes calls as numbers and plans with the pins that they leave. Where there is a plan, each call's number goes to `answers`; 13 writes the table alone. Values: distortion, source size, channel size and unused drain of the plan.
 #[no_mangle]
 pub extern "C" fn upload_plan(
     job: &[u8],
@@ -94,10 +134,19 @@ pub extern "C" fn upload_plan(
 ) -> u32
     ensures { λ r. ⌜ planned r (now (answers .exit)) (now (table .exit)) (now (entries .exit)) (now (values .exit)) ≡ plan-export (now (job .entry)) (now (calls .entry)) (now (answers .entry)) (now (table .entry)) (now (entries .entry)) (now (values .entry)) ⌝ }
 {
+    if let Verdict::Refused(n) = session::plan_refusal(
+        job,
+        calls,
+        answers.len(),
+        table.len(),
+        entries.len(),
+    ) {
+        return n as u32;
+    }
     if values.len() < PLAN_VALUES {
         return SHORT_LIST;
     }
-    match sitting::sit(job, calls, answers, table, entries) {
+    match session::plan_after(job, calls, answers, table, entries) {
         Planned::Refused(n) => n as u32,
         Planned::Best(totals) => {
             put_totals(values, totals);
@@ -142,10 +191,13 @@ pub extern "C" fn upload_replay(
 ) -> u32
     ensures { λ r. ⌜ replayed r (now (levels .exit)) (now (values .exit)) ≡ replay-export (now (job .entry)) (now (calls .entry)) (now (entries .entry)) (now (levels .entry)) (now (values .entry)) ⌝ }
 {
+    if let Verdict::Refused(n) = session::replay_refusal(job, calls, entries, levels.len()) {
+        return n as u32;
+    }
     if values.len() < REPLAY_VALUES {
         return SHORT_LIST;
     }
-    match sitting::replay_after(job, calls, entries, levels) {
+    match session::replay_after(job, calls, entries, levels) {
         Replayed::Refused(n) => n as u32,
         Replayed::Clean(totals) => {
             put_replayed(values, 0, 0, totals);
@@ -155,13 +207,8 @@ pub extern "C" fn upload_replay(
             interval,
             violation,
         } => {
-            let none = Totals {
-                distortion: 0,
-                source: 0,
-                channel: 0,
-                unused: 0,
-            };
-            put_replayed(values, violation_number(violation), interval, none);
+            let number = violation_number(violation);
+            put_replayed(values, number, interval, Totals::none());
             DONE
         }
     }
@@ -208,13 +255,23 @@ pub extern "C" fn upload_write(
 ) -> u32
     ensures { λ r. ⌜ written r (now (job .exit)) (now (values .exit)) ≡ write-export (now (fields .entry)) (now (rates .entry)) (now (sizes .entry)) (now (distortions .entry)) (now (job .entry)) (now (values .entry)) ⌝ }
 {
-    if values.len() < WRITE_VALUES {
-        return SHORT_LIST;
-    }
     if fields.len() != FIELDS {
         return NO_HEADER;
     }
-    match writer::write_job(header_of(fields), rates, sizes, distortions, job) {
+    let header = header_of(fields);
+    if let Verdict::Refused(n) = writer::write_refusal(
+        header,
+        rates,
+        sizes,
+        distortions,
+        job.len(),
+    ) {
+        return n as u32;
+    }
+    if values.len() < WRITE_VALUES {
+        return SHORT_LIST;
+    }
+    match writer::write_job(header, rates, sizes, distortions, job) {
         Wrote::Refused(n) => n as u32,
         Wrote::Done(taken) => {
             values[0] = taken as u64;

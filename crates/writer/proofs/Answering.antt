@@ -2,11 +2,14 @@
 use Prim.Native.Nat.{ℕ, _+_, _*_, _<_, _≤_}
 use mathlib.Core.Path.{_≡_, sym, ap, _∙_}
 use mathlib.Core.Option.{none, some}
-use mathlib.Core.List.{List}
+use mathlib.Core.List.{List, []}
 use native.Mathlib.Omega.{arith}
 use lib.ListN.{length, replicate}
-use Rattle.model.specs.Answer.{refused, gives}
-use Rattle.model.specs.Lent.{refuse, over}
+use borrow.Author.Tests.{lt-leb, le-leb}
+use Rattle.base.specs.Answer.{refused, gives}
+use Rattle.base.specs.Refusals.{refusal}
+use Rattle.base.specs.Lent.{refuse, over}
+use Rattle.base.proofs.Refusals.{refusal-here, refusal-last, unless-some, unless-none}
 use Rattle.format.specs.Fields.{spelled}
 use Rattle.format.specs.Limits.{broken}
 use Rattle.format.specs.Parser.{all-bytes}
@@ -14,34 +17,55 @@ use Rattle.format.specs.JobBytes.{Header, unit-bytes, encode}
 use Rattle.format.specs.Places.{job-size}
 use Rattle.format.proofs.Limits.{all-kept}
 use Rattle.writing.specs.Lists.{parted, codings-from, job-from}
-use Rattle.writing.specs.Calls.{write-limits, write-call}
+use Rattle.writing.specs.Calls.{write-limits, room-tests, write-refusal, write-call}
 use Rattle.writing.proofs.Order.{Accepted, accepted}
 use Rattle.writing.proofs.Writes.{header-given, taken, room-for}
-use Rattle.writing.proofs.Refusals.{refused-by, size-given, refusals}
+use Rattle.writing.proofs.Refusals.{size-given, refused-first, limits-kept, room-left}
 use Rattle.writer.specs.Answers.{put-at, front-numbers}
 use Rattle.writer.proofs.Records.{put-job}
 
-module _ (h : Header) (rates sizes distortions out : List ℕ) where
-  pub write-refused : (n : ℕ) → some n ≡ broken (write-limits h rates sizes distortions) → record { answer = refused n; list = out } ≡ write-call h rates sizes distortions out
-  unfolding refuse
-  write-refused n e = sym (refused-by h rates sizes distortions out n (sym e))
+-- the verdict before writing: the limits, then the room
+module _ (h : Header) (rates sizes distortions : List ℕ) (out : ℕ) where
+  pub limits-refuse : (n : ℕ) → some n ≡ broken (write-limits h rates sizes distortions) → some n ≡ write-refusal h rates sizes distortions out
+  unfolding write-refusal
+  limits-refuse n e = sym (unless-some some (broken (write-limits h rates sizes distortions)) n _ (sym e))
 
   module _ (e : none ≡ broken (write-limits h rates sizes distortions)) where
-    pub write-accepted : Accepted h rates sizes distortions
-    write-accepted = accepted h rates sizes distortions (all-kept _ (sym e))
+    room-decides : write-refusal h rates sizes distortions out ≡ refusal (room-tests (job-from h rates sizes distortions) out)
+    unfolding write-refusal
+    room-decides = unless-none some (broken (write-limits h rates sizes distortions)) _ (sym e)
 
-    pub write-short : length out < job-size h → record { answer = refused 12; list = out } ≡ write-call h rates sizes distortions out
-    unfolding refuse
-    write-short l = sym (refusals h rates sizes distortions out .0 .then-list (all-kept _ (sym e)) l)
+    size-is : length (encode (job-from h rates sizes distortions)) ≡ job-size h
+    size-is = size-given h rates sizes distortions [] (all-kept _ (sym e))
+
+    pub room-refuses : out < job-size h → some 12 ≡ write-refusal h rates sizes distortions out
+    unfolding room-tests
+    room-refuses l = sym (room-decides ∙ refusal-here _ _ (lt-leb (length (encode (job-from h rates sizes distortions))) out (omega (arith, size-is))))
+
+    pub all-fits : job-size h ≤ out → none ≡ write-refusal h rates sizes distortions out
+    unfolding room-tests
+    all-fits l = sym (room-decides ∙ refusal-last _ (le-leb (length (encode (job-from h rates sizes distortions))) out (omega (arith, size-is))))
+
+module _ (h : Header) (rates sizes distortions out : List ℕ) where
+  pub write-refused : (n : ℕ) → some n ≡ write-refusal h rates sizes distortions (length out) → record { answer = refused n; list = out } ≡ write-call h rates sizes distortions out
+  unfolding refuse
+  write-refused n e = sym (refused-first h rates sizes distortions out n (sym e))
+
+  module _ (e : none ≡ write-refusal h rates sizes distortions (length out)) where
+    pub write-accepted : Accepted h rates sizes distortions
+    write-accepted = accepted h rates sizes distortions (limits-kept h rates sizes distortions out (sym e))
+
+    pub write-room : job-size h ≤ length out
+    write-room = room-left h rates sizes distortions out (sym e)
 
     bytes-are : (m o p : List ℕ) → m ≡ put-at out 0 (spelled (replicate 13 2) (front-numbers h)) → o ≡ put-at m 26 (spelled (replicate (length rates) 2) rates) → p ≡ put-at o (26 + 2 * length rates) (all-bytes (unit-bytes (h .choices)) (parted (h .units) (h .choices) (codings-from sizes distortions))) → length (encode (job-from h rates sizes distortions)) ≤ length out → p ≡ over (encode (job-from h rates sizes distortions)) out
     unfolding job-from
     bytes-are m o p a b c fits = put-job h rates (parted (h .units) (h .choices) (codings-from sizes distortions)) (header-given h rates sizes distortions write-accepted) (omega (arith, write-accepted .lengths)) out m o p a b c fits
 
-    pub write-done : job-size h ≤ length out → (m o p : List ℕ) → m ≡ put-at out 0 (spelled (replicate 13 2) (front-numbers h)) → o ≡ put-at m 26 (spelled (replicate (length rates) 2) rates) → p ≡ put-at o (26 + 2 * length rates) (all-bytes (unit-bytes (h .choices)) (parted (h .units) (h .choices) (codings-from sizes distortions))) → record { answer = gives (job-size h); list = p } ≡ write-call h rates sizes distortions out
-    write-done l m o p a b c =
-        let k = all-kept _ (sym e) in
+    pub write-done : (m o p : List ℕ) → m ≡ put-at out 0 (spelled (replicate 13 2) (front-numbers h)) → o ≡ put-at m 26 (spelled (replicate (length rates) 2) rates) → p ≡ put-at o (26 + 2 * length rates) (all-bytes (unit-bytes (h .choices)) (parted (h .units) (h .choices) (codings-from sizes distortions))) → record { answer = gives (job-size h); list = p } ≡ write-call h rates sizes distortions out
+    write-done m o p a b c =
+        let k = limits-kept h rates sizes distortions out (sym e) in
         let s = size-given h rates sizes distortions out k in
         sym (taken h rates sizes distortions out k
-        ∙ room-for (job-from h rates sizes distortions) out s l
-        ∙ ap (λ (list : List ℕ). record { answer = gives (job-size h); list = list }) (sym (bytes-are m o p a b c (omega arith))))
+        ∙ room-for (job-from h rates sizes distortions) out s write-room
+        ∙ ap (λ (list : List ℕ). record { answer = gives (job-size h); list = list }) (sym (bytes-are m o p a b c (omega (arith, write-room)))))

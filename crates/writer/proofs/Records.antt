@@ -6,9 +6,9 @@ use native.Mathlib.Omega.{arith}
 use native.Mathlib.Nat.{suc-mul, mul-le-mul}
 use lib.ListN.{length, take, drop, replicate, length-append, length-drop}
 use lib.Seq.{drop-drop, length-take-le}
-use Rattle.model.specs.Lent.{over}
+use Rattle.base.specs.Lent.{over}
 use Rattle.model.specs.Job.{Coding, Job}
-use Rattle.model.proofs.Lent.{stored}
+use Rattle.base.proofs.Lent.{stored}
 use Rattle.format.specs.Fields.{bytes, total, spelled}
 use Rattle.format.specs.Parser.{all-bytes}
 use Rattle.format.specs.Records.{head-values, record-bytes}

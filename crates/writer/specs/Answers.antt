@@ -2,8 +2,8 @@
 use Prim.Native.Nat.{ℕ, _+_, _*_}
 use mathlib.Core.List.{List, [], _∷_, _++_}
 use lib.Seq.{sets}
-use Rattle.model.specs.Answer.{Answer, refused, gives}
-use Rattle.model.specs.Lent.{Ended}
+use Rattle.base.specs.Answer.{Answer, refused, gives}
+use Rattle.base.specs.Lent.{Ended}
 use Rattle.format.specs.JobBytes.{Header, header-values}
 use Rattle.writer.specs.declared.Wrote.{Wrote}
 use Rattle.writer.specs.declared.Wrote.the-variants as w

@@ -11,7 +11,7 @@ ghost use Rattle.format.specs.JobBytes.{header-limits, rate-limits, coding-limi
 ghost use Rattle.format.specs.Places.{job-size, unit-size};
 ghost use Rattle.job.specs.Answers.{plain, verdict};
 ghost use Rattle.writing.specs.Lists.{parted, codings-from};
-ghost use Rattle.writing.specs.Calls.{length-limits, write-limits, write-call};
+ghost use Rattle.writing.specs.Calls.{length-limits, write-limits, write-refusal, write-call};
 ghost use Rattle.writer.specs.Answers.{wrote, put-at, front-numbers};
 use job::Header;
 use job::Verdict;
@@ -189,6 +189,25 @@ pub fn job_size(header: Header) -> usize
     Header::SIZE + Header::HEAD + 2 * (header.rates as usize) + units
 }
 
+// What refuses a job to be written to so many bytes: 3, 16, 4 and 5, then 12.
+pub fn write_refusal(
+    header: Header,
+    rates: &[u16],
+    sizes: &[u16],
+    distortions: &[u32],
+    out: usize,
+) -> Verdict
+    ensures { λ r. ⌜ verdict r ≡ write-refusal (plain header) (now (rates .entry)) (now (sizes .entry)) (now (distortions .entry)) out ⌝ }
+{
+    if let Verdict::Refused(n) = lists_verdict(header, rates, sizes, distortions) {
+        return Verdict::Refused(n);
+    }
+    if out < job_size(header) {
+        return Verdict::Refused(job::refusal::LIST);
+    }
+    Verdict::Fits
+}
+
 // Writes the job of a header, its rates, and sizes and distortions by unit and choice, unit after unit. Bytes behind the job stay as they are.
 pub fn write_job(
     header: Header,
@@ -199,13 +218,10 @@ pub fn write_job(
 ) -> Wrote
     ensures { λ r. ⌜ wrote r (now (out .exit)) ≡ write-call (plain header) (now (rates .entry)) (now (sizes .entry)) (now (distortions .entry)) (now (out .entry)) ⌝ }
 {
-    if let Verdict::Refused(n) = lists_verdict(header, rates, sizes, distortions) {
+    if let Verdict::Refused(n) = write_refusal(header, rates, sizes, distortions, out.len()) {
         return Wrote::Refused(n);
     }
     let size = job_size(header);
-    if out.len() < size {
-        return Wrote::Refused(job::refusal::LIST);
-    }
     let body = Header::SIZE + Header::HEAD;
     let units = body + 2 * rates.len();
     put_front(out, header);

@@ -3,16 +3,17 @@ use Prim.Native.Nat.{ℕ}
 use mathlib.Core.Path.{_≡_, refl}
 use mathlib.Core.List.{List, [], _∷_, _++_, map, zipWith}
 use lib.ListN.{replicate}
-use Rattle.model.specs.Answer.{Answer, refused, gives}
-use Rattle.model.specs.Lent.{over, refuse, unless}
+use Rattle.base.specs.Answer.{Answer, refused, gives}
+use Rattle.base.specs.Refusals.{refusal, unless, guarded}
+use Rattle.base.specs.Lent.{over, refuse}
 use Rattle.format.specs.JobBytes.{Header, computes}
 use Rattle.format.specs.JobA.{header-a, bytes-a}
 use Rattle.writing.specs.Lists.{parted, codings-from, job-from}
-use Rattle.writing.specs.Calls.{write-limits, write-in, write-call}
+use Rattle.writing.specs.Calls.{write-limits, room-tests, write-in, write-call}
 
 -- its 64 bytes, in a list of 66
 writes-a : write-call header-a (0 ∷ 2 ∷ 4 ∷ []) (4 ∷ 2 ∷ 5 ∷ 2 ∷ []) (10 ∷ 30 ∷ 12 ∷ 40 ∷ []) (replicate 66 7) ≡ record { answer = gives 64; list = bytes-a ++ (7 ∷ 7 ∷ []) }
-unfolding computes header-a bytes-a zipWith parted codings-from job-from write-limits write-in unless write-call over refuse
+unfolding computes header-a bytes-a zipWith parted codings-from job-from write-limits room-tests write-in refusal guarded unless write-call over refuse
 writes-a = refl
 
 -- what is wrong, and the number: nothing but the output, a coding, a rate as well, a length as well, the header as well
@@ -31,5 +32,5 @@ refuses-a :
     ∷ number spoiled (0 ∷ 2 ∷ 2 ∷ []) (4 ∷ 2 ∷ 5 ∷ []) (10 ∷ 30 ∷ 12 ∷ 1000001 ∷ [])
     ∷ [])
     (map refused (12 ∷ 5 ∷ 4 ∷ 16 ∷ 3 ∷ []))
-unfolding computes header-a spoiled zipWith parted codings-from job-from write-limits write-in unless write-call over refuse
+unfolding computes header-a spoiled zipWith parted codings-from job-from write-limits room-tests write-in refusal guarded unless write-call over refuse
 refuses-a = refl

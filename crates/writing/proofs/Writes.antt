@@ -1,28 +1,29 @@
 -- What is written opens and holds what was given, and a job that opens is rewritten to its bytes: the round trips of `parse` and `encode`, of a job from lists.
 use Prim.Native.Nat.{ℕ, _*_, _≤_}
 use mathlib.Core.Path.{_≡_, refl, sym, ap, _∙_}
+use mathlib.Core.Bool.{Bool, true, false}
 use mathlib.Core.Option.{Option, none, some}
 use mathlib.Core.List.{List, [], _∷_, _++_, map}
 use native.Mathlib.Omega.{arith}
-use borrow.Author.Tests.{ltb-false, le-ltb}
-use lib.Dec.{ltb}
+use borrow.Author.Tests.{leb-true, le-leb}
+use lib.Dec.{leb}
 use lib.ListN.{length, take, drop, length-map}
 use lib.Seq.{length-take-le}
-use Rattle.model.specs.If.{if_then_else_}
-use Rattle.model.specs.Answer.{gives}
-use Rattle.model.specs.Lent.{Ended, over, refuse, unless}
+use Rattle.base.specs.Answer.{gives}
+use Rattle.base.specs.Refusals.{test, unless, guarded}
+use Rattle.base.proofs.Refusals.{guarded-here, guarded-last}
+use Rattle.base.specs.Lent.{Ended, over, refuse}
 use Rattle.model.specs.Job.{Coding, Job}
-use Rattle.model.proofs.Tests.{branch}
-use Rattle.model.proofs.Answers.{not-refused, gives-same}
-use Rattle.model.proofs.Lent.{over-length, over-rest}
+use Rattle.base.proofs.Answers.{not-refused, gives-same}
+use Rattle.base.proofs.Lent.{over-length, over-rest}
 use Rattle.format.specs.Limits.{broken, AllKept}
 use Rattle.format.specs.Parser.{Each, no-more, one-more}
-use Rattle.format.specs.JobBytes.{Header, job-of, header-in, parse, encode, UnitKept, WellFormed}
+use Rattle.format.specs.JobBytes.{Header, job-of, header-in, encode, UnitKept, WellFormed}
 use Rattle.format.proofs.Limits.{all-kept, none-broken}
 use Rattle.format.proofs.Header.{header-back}
 use Rattle.format.proofs.RoundTrip.{job-back, parse-encode, encode-parse}
 use Rattle.writing.specs.Lists.{joined, parted, sizes-in, distortions-in, codings-from, job-from}
-use Rattle.writing.specs.Calls.{write-limits, write-in, write-call}
+use Rattle.writing.specs.Calls.{write-limits, room-tests, write-in, write-call}
 use Rattle.writing.specs.Claims.{Written, Writes, Rewrites}
 use Rattle.writing.proofs.Order.{Accepted, accepted, accepts}
 use Rattle.writing.proofs.Lists.{joined-parted, parted-length, parted-joined, joined-length, sizes-back, distortions-back, codings-count, codings-back, joined-kept, parted-kept}
@@ -74,17 +75,19 @@ module _ (h : Header) (rates sizes distortions out : List ℕ) where
   abbrev Good : Ended ℕ → Type 0
   Good r = (n : ℕ) → r .answer ≡ gives n → Written h rates sizes distortions out n (r .list)
 
-  refused-good : (n : ℕ) → Good (refuse n out)
+  refused-good : (n : ℕ) → Good (refuse out n)
   unfolding refuse
   refused-good n k e = absurd (not-refused (sym e))
 
   written-good : Accepted h rates sizes distortions → Good (write-in (job-from h rates sizes distortions) out)
-  unfolding write-in
-  written-good a =
-      branch Good (ltb (length out) (length (encode (job-from h rates sizes distortions)))) (λ e. refused-good 12)
-      (λ e n q. over-written h rates sizes distortions a out (ltb-false (length out) _ e) n (gives-same q))
+  unfolding write-in room-tests
+  written-good a = go (leb (length (encode (job-from h rates sizes distortions))) (length out)) refl
+    where
+      go : (b : Bool) → leb (length (encode (job-from h rates sizes distortions))) (length out) ≡ b → Good (guarded (refuse out) (test 12 b ∷ []) (record { answer = gives (length (encode (job-from h rates sizes distortions))); list = over (encode (job-from h rates sizes distortions)) out }))
+      go true e = rw (guarded-last (refuse out) (test 12 true) (record { answer = gives (length (encode (job-from h rates sizes distortions))); list = over (encode (job-from h rates sizes distortions)) out }) refl) (λ n q. over-written h rates sizes distortions a out (leb-true _ (length out) e) n (gives-same q))
+      go false e = rw (guarded-here (refuse out) (test 12 false) [] (record { answer = gives (length (encode (job-from h rates sizes distortions))); list = over (encode (job-from h rates sizes distortions)) out }) refl) (refused-good 12)
 
-  call-good : (o : Option ℕ) → broken (write-limits h rates sizes distortions) ≡ o → Good (unless o out (write-in (job-from h rates sizes distortions) out))
+  call-good : (o : Option ℕ) → broken (write-limits h rates sizes distortions) ≡ o → Good (unless (refuse out) o (write-in (job-from h rates sizes distortions) out))
   unfolding unless
   call-good none e = written-good (accepted h rates sizes distortions (all-kept (write-limits h rates sizes distortions) e))
   call-good (some n) e = refused-good n
@@ -124,8 +127,8 @@ module _ (j : Job) (w : WellFormed j) where
 
 -- a list that has room for a job's bytes
 pub room-for : (j : Job) (out : List ℕ) {n : ℕ} → length (encode j) ≡ n → n ≤ length out → write-in j out ≡ record { answer = gives n; list = over (encode j) out }
-unfolding write-in if_then_else_
-room-for j out {n} k h = rw (k, le-ltb (length out) n h)
+unfolding write-in room-tests
+room-for j out {n} k h = guarded-last (refuse out) _ _ (le-leb (length (encode j)) (length out) (omega arith)) ∙ rw k
 
 over-same : (j : Job) (out l : List ℕ) (n : ℕ) → l ≡ encode j → length (encode j) ≡ n → _≡_ {A = Ended ℕ} (record { answer = gives n; list = over (encode j) out }) (record { answer = gives n; list = l ++ drop n out })
 unfolding over

@@ -1,10 +1,11 @@
 -- What is claimed of writing a job: each claim is a type, which a theorem of proofs/ inhabits.
-use Prim.Native.Nat.{ℕ, _<_, _≤_}
+use Prim.Native.Nat.{ℕ, _≤_}
 use mathlib.Core.Path.{_≡_}
-use mathlib.Core.List.{List, _++_}
+use mathlib.Core.List.{List, [], _∷_, _++_}
 use lib.ListN.{length, take, drop}
-use Rattle.model.specs.Answer.{gives}
-use Rattle.model.specs.Lent.{Ended, refuse, Keeping}
+use Rattle.base.specs.Answer.{gives}
+use Rattle.base.specs.Refusals.{Condition, condition, InOrder}
+use Rattle.base.specs.Lent.{refuse, Keeping}
 use Rattle.model.specs.Job.{Job}
 use Rattle.format.specs.Fields.{Bytes}
 use Rattle.format.specs.Limits.{AllKept}
@@ -12,7 +13,7 @@ use Rattle.format.specs.Parser.{took}
 use Rattle.format.specs.JobBytes.{Header, header-limits, rate-limits, coding-limits, header-in, parse}
 use Rattle.format.specs.Places.{job-size}
 use Rattle.writing.specs.Lists.{sizes-in, distortions-in, codings-from}
-use Rattle.writing.specs.Calls.{length-limits, write-limits, write-call}
+use Rattle.writing.specs.Calls.{length-limits, write-call}
 
 module _ (h : Header) (rates sizes distortions out : List ℕ) where
   -- what is written opens and holds the same header, rates and lists, and the bytes behind it are unchanged
@@ -26,14 +27,15 @@ module _ (h : Header) (rates sizes distortions out : List ℕ) where
     pub rest : drop n list ≡ drop n out
     pub size : length list ≡ length out
 
-  -- in which order the writer looks at what it is given, and that nothing else is refused
-  pub record WriteOrder (r : Ended ℕ) : Type 0 where
-    pub header-first : (AllKept (header-limits h) → ⊥) → r ≡ refuse 3 out
-    pub then-lengths : AllKept (header-limits h) → (AllKept (length-limits h rates sizes distortions) → ⊥) → r ≡ refuse 16 out
-    pub then-rates : AllKept (header-limits h) → AllKept (length-limits h rates sizes distortions) → (AllKept (rate-limits 0 rates) → ⊥) → r ≡ refuse 4 out
-    pub then-codings : AllKept (header-limits h) → AllKept (length-limits h rates sizes distortions) → AllKept (rate-limits 0 rates) → (AllKept (coding-limits (codings-from sizes distortions)) → ⊥) → r ≡ refuse 5 out
-    pub then-list : AllKept (write-limits h rates sizes distortions) → length out < job-size h → r ≡ refuse 12 out
-    pub else-taken : AllKept (write-limits h rates sizes distortions) → job-size h ≤ length out → r .answer ≡ gives (job-size h)
+  -- what the writer asks, in order
+  abbrev pub Asks : List Condition
+  Asks =
+      condition 3 (AllKept (header-limits h))
+      ∷ condition 16 (AllKept (length-limits h rates sizes distortions))
+      ∷ condition 4 (AllKept (rate-limits 0 rates))
+      ∷ condition 5 (AllKept (coding-limits (codings-from sizes distortions)))
+      ∷ condition 12 (job-size h ≤ length out)
+      ∷ []
 
 abbrev pub Writes : Type 0
 Writes = (h : Header) (rates sizes distortions out : List ℕ) (n : ℕ) → write-call h rates sizes distortions out .answer ≡ gives n → Written h rates sizes distortions out n (write-call h rates sizes distortions out .list)
@@ -42,5 +44,6 @@ Writes = (h : Header) (rates sizes distortions out : List ℕ) (n : ℕ) → wri
 abbrev pub Rewrites : Type 0
 Rewrites = (b : List ℕ) → Bytes b → (j : Job) (n : ℕ) → parse b ≡ took j n → (out : List ℕ) → n ≤ length out → write-call (header-in j) (j .line .rates) (sizes-in j) (distortions-in j) out ≡ record { answer = gives n; list = take n b ++ drop n out }
 
+-- the first that does not hold refuses, nothing else does, and a refusal leaves the bytes as they came
 abbrev pub Refusals : Type 0
-Refusals = (h : Header) (rates sizes distortions out : List ℕ) → WriteOrder h rates sizes distortions out (write-call h rates sizes distortions out) × Keeping out (write-call h rates sizes distortions out)
+Refusals = (h : Header) (rates sizes distortions out : List ℕ) → InOrder (write-call h rates sizes distortions out) (refuse out) (Asks h rates sizes distortions out) (write-call h rates sizes distortions out .answer ≡ gives (job-size h)) × Keeping out (write-call h rates sizes distortions out)

@@ -6,7 +6,9 @@ use Rattle.format.specs.Fields.{total}
 use Rattle.format.specs.Limits.{broken}
 use Rattle.format.specs.JobBytes.{Header, header-limits, header-form, rates-form, unit-form}
 use Rattle.format.proofs.Records.{total-same, total-entries}
+use Rattle.format.specs.Records.{plain-form}
 use Rattle.job.specs.Answers.{form-of}
+use Rattle.job.proofs.Verdicts.{fits}
 use Rattle.job.proofs.Records.{record-refused, record-there, record-by-fields, body-room}
 use Rattle.job.proofs.record_verdict.Statement.{statement}
 use Rattle.job.proofs.record_verdict.Tie as tie
@@ -77,6 +79,16 @@ returns-4 c =
     record-by-fields _ _ _ (t .before .before .shape-verdict .ensures) (t .enum-told .given .1) _
     (rw (c .before .before .due2 .given .1) (c .codings-verdict .ensures))
 
+enum-told-3 : tie.Need-enum-told-3
+enum-told-3 c = search needs
+
+returns-5 : tie.Need-returns-5
+unfolding form-of plain-form
+returns-5 c =
+    let t = c .before .before .before in
+    record-by-fields _ _ _ (t .before .before .shape-verdict .ensures) (t .enum-told .given .1) _
+    (rw (c .enum-told3 .given .1) (fits _ tt))
+
 pub record-verdict-spec : {M : Type 1} → statement M
 record-verdict-spec =
     tie.close
@@ -95,6 +107,8 @@ record-verdict-spec =
     rates-verdict-requires
     enum-known-due-2
     codings-verdict-requires
+    enum-told-3
     returns-2
     returns-3
-    returns-4)
+    returns-4
+    returns-5)

@@ -1,4 +1,3 @@
-use Rattle.model.specs.Table.{mark}
 use Rattle.layer.specs.Blocks.{Made}
 use Rattle.layer.proofs.Blocks.{made-none, made-more}
 use mathlib.Core.Path.{_≡_, refl}
@@ -9,10 +8,10 @@ use Rattle.layer.proofs.clear_words.Statement.{statement}
 use Rattle.layer.proofs.clear_words.Tie as tie
 
 abbrev Inv-loop : tie.InvT-loop
-Inv-loop block₀ count i₀ block i = (i ≤ count) × Made 0 i (λ k. mark) block₀ block
+Inv-loop block₀ count word i₀ block i = (i ≤ count) × Made 0 i (λ k. word) block₀ block
 
 abbrev μ-loop : tie.MeasureT-loop
-μ-loop block₀ count i₀ block i = count - i
+μ-loop block₀ count word i₀ block i = count - i
 
 loop-holds : tie.Need-loop-holds Inv-loop μ-loop
 loop-holds c = (search needs, made-none _ _ _)

@@ -1,44 +1,54 @@
-use Rattle.layer.proofs.Blocks.{least-none, least-more, least-all}
-use Rattle.layer.proofs.Choices.{past-rows}
-use Rattle.layer.specs.Blocks.{LeastOf}
+use Prim.Native.Nat.{_+_, _-_, _<_, _≤_}
+use mathlib.Core.Path.{_≡_}
+use native.Mathlib.Omega.{arith}
+use lib.ListN.{length, getD}
 use Rattle.planning.specs.Passes.{row-offer}
 use Rattle.layer.specs.Answers.{combine, priced}
-use mathlib.Core.Path.{_≡_}
-use Prim.Native.Nat.{_≤_, _-_, _+_}
-use native.Mathlib.Omega.{arith}
+use Rattle.layer.specs.Near.{NearestOf}
+use Rattle.layer.proofs.Near.{nearest-none, nearest-more, nearest-closed}
 use borrow.Author.Needs.{needs}
 use Rattle.layer.proofs.decoded_block.Statement.{statement}
 use Rattle.layer.proofs.decoded_block.Tie as tie
 
 abbrev Inv-loop : tie.InvT-loop
-Inv-loop block₀ next width prices aim start count end size₀ block size = (size ≤ end) × LeastOf count size (λ i x. row-offer (combine aim) width next (start + i) (priced prices x)) block
+Inv-loop block₀ words width sizes prices aim start count offers i₀ block i = (i ≤ offers) × NearestOf count i (λ k j. row-offer (combine aim) width words (start + k) (priced prices (getD sizes j 0))) block
 
 abbrev μ-loop : tie.MeasureT-loop
-μ-loop block₀ next width prices aim start count end size₀ block size = end - size
+μ-loop block₀ words width sizes prices aim start count offers i₀ block i = offers - i
+
+-- a listed size has its place among the prices
+below : (c : tie.After-shared-slice-known3 Inv-loop μ-loop) → getD (c .before .before .before .before .before .before .before .args .sizes .now) (c .before .before .loop .i) 0 < 256
+below c =
+    let l = c .before .before in
+    l .before .before .before .before .before .pre .1 .listed .below (l .loop .i) (omega arith)
 
 clear-words-requires : tie.Need-clear-words-requires Inv-loop μ-loop
 clear-words-requires c κs = search needs
 
-add-sizes-within : tie.Need-add-sizes-within Inv-loop μ-loop
-add-sizes-within c = search needs
-
-sizes-within-requires : tie.Need-sizes-within-requires Inv-loop μ-loop
-sizes-within-requires c κs = search needs
-
 loop-holds : tie.Need-loop-holds Inv-loop μ-loop
-loop-holds c = (search needs, least-none _ _ _ _ (c .before .before .before .before .pre .0) (c .before .clear-words .ensures))
+loop-holds c = (search needs, nearest-none _ _ _ _ (c .before .before .before .before .pre .0) (c .before .before .before .before .pre .2) (c .clear-words .ensures))
+
+shared-slice-read-size : tie.Need-shared-slice-read-size Inv-loop μ-loop
+shared-slice-read-size c = search needs
+
+cast-size : tie.Need-cast-size Inv-loop μ-loop
+cast-size c = record { fits = omega (arith, below c) }
 
 mul-distortion : tie.Need-mul-distortion Inv-loop μ-loop
-mul-distortion c = search needs
+mul-distortion c = record { fits = omega (arith, below c) }
 
 element-copy-out-distortion : tie.Need-element-copy-out-distortion Inv-loop μ-loop
-element-copy-out-distortion c = search needs
+element-copy-out-distortion c = omega (arith, below c, c .before .before .before .before .before .before .before .pre .1 .size)
 
 with-size-requires : tie.Need-with-size-requires Inv-loop μ-loop
-with-size-requires c κs = search needs
+with-size-requires c κs =
+    let l = c .before .before .before .before in
+    let a = l .before .before .before .before .before in
+    let d = a .pre .1 in
+    (l .loop .inv .1 .numbers, d .near, a .pre .3, d .narrow, d .listed .below (l .loop .i) (omega arith), d .listed .price (l .loop .i) (omega arith))
 
-add-size : tie.Need-add-size Inv-loop μ-loop
-add-size c = search needs
+add-i : tie.Need-add-i Inv-loop μ-loop
+add-i c = search needs
 
 loop-less : tie.Need-loop-less Inv-loop μ-loop
 loop-less c = search needs
@@ -46,15 +56,19 @@ loop-less c = search needs
 loop-again : tie.Need-loop-again Inv-loop μ-loop
 unfolding priced
 loop-again c =
-    let l = c .before .before .before .before in
-    (omega arith, least-more _ (l .loop .size) _ (l .loop .block) _ (l .loop .inv .1) (c .with-size .ensures))
+    let l = c .before .before .before .before .before in
+    (omega arith, nearest-more _ (l .loop .i) _ (l .loop .block) _ (l .loop .inv .1) (c .with-size .ensures))
+
+close-words-requires : tie.Need-close-words-requires Inv-loop μ-loop
+close-words-requires c κs =
+    let l = c .before .before in
+    (l .loop .inv .1 .numbers .size, l .loop .inv .1 .numbers .few)
 
 returns : tie.Need-returns Inv-loop μ-loop
 returns c =
-    let l = c .before in
-    let w = l .before .sizes-within .ensures in
-    let e : l .loop .size ≡ l .before .sizes-within .result = omega arith in
-    least-all _ _ 256 _ _ (w .few) (λ i x h k b. past-rows _ _ _ _ _ x (omega (arith, w .larger x k b))) (rw e at (l .loop .inv .1))
+    let l = c .before .before .before in
+    let e : l .loop .i ≡ length (l .before .before .before .before .before .args .sizes .now) = omega arith in
+    nearest-closed _ _ _ _ _ (rw e at (l .loop .inv .1)) (c .close-words .ensures)
 
 pub decoded-block-spec : {M : Type 1} → statement M
 decoded-block-spec =
@@ -63,13 +77,14 @@ decoded-block-spec =
     Inv-loop
     μ-loop
     clear-words-requires
-    add-sizes-within
-    sizes-within-requires
     loop-holds
+    shared-slice-read-size
+    cast-size
     mul-distortion
     element-copy-out-distortion
     with-size-requires
-    add-size
+    add-i
     loop-less
     loop-again
+    close-words-requires
     returns)

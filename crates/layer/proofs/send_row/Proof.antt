@@ -13,17 +13,17 @@ use Rattle.layer.proofs.send_row.Statement.{statement}
 use Rattle.layer.proofs.send_row.Tie as tie
 
 abbrev Inv-loop : tie.InvT-loop
-Inv-loop part₀ line start rows width block₀ level₀ part block level = (level ≤ line .outer .size + 1) × (length block ≡ 256) × (length part ≡ length part₀) × BlocksMade start level (line .outer .size + 1) (line .inner .size + 1) (λ k j. least-below (line .count) (λ y. rate-read (line .outer) (line .inner) rows (drop start part₀) k j (getD (line .rates) y 0))) part₀ part
+Inv-loop part₀ block₀ line start rows width level₀ part block level = (level ≤ line .outer .size + 1) × (length block ≡ 256) × (length part ≡ length part₀) × BlocksMade start level (line .outer .size + 1) (line .inner .size + 1) (λ k j. least-below (line .count) (λ y. rate-read (line .outer) (line .inner) rows (drop start part₀) k j (getD (line .rates) y 0))) part₀ part
 
 abbrev μ-loop : tie.MeasureT-loop
-μ-loop part₀ line start rows width block₀ level₀ part block level = level
+μ-loop part₀ block₀ line start rows width level₀ part block level = level
 
 -- the block stands in the part
 room : (c : tie.In-loop Inv-loop μ-loop) → c .before .before .before .before .before .args .start + (c .before .loop .level - 1) * (c .before .before .before .before .before .args .line .inner .size + 1) + (c .before .before .before .before .before .args .line .inner .size + 1) ≤ length (c .before .loop .part)
 room c =
     let l = c .before in
     let a = l .before .before .before .before in
-    block-end (a .args .rows) (a .args .line .outer .size + 1) (a .args .line .inner .size + 1) (l .loop .level - 1) (a .args .start) (length (l .loop .part)) (a .pre .1) (omega (arith, c .loop-test .taken, l .loop .inv .0)) (omega (arith, a .pre .2, l .loop .inv .2))
+    block-end (a .args .rows) (a .args .line .outer .size + 1) (a .args .line .inner .size + 1) (l .loop .level - 1) (a .args .start) (length (l .loop .part)) (a .pre .2) (omega (arith, c .loop-test .taken, l .loop .inv .0)) (omega (arith, a .pre .3, l .loop .inv .2))
 
 cast-width : tie.Need-cast-width Inv-loop μ-loop
 cast-width c = search needs
@@ -38,7 +38,7 @@ add-level : tie.Need-add-level Inv-loop μ-loop
 add-level c = search needs
 
 loop-holds : tie.Need-loop-holds Inv-loop μ-loop
-loop-holds c = (search needs, refl, refl, blocks-none _ _ _ _ _)
+loop-holds c = (search needs, c .before .before .before .pre .0, refl, blocks-none _ _ _ _ _)
 
 sub-level : tie.Need-sub-level Inv-loop μ-loop
 sub-level c = search needs
@@ -69,7 +69,7 @@ put-words-requires c κs =
     let d = c .before .before in
     let i = d .before .before .before .before in
     let a = i .before .before .before .before .before in
-    (d .sent-block .ensures .size, omega (arith, a .pre .0 .inner), room i)
+    (d .sent-block .ensures .size, omega (arith, a .pre .1 .inner), room i)
 
 loop-less : tie.Need-loop-less Inv-loop μ-loop
 loop-less c = search needs
@@ -91,7 +91,7 @@ returns : tie.Need-returns Inv-loop μ-loop
 returns c =
     let l = c .before in
     let e : l .loop .level ≡ 0 = omega arith in
-    rw e at (l .loop .inv .3)
+    (l .loop .inv .1, rw e at (l .loop .inv .3))
 
 pub send-row-spec : {M : Type 1} → statement M
 send-row-spec =

@@ -1,16 +1,16 @@
 use native.Mathlib.Omega.{arith}
+use lib.Seq.{getD-drop}
 use Rattle.layer.proofs.Sizes.{product-small}
-use Rattle.layer.proofs.Choices.{barred-lowered, size-made}
+use Rattle.layer.proofs.Blocks.{part-size}
+use Rattle.layer.proofs.Near.{near-upto, near-part}
+use Rattle.layer.proofs.Choices.{size-made}
 use borrow.Author.Needs.{needs}
 use Rattle.layer.proofs.with_size.Statement.{statement}
 use Rattle.layer.proofs.with_size.Tie as tie
 
-returns : tie.Need-returns
-returns c = barred-lowered _ _ _ _ _ _ _ _ (c .if1 .taken)
-
 mul-back : tie.Need-mul-back
 mul-back c =
-    let a = c .before .before .args in
+    let a = c .before .args in
     record { fits = omega (arith, product-small (a .size) (a .width) (omega arith) (omega arith)) }
 
 beyond-requires : tie.Need-beyond-requires
@@ -25,41 +25,46 @@ beyond-requires-3 c κs = search needs
 add-end : tie.Need-add-end
 add-end c = search needs
 
-mul-lessen-charged : tie.Need-mul-lessen-charged
-mul-lessen-charged c = search needs
+mul-lessen-combined : tie.Need-mul-lessen-combined
+mul-lessen-combined c = search needs
 
-sub-lessen-charged : tie.Need-sub-lessen-charged
-sub-lessen-charged c = search needs
+sub-lessen-combined : tie.Need-sub-lessen-combined
+sub-lessen-combined c = search needs
 
-part-lessen-charged-start : tie.Need-part-lessen-charged-start
-part-lessen-charged-start c = search needs
+part-lessen-combined-start : tie.Need-part-lessen-combined-start
+part-lessen-combined-start c = search needs
 
-part-lessen-charged-end : tie.Need-part-lessen-charged-end
-part-lessen-charged-end c = search needs
+part-lessen-combined-end : tie.Need-part-lessen-combined-end
+part-lessen-combined-end c = search needs
 
-lessen-charged-requires : tie.Need-lessen-charged-requires
-lessen-charged-requires c κs = search needs
+lessen-combined-requires : tie.Need-lessen-combined-requires
+lessen-combined-requires c κs =
+    let b = c .before .before in
+    let a = b .before .before .before .before in
+    let from = b .before .beyond2 .ensures in
+    let n = b .beyond3 .ensures in
+    let w = near-part (b .before .beyond2 .result) (b .beyond3 .result) (a .args .words .now) (omega arith) (a .pre .1) in
+    let long = part-size (b .before .beyond2 .result) (b .beyond3 .result) (a .args .words .now) (omega arith) in
+    (a .pre .0 .size, omega arith, a .pre .5, near-upto _ w, record { each = λ i h. rw (getD-drop _ (a .args .block .now) i 0) (a .pre .0 .low .each _ (omega (arith, b .before .before .beyond .ensures))) })
 
-returns-2 : tie.Need-returns-2
-returns-2 c =
+returns : tie.Need-returns
+returns c =
     let b = c .before .before .before in
-    let i = b .before .before .before in
-    let a = i .before .before in
-    size-made _ _ (a .args .width) (a .args .start) (a .args .next .now) (a .args .size) (a .args .distortion) (a .pre .3) (i .if1 .left) _ _ _ _ _ (b .before .before .beyond .ensures) (b .before .beyond2 .ensures) (b .beyond3 .ensures) (c .lessen-charged .ensures)
+    let a = b .before .before .before .before in
+    size-made (a .args .aim) _ (a .args .width) (a .args .start) (a .args .words .now) (a .args .size) (a .args .distortion) (a .pre .2) (a .pre .5) (a .pre .1) _ _ _ _ _ (b .before .before .beyond .ensures) (b .before .beyond2 .ensures) (b .beyond3 .ensures) (c .lessen-combined .ensures)
 
 pub with-size-spec : {M : Type 1} → statement M
 with-size-spec =
     tie.close
     (tie.spec
-    returns
     mul-back
     beyond-requires
     beyond-requires-2
     beyond-requires-3
     add-end
-    mul-lessen-charged
-    sub-lessen-charged
-    part-lessen-charged-start
-    part-lessen-charged-end
-    lessen-charged-requires
-    returns-2)
+    mul-lessen-combined
+    sub-lessen-combined
+    part-lessen-combined-start
+    part-lessen-combined-end
+    lessen-combined-requires
+    returns)

@@ -1,7 +1,6 @@
-use mathlib.Core.Path.{sym, _∙_}
+use mathlib.Core.Path.{sym, _∙_, _≡_}
 use borrow.Author.Tests.{not-true, not-false}
-use Rattle.model.proofs.All.{all-none, all-more, all-stop}
-use mathlib.Core.Path.{_≡_}
+use Rattle.base.proofs.All.{all-none, all-more, all-stop}
 use Prim.Native.Nat.{_≤_, _-_}
 use native.Mathlib.Omega.{arith}
 use borrow.Author.Needs.{needs}

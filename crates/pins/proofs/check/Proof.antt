@@ -1,6 +1,6 @@
 use mathlib.Core.Path.{_≡_}
 use lib.ListN.{length}
-use Rattle.pins.specs.Answers.{state}
+use Rattle.pins.specs.Answers.{set-of}
 use Rattle.pins.proofs.Answering.{few-units, check-refused, check-took, check-six}
 use Rattle.job.proofs.Answers.{answer-took, answer-refused}
 use Rattle.job.specs.Answers.{plain}
@@ -44,7 +44,7 @@ returns-2 c =
     let h = f .before .before in
     let read = h .before .before .read in
     let size = pins-size (h .before .before .before .before) in
-    (size, check-took _ _ _ _ (answer-took _ (read .result) _ _ (read .ensures) (h .header .given .1)) (unfold state in size) (sym (c .if1 .taken) ∙ f .fits2 .ensures))
+    (size, check-took _ _ _ _ (answer-took _ (read .result) _ _ (read .ensures) (h .header .given .1)) (unfold set-of in size) (sym (c .if1 .taken) ∙ f .fits2 .ensures))
 
 returns-3 : tie.Need-returns-3
 returns-3 c =
@@ -52,7 +52,7 @@ returns-3 c =
     let h = f .before .before in
     let read = h .before .before .read in
     let size = pins-size (h .before .before .before .before) in
-    (size, check-six _ _ _ _ (answer-took _ (read .result) _ _ (read .ensures) (h .header .given .1)) (unfold state in size) (sym (c .if1 .left) ∙ f .fits2 .ensures))
+    (size, check-six _ _ _ _ (answer-took _ (read .result) _ _ (read .ensures) (h .header .given .1)) (unfold set-of in size) (sym (c .if1 .left) ∙ f .fits2 .ensures))
 
 pub check-spec : {M : Type 1} → statement M
 check-spec =

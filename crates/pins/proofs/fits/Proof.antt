@@ -1,5 +1,5 @@
 use Rattle.pinning.proofs.Agree.{fits-not-header, fits-not-bytes, fits-by-totals}
-use Rattle.pins.specs.Answers.{state}
+use Rattle.pins.specs.Answers.{set-of}
 use Rattle.pinning.specs.Check.{same-totals}
 use Rattle.job.specs.Answers.{plain}
 use borrow.Author.Tests.{not-true, not-false}
@@ -12,14 +12,14 @@ same-requires : tie.Need-same-requires
 same-requires c κs = search needs
 
 returns : tie.Need-returns
-unfolding state
+unfolding set-of
 returns c = fits-not-header _ _ _ (sym (c .before .same .ensures) ∙ not-true _ (c .if1 .taken))
 
 bytes-fit-requires : tie.Need-bytes-fit-requires
 bytes-fit-requires c κs = search needs
 
 returns-2 : tie.Need-returns-2
-unfolding state
+unfolding set-of
 returns-2 c =
     let s = c .before .before .before .before in
     fits-not-bytes _ _ _ (sym (s .before .same .ensures) ∙ not-false _ (s .if1 .left)) (sym (c .before .bytes-fit .ensures) ∙ not-true _ (c .if2 .taken))
@@ -31,7 +31,7 @@ same-totals-requires : tie.Need-same-totals-requires
 same-totals-requires c κs = search needs
 
 returns-3 : tie.Need-returns-3
-unfolding state plain
+unfolding set-of plain
 returns-3 c =
     let e = c .before .before .before in
     let s = e .before .before .before .before in

@@ -1,14 +1,12 @@
 use Rattle.pins.proofs.Totals.{held}
-use Rattle.pinning.proofs.Calls.{lift-seven, lift-ten, lift-taken, place-below, pinned-below}
-use Rattle.pins.specs.Answers.{state, number, handed}
+use Rattle.pins.proofs.Calls.{lift-seven, lift-ten, lift-taken, place-below, pinned-below}
+use Rattle.pins.specs.Answers.{set-of, number, handed}
 use Rattle.pinning.specs.Calls.{take-in}
 use Rattle.job.specs.Answers.{plain}
 use mathlib.Core.Path.{refl, sym, _∙_}
 use borrow.Author.Needs.{needs}
 use Rattle.pins.proofs.lift_line.Statement.{statement}
 use Rattle.pins.proofs.lift_line.Tie as tie
-use Rattle.pins.proofs.lift_line.Reads as reads
-use Rattle.pins.proofs.lift_line.Lts as lts
 
 outside-requires : tie.Need-outside-requires
 outside-requires c κs = search needs
@@ -42,7 +40,7 @@ refused-requires-2 : tie.Need-refused-requires-2
 refused-requires-2 c κs = search needs
 
 returns-2 : tie.Need-returns-2
-unfolding plain state
+unfolding plain set-of
 returns-2 c =
     let t = c .before in
     let e = t .before .before in
@@ -56,7 +54,7 @@ coding-at-requires : tie.Need-coding-at-requires
 coding-at-requires c κs = search needs
 
 without-pin-requires : tie.Need-without-pin-requires
-unfolding plain state
+unfolding plain set-of
 without-pin-requires c κs =
     let f = c .before in
     let e = f .before .before in
@@ -65,7 +63,7 @@ without-pin-requires c κs =
     (held _ _ _ (o .before .before .pre) _ (sym (o .outside .ensures) ∙ e .if1 .left) _ below _ (c .coding-at .ensures) refl (f .if2 .left))
 
 returns-3 : tie.Need-returns-3
-unfolding plain state handed number take-in
+unfolding plain set-of handed number take-in
 returns-3 c =
     let a = c .before in
     let f = a .before in

@@ -1,5 +1,5 @@
 use Rattle.pins.proofs.Answering.{open-refused, open-took}
-use Rattle.pinning.specs.State.{fresh}
+use Rattle.pinning.specs.PinSet.{fresh}
 use Rattle.job.proofs.Answers.{answer-took, answer-refused}
 use mathlib.Core.Path.{_∙_, ap}
 use borrow.Author.Needs.{needs}

@@ -1,4 +1,4 @@
-use Rattle.pinning.proofs.Calls.{outside-low, outside-high}
+use Rattle.pins.proofs.Calls.{outside-low, outside-high}
 use Rattle.pins.proofs.outside.Statement.{statement}
 use Rattle.pins.proofs.outside.Tie as tie
 

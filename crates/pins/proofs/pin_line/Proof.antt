@@ -1,16 +1,14 @@
 use Rattle.pins.proofs.Totals.{room}
-use Rattle.pinning.proofs.Calls.{choices-are, job-limits}
+use Rattle.format.proofs.Opened.{choices-are, job-limits}
 use native.Mathlib.Omega.{arith}
-use Rattle.pinning.proofs.Calls.{pin-seven, pin-eight, pin-nine, pin-taken, place-below}
-use Rattle.pins.specs.Answers.{state, number, handed}
+use Rattle.pins.proofs.Calls.{pin-seven, pin-eight, pin-nine, pin-taken, place-below}
+use Rattle.pins.specs.Answers.{set-of, number, handed}
 use Rattle.pinning.specs.Calls.{take-in}
 use Rattle.job.specs.Answers.{plain}
 use mathlib.Core.Path.{sym, _∙_}
 use borrow.Author.Needs.{needs}
 use Rattle.pins.proofs.pin_line.Statement.{statement}
 use Rattle.pins.proofs.pin_line.Tie as tie
-use Rattle.pins.proofs.pin_line.Reads as reads
-use Rattle.pins.proofs.pin_line.Lts as lts
 
 outside-requires : tie.Need-outside-requires
 outside-requires c κs = search needs
@@ -57,7 +55,7 @@ refused-requires-3 : tie.Need-refused-requires-3
 refused-requires-3 c κs = search needs
 
 returns-3 : tie.Need-returns-3
-unfolding plain state
+unfolding plain set-of
 returns-3 c =
     let t = c .before in
     let l = t .before .before in
@@ -73,7 +71,7 @@ unfolding plain
 cast-with-pin c =
     let l = c .before .before .before in
     let s = l .before .before .before .before in
-    (record { fits = omega (arith, choices-are _ _ _ (s .pre), job-limits _ _ _ (s .pre) .choices) })
+    (record { fits = omega (arith, choices-are _ _ (s .pre .opens), job-limits _ _ (s .pre .opens) .choices) })
 
 with-pin-requires : tie.Need-with-pin-requires
 unfolding plain
@@ -85,7 +83,7 @@ with-pin-requires c κs =
     (room _ _ _ (o .before .before .pre) _ (sym (o .outside .ensures) ∙ e .if1 .left) _ (l .if2 .left) _ (c .coding-at .ensures))
 
 returns-4 : tie.Need-returns-4
-unfolding plain state handed number take-in
+unfolding plain set-of handed number take-in
 returns-4 c =
     let a = c .before in
     let f = a .before in

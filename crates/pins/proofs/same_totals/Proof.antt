@@ -1,5 +1,5 @@
 use Rattle.pinning.proofs.Agree.{totals-differ-count, totals-differ-size, totals-by-distortion}
-use Rattle.pins.specs.Answers.{state, tallied}
+use Rattle.pins.specs.Answers.{set-of, tallied}
 use borrow.Author.Needs.{needs}
 use Rattle.pins.proofs.same_totals.Statement.{statement}
 use Rattle.pins.proofs.same_totals.Tie as tie
@@ -8,21 +8,21 @@ cast-if1 : tie.Need-cast-if1
 cast-if1 c = search needs
 
 returns : tie.Need-returns
-unfolding state tallied
+unfolding set-of tallied
 returns c = totals-differ-count _ _ (c .if1 .taken)
 
 cast-if2 : tie.Need-cast-if2
 cast-if2 c = search needs
 
 returns-2 : tie.Need-returns-2
-unfolding state tallied
+unfolding set-of tallied
 returns-2 c = totals-differ-size _ _ (search needs) (c .if2 .taken)
 
 cast-result : tie.Need-cast-result
 cast-result c = search needs
 
 returns-3 : tie.Need-returns-3
-unfolding state tallied
+unfolding set-of tallied
 returns-3 c = totals-by-distortion _ _ (search needs) (search needs)
 
 pub same-totals-spec : {M : Type 1} → statement M

@@ -6,7 +6,7 @@ use borrow.Author.Needs.{needs}
 use Rattle.pinning.specs.Check.{codings-in}
 use Rattle.pins.specs.Answers.{tallied}
 use Rattle.job.specs.Answers.{plain}
-use Rattle.pinning.specs.State.{lines}
+use Rattle.pinning.specs.PinSet.{lines}
 use Rattle.model.specs.Pins.{totals-to}
 use Rattle.pins.proofs.sum_lines.Statement.{statement}
 use Rattle.pins.proofs.sum_lines.Tie as tie

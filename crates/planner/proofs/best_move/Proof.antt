@@ -71,8 +71,8 @@ cast-index c =
 interval-of-requires : tie.Need-interval-of-requires
 interval-of-requires c κs = search needs
 
-choice-byte-requires : tie.Need-choice-byte-requires
-choice-byte-requires c κs =
+choice-number-requires : tie.Need-choice-number-requires
+choice-number-requires c κs =
     let e = c .before .before .before .before .before in
     let i = e .before in
     let a = i .before .before .before in
@@ -93,7 +93,7 @@ returns c =
     let e = x .before .before .before .before in
     let i = e .before in
     let a = i .before .before .before in
-    best-move _ _ _ _ _ _ _ _ (a .pre) _ (i .choices-in .ensures) _ _ (e .best-entry .ensures) _ (x .interval-of .ensures) _ _ (d .choice-byte .ensures) (c .levels-after .ensures)
+    best-move _ _ _ _ _ _ _ _ (a .pre) _ (i .choices-in .ensures) _ _ (e .best-entry .ensures) _ (x .interval-of .ensures) _ _ (d .choice-number .ensures) (c .levels-after .ensures)
 
 pub best-move-spec : {M : Type 1} → statement M
 best-move-spec =
@@ -109,6 +109,6 @@ best-move-spec =
     element-copy-out-distortion
     cast-index
     interval-of-requires
-    choice-byte-requires
+    choice-number-requires
     levels-after-requires
     returns)

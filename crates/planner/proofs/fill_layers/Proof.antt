@@ -2,7 +2,7 @@ use Rattle.planner.proofs.Tabling.{Filling, filling-none, filling-all, 
 use Rattle.planner.proofs.Jobs.{chosen-on}
 use Rattle.planner.proofs.Sizes.{layer-small, product-small}
 use Rattle.planner.specs.Answers.{line-is, job-on}
-use Rattle.pinning.specs.State.{lines}
+use Rattle.pinning.specs.PinSet.{lines}
 use Rattle.job.specs.Answers.{plain}
 use Rattle.format.proofs.Opened.{few-intervals}
 use Rattle.model.specs.Job.{on-line}

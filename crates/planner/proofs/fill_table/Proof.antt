@@ -2,7 +2,7 @@ use Rattle.planner.proofs.Tabling.{room-for-last, last-written, table-f
 use Rattle.planner.proofs.Sizes.{layer-small, product-small}
 use Rattle.planner.specs.Answers.{line-is, job-on}
 use Rattle.planning.proofs.Refilling.{last-long}
-use Rattle.pinning.specs.State.{lines}
+use Rattle.pinning.specs.PinSet.{lines}
 use Rattle.job.specs.Answers.{plain}
 use Rattle.format.proofs.Bounds.{bounded}
 use Rattle.format.proofs.Opened.{job-formed, intervals-are, few-intervals}

@@ -3,7 +3,7 @@ use Rattle.planner.proofs.Offers.{pair-offers}
 use Rattle.planner.proofs.Sizes.{rates-count}
 use Rattle.planner.specs.Answers.{line-is, order-is, allowed-is}
 use Rattle.planning.specs.Rule.{pair-offer}
-use Rattle.replay.specs.Answers.{levels-of}
+use Rattle.interval.specs.Answers.{levels-of}
 use Rattle.model.specs.Best.{turn}
 use Rattle.model.specs.Table.{wordIn}
 use Rattle.model.proofs.Entries.{turn-below}

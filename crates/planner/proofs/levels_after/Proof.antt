@@ -1,6 +1,6 @@
 use Rattle.planner.proofs.Jobs.{not-reached}
 use Rattle.planner.specs.Answers.{step-of}
-use Rattle.replay.specs.Answers.{outcome-is}
+use Rattle.interval.specs.Answers.{outcome-is}
 use Rattle.job.specs.Answers.{plain}
 use mathlib.Core.Path.{sym, _∙_, ap}
 use borrow.Author.Needs.{needs}

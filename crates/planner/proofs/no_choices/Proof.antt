@@ -1,4 +1,4 @@
-use Rattle.model.specs.If.{if_then_else_}
+use Rattle.base.specs.If.{if_then_else_}
 use Rattle.planner.specs.Answers.{coding-if, allowed-is}
 use lib.ListN.{getD-replicate}
 use mathlib.Core.Path.{refl}

@@ -1,6 +1,6 @@
 use Rattle.planner.proofs.Offers.{barred-offers, violation-offers, reached-below, reached-offers}
 use Rattle.planner.specs.Answers.{step-of}
-use Rattle.replay.specs.Answers.{outcome-is}
+use Rattle.interval.specs.Answers.{outcome-is}
 use Rattle.model.specs.Table.{wordIn}
 use borrow.Author.Tests.{not-true, not-false}
 use lib.ListN.{length}

@@ -5,8 +5,8 @@ use Rattle.format.specs.JobBytes.{job-in}
 use Rattle.format.proofs.Opened.{few-intervals, intervals-are}
 use Rattle.model.proofs.Lines.{intervals-on}
 use Rattle.job.specs.Answers.{plain}
-use Rattle.pinning.specs.State.{lines}
-use Rattle.replay.specs.Answers.{levels-of, totals-of}
+use Rattle.pinning.specs.PinSet.{lines}
+use Rattle.interval.specs.Answers.{levels-of}
 use mathlib.Core.Path.{refl}
 use Prim.Native.Nat.{_-_, _<_, _≤_}
 use native.Mathlib.Omega.{arith}
@@ -23,11 +23,14 @@ abbrev μ-loop : tie.MeasureT-loop
 intervals-requires : tie.Need-intervals-requires Inv-loop μ-loop
 intervals-requires c κs = search needs
 
+none-requires : tie.Need-none-requires Inv-loop μ-loop
+none-requires c κs = search needs
+
 loop-holds : tie.Need-loop-holds Inv-loop μ-loop
-unfolding plain totals-of
+unfolding plain
 loop-holds c =
-    let a = c .before .before .before .before in
-    (omega arith, omega (arith, c .intervals .ensures, a .pre .few), read-start _ _ _ _ _ _ _ (one-bucket _ _) _ refl (a .pre .stands))
+    let a = c .before .before .before .before .before in
+    (omega arith, omega (arith, c .before .intervals .ensures, a .pre .few), rw (c .none .ensures) (read-start _ _ _ _ _ _ _ (one-bucket _ _) _ refl (a .pre .stands)))
 
 sub-index : tie.Need-sub-index Inv-loop μ-loop
 sub-index c = search needs
@@ -36,10 +39,10 @@ best-move-requires : tie.Need-best-move-requires Inv-loop μ-loop
 unfolding plain
 best-move-requires c κs =
     let l = c .before in
-    let a = l .before .before .before .before .before in
+    let a = l .before .before .before .before .before .before in
     record {
       starts = a .pre .starts;
-      before = omega (arith, l .before .intervals .ensures, c .loop-test .taken);
+      before = omega (arith, l .before .before .intervals .ensures, c .loop-test .taken);
       table-is = record { enough = a .pre .table-is .enough; layers = λ t h k. a .pre .table-is .layers t (omega (arith, l .loop .inv .0)) k };
       stands = l .loop .inv .2 .stands;
     }
@@ -48,16 +51,16 @@ put-entry-requires : tie.Need-put-entry-requires Inv-loop μ-loop
 unfolding plain
 put-entry-requires c κs =
     let l = c .before .before .before in
-    let a = l .before .before .before .before .before in
-    (omega (arith, l .before .intervals .ensures, few-intervals _ _ (a .pre .starts .opens)), omega (arith, l .before .intervals .ensures, a .pre .room, l .loop .inv .0, l .loop .inv .2 .size))
+    let a = l .before .before .before .before .before .before in
+    omega (arith, l .before .before .intervals .ensures, a .pre .room, l .loop .inv .0, l .loop .inv .2 .size)
 
 with-interval-requires : tie.Need-with-interval-requires Inv-loop μ-loop
 unfolding plain
 with-interval-requires c κs =
     let x = c .before .before .before .before in
     let l = x .before .before in
-    let a = l .before .before .before .before .before in
-    let b : l .loop .place < 576 = omega (arith, l .before .intervals .ensures, few-intervals _ _ (a .pre .starts .opens)) in
+    let a = l .before .before .before .before .before .before in
+    let b : l .loop .place < 576 = omega (arith, l .before .before .intervals .ensures, few-intervals _ _ (a .pre .starts .opens)) in
     let g = l .loop .inv .2 .sums .small in
     let m = x .best-move .ensures .does .limits in
     record { distortion = omega arith; source = omega arith; channel = omega arith; unused = omega arith }
@@ -75,8 +78,8 @@ loop-again c =
     let p = w .before .before .before in
     let x = p .before .before in
     let l = x .before .before in
-    let a = l .before .before .before .before .before in
-    (omega (arith, l .loop .inv .0), omega arith, rw (p .put-entry .ensures) (read-on _ _ _ _ _ _ _ (one-bucket _ _) (l .loop .place) (l .loop .at) (l .loop .sum) _ _ _ (l .loop .inv .2) (x .best-move .ensures) (w .with-interval .ensures) (a .pre .starts .line .drain) (omega (arith, l .before .intervals .ensures, a .pre .room, l .loop .inv .0))))
+    let a = l .before .before .before .before .before .before in
+    (omega (arith, l .loop .inv .0), omega arith, rw (p .put-entry .ensures) (read-on _ _ _ _ _ _ _ (one-bucket _ _) (l .loop .place) (l .loop .at) (l .loop .sum) _ _ _ (l .loop .inv .2) (x .best-move .ensures) (w .with-interval .ensures) (a .pre .starts .line .drain) (omega (arith, l .before .before .intervals .ensures, a .pre .room, l .loop .inv .0))))
 
 same-length : tie.Need-same-length Inv-loop μ-loop
 same-length c = search needs
@@ -85,8 +88,8 @@ returns : tie.Need-returns Inv-loop μ-loop
 unfolding plain
 returns c =
     let l = c .before in
-    let a = l .before .before .before .before .before in
-    read-end _ _ _ _ _ _ _ (one-bucket _ _) (l .loop .place) (l .loop .at) (l .loop .sum) _ (l .loop .inv .2) (omega (arith, l .before .intervals .ensures, intervals-are _ _ (a .pre .starts .opens), intervals-on (job-in (a .args .job .now)) (line-is (a .args .line))))
+    let a = l .before .before .before .before .before .before in
+    read-end _ _ _ _ _ _ _ (one-bucket _ _) (l .loop .place) (l .loop .at) (l .loop .sum) _ (l .loop .inv .2) (omega (arith, l .before .before .intervals .ensures, intervals-are _ _ (a .pre .starts .opens), intervals-on (job-in (a .args .job .now)) (line-is (a .args .line))))
 
 pub read-off-spec : {M : Type 1} → statement M
 read-off-spec =
@@ -95,6 +98,7 @@ read-off-spec =
     Inv-loop
     μ-loop
     intervals-requires
+    none-requires
     loop-holds
     sub-index
     best-move-requires

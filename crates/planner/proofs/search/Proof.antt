@@ -1,8 +1,8 @@
 use Rattle.planner.proofs.Answering.{tabled, start-low, start-below, start-word, no-value, stands, search-13, search-best}
 use Rattle.planner.proofs.Sizes.{layer-small, product-small}
 use Rattle.planner.specs.Answers.{job-on, answered, planned, Standing}
-use Rattle.pinning.specs.State.{lines}
-use Rattle.replay.specs.Answers.{levels-of}
+use Rattle.pinning.specs.PinSet.{lines}
+use Rattle.interval.specs.Answers.{levels-of}
 use Rattle.job.specs.Answers.{plain}
 use Rattle.format.proofs.Opened.{few-intervals}
 use Rattle.trellis.specs.Table.{encode}
@@ -21,9 +21,9 @@ layer-low : (c : tie.After-layer-words) → (c .before .before .before .before .
 unfolding plain
 layer-low c =
     let a = c .before .before .before .before .before .before .before .before in
-    let few = few-intervals _ _ (a .pre .starts .opens) in
-    let small = layer-small _ (a .pre .starts .line) in
-    (product-small (a .args .first) (c .layer-words .result) (omega (arith, few, a .pre .few)) (omega (arith, small, c .layer-words .ensures)), omega (arith, small, c .layer-words .ensures))
+    let few = few-intervals _ _ (a .pre .from .starts .opens) in
+    let small = layer-small _ (a .pre .from .starts .line) in
+    (product-small (a .args .first) (c .layer-words .result) (omega (arith, few, a .pre .from .few)) (omega (arith, small, c .layer-words .ensures)), omega (arith, small, c .layer-words .ensures))
 
 place-low : (c : tie.After-word-place) → c .word-place .result < c .before .layer-words .result
 unfolding plain
@@ -49,7 +49,7 @@ word-is c =
 
 fill-table-requires : tie.Need-fill-table-requires
 unfolding plain
-fill-table-requires c κs = let a = c .before .before .before .before in (a .pre .starts, a .pre .few, a .pre .room)
+fill-table-requires c κs = let a = c .before .before .before .before in (a .pre .from .starts, a .pre .from .few, a .pre .room)
 
 layer-words-requires : tie.Need-layer-words-requires
 layer-words-requires c κs = search needs
@@ -96,8 +96,8 @@ read-off-requires c κs =
     let f = e .before .before .before .before .before .before in
     let a = f .before .before .before .before .before in
     record {
-      starts = a .pre .starts;
-      few = a .pre .few;
+      starts = a .pre .from .starts;
+      few = a .pre .from .few;
       table-is = rw (f .fill-table .ensures) (tabled _ _ _ _ _ _ _ _ (lines (a .args .header .units) (a .args .pins .now)) (a .pre));
       stands = standing e;
       room = a .pre .space;

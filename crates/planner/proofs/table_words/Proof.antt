@@ -1,49 +1,16 @@
-use Rattle.planner.proofs.Sizes.{product-small, product-fits}
-use Rattle.planner.specs.Answers.{table-words}
-use Rattle.job.specs.Answers.{plain}
-use native.Mathlib.Omega.{arith}
+use mathlib.Core.Path.{_∙_}
 use borrow.Author.Needs.{needs}
 use Rattle.planner.proofs.table_words.Statement.{statement}
 use Rattle.planner.proofs.table_words.Tie as tie
 
-intervals-requires : tie.Need-intervals-requires
-intervals-requires c κs = search needs
+of-requires : tie.Need-of-requires
+of-requires c κs = search needs
 
-add-result : tie.Need-add-result
-add-result c = search needs
-
-cast-result : tie.Need-cast-result
-cast-result c = search needs
-
-add-result-2 : tie.Need-add-result-2
-add-result-2 c = search needs
-
-mul-result : tie.Need-mul-result
-mul-result c = product-fits _ _ (omega arith) (omega arith)
-
-cast-result-2 : tie.Need-cast-result-2
-cast-result-2 c = search needs
-
-add-result-3 : tie.Need-add-result-3
-add-result-3 c = search needs
-
-mul-result-2 : tie.Need-mul-result-2
-mul-result-2 c = product-fits _ _ (product-small _ _ (omega arith) (omega arith)) (omega arith)
+words-over-requires : tie.Need-words-over-requires
+words-over-requires c κs = search needs
 
 returns : tie.Need-returns
-unfolding table-words plain
-returns c = rw (c .before .before .intervals .ensures)
+returns c = c .words-over .ensures ∙ rw (c .before .of .ensures)
 
 pub table-words-spec : {M : Type 1} → statement M
-table-words-spec =
-    tie.close
-    (tie.spec
-    intervals-requires
-    add-result
-    cast-result
-    add-result-2
-    mul-result
-    cast-result-2
-    add-result-3
-    mul-result-2
-    returns)
+table-words-spec = tie.close (tie.spec of-requires words-over-requires returns)

@@ -3,9 +3,10 @@ use Rattle.format.proofs.Opened.{job-limits, delay-is, few-intervals}
 use Rattle.replaying.specs.Entries.{plan-of}
 use Rattle.job.specs.Answers.{plain}
 use Rattle.format.specs.JobBytes.{job-in}
-use Rattle.model.specs.Levels.{sum, sentAfter, effectiveBuffer}
+use Rattle.model.specs.Levels.{sentAfter, effectiveBuffer}
+use Rattle.base.specs.Lists.{sum}
 use mathlib.Core.Path.{_≡_, sym, ap, _∙_}
-use Prim.Native.Nat.{_≤_, _-_, _+_}
+use Prim.Native.Nat.{_≤_, _+_, _-_}
 use native.Mathlib.Omega.{arith}
 use borrow.Author.Needs.{needs}
 use Rattle.replay.proofs.first_sum.Statement.{statement}

@@ -1,14 +1,15 @@
 use Rattle.replay.proofs.Sums.{sum-small, leaves-less, next-sum, sums-end}
-use Rattle.format.proofs.Opened.{job-limits, units-are, delay-is, few-intervals}
-use Rattle.model.proofs.Builds.{build-more}
+use Rattle.format.proofs.Opened.{job-limits, units-are, delay-is}
+use Rattle.base.proofs.Builds.{build-more}
 use Rattle.replaying.specs.Entries.{plan-of}
 use Rattle.job.specs.Answers.{plain}
 use Rattle.format.specs.JobBytes.{job-in}
-use Rattle.model.specs.Levels.{effectiveBuffer, build}
+use Rattle.model.specs.Levels.{effectiveBuffer}
+use Rattle.base.specs.Lists.{build}
 use lib.ListN.{length, drop, length-set}
 use mathlib.Core.List.{_++_}
 use mathlib.Core.Path.{_≡_, refl, _∙_}
-use Prim.Native.Nat.{_≤_, _-_, _+_}
+use Prim.Native.Nat.{_≤_, _+_, _-_}
 use native.Mathlib.Omega.{arith}
 use borrow.Author.Needs.{needs}
 use Rattle.replay.proofs.put_sums.Statement.{statement}
@@ -59,7 +60,7 @@ add-sum c =
     let l = r .before .before in
     let a = l .before .before .before .before .before .before .before in
     let o = a .pre .plan .opens in
-    omega (arith, sum-small _ _ (l .loop .i) _ _ _ _ (delay-is _ _ o) (l .loop .inv .1) (r .sent-at .ensures) (c .sent-at2 .ensures) (job-limits _ _ o) (omega (arith, few-intervals _ _ o)))
+    omega (arith, sum-small _ _ (l .loop .i) _ _ _ (l .loop .inv .1) (r .sent-at .ensures) (job-limits _ _ o))
 
 sub-sum : tie.Need-sub-sum Inv-loop μ-loop
 unfolding plain
@@ -67,7 +68,7 @@ sub-sum c =
     let r = c .before in
     let l = r .before .before in
     let a = l .before .before .before .before .before .before .before in
-    leaves-less _ _ (l .loop .i) _ _ _ _ (delay-is _ _ (a .pre .plan .opens)) (l .loop .inv .1) (r .sent-at .ensures) (c .sent-at2 .ensures)
+    omega (arith, leaves-less _ _ (l .loop .i) _ _ _ _ (delay-is _ _ (a .pre .plan .opens)) (l .loop .inv .1) (r .sent-at .ensures) (c .sent-at2 .ensures))
 
 add-i : tie.Need-add-i Inv-loop μ-loop
 add-i c = search needs

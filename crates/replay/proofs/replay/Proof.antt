@@ -1,12 +1,8 @@
-use Rattle.replay.proofs.Answering.{shaped-plan, replay-refused, replay-14, replay-12, replay-played}
+use Rattle.replay.proofs.Answering.{replay-refused}
 use Rattle.replay.specs.Answers.{answered, ended}
+use Rattle.pins.specs.Answers.{set-of}
 use Rattle.pins.proofs.Answering.{ready}
-use Rattle.pins.specs.Answers.{state}
 use Rattle.job.proofs.Answers.{answer-took, answer-refused}
-use Rattle.job.specs.Answers.{plain}
-use borrow.Author.Tests.{not-true, not-false}
-use mathlib.Core.Path.{sym, _∙_}
-use native.Mathlib.Omega.{arith}
 use borrow.Author.Needs.{needs}
 use Rattle.replay.proofs.replay.Statement.{statement}
 use Rattle.replay.proofs.replay.Tie as tie
@@ -20,51 +16,16 @@ enum-known-n c = search needs
 enum-known-header : tie.Need-enum-known-header
 enum-known-header c = search needs
 
-shaped-requires : tie.Need-shaped-requires
-shaped-requires c κs = search needs
+replay-checked-requires : tie.Need-replay-checked-requires
+unfolding set-of
+replay-checked-requires c κs =
+    let h = c .before .before in
+    let check = h .before .before .check in
+    ready _ _ _ _ (answer-took _ (check .result) _ _ (check .ensures .1) (h .header .given .1)) (check .ensures .0)
 
 returns : tie.Need-returns
-unfolding ended answered state
-returns c =
-    let f = c .before in
-    let h = f .before .before in
-    let check = h .before .before .check in
-    let r = ready _ _ _ _ (answer-took _ (check .result) _ _ (check .ensures .1) (h .header .given .1)) (check .ensures .0) in
-    replay-14 _ _ _ r _ _ (sym (f .shaped .ensures) ∙ not-true _ (c .if1 .taken))
-
-intervals-requires : tie.Need-intervals-requires
-intervals-requires c κs = search needs
-
-mul-if2 : tie.Need-mul-if2
-mul-if2 c = search needs
-
-returns-2 : tie.Need-returns-2
-unfolding plain ended answered state
-returns-2 c =
-    let e = c .before .before in
-    let f = e .before in
-    let h = f .before .before in
-    let check = h .before .before .check in
-    let r = ready _ _ _ _ (answer-took _ (check .result) _ _ (check .ensures .1) (h .header .given .1)) (check .ensures .0) in
-    replay-12 _ _ _ r _ _ (sym (f .shaped .ensures) ∙ not-false _ (e .if1 .left)) (omega (arith, c .before .intervals .ensures))
-
-play-requires : tie.Need-play-requires
-unfolding plain state
-play-requires c κs =
-    let e = c .before .before .before .before .before in
-    let f = e .before in
-    let h = f .before .before in
-    let check = h .before .before .check in
-    let r = ready _ _ _ _ (answer-took _ (check .result) _ _ (check .ensures .1) (h .header .given .1)) (check .ensures .0) in
-    record {
-      plan = shaped-plan _ _ (r .job) (r .taken) (r .parsed) (r .header-is) _ (sym (f .shaped .ensures) ∙ not-false _ (e .if1 .left));
-      pins-size = check .ensures .0;
-      room = omega (arith, c .before .before .before .before .intervals .ensures);
-    }
-
-returns-3 : tie.Need-returns-3
 unfolding ended answered
-returns-3 c =
+returns c =
     let n = c .before in
     let check = n .before .before .check in
     replay-refused _ _ _ _ _ (answer-refused _ (check .result) _ (check .ensures .1) (n .n .given .1))
@@ -72,16 +33,8 @@ returns-3 c =
 same-length : tie.Need-same-length
 same-length c = search needs
 
-returns-4 : tie.Need-returns-4
-unfolding plain state
-returns-4 c =
-    let p = c .before .before in
-    let e = p .before .before .before .before .before .before in
-    let f = e .before in
-    let h = f .before .before in
-    let check = h .before .before .check in
-    let r = ready _ _ _ _ (answer-took _ (check .result) _ _ (check .ensures .1) (h .header .given .1)) (check .ensures .0) in
-    p .play .ensures ∙ replay-played _ _ _ r _ _ (sym (f .shaped .ensures) ∙ not-false _ (e .if1 .left)) (omega (arith, p .before .before .before .before .before .intervals .ensures))
+returns-2 : tie.Need-returns-2
+returns-2 c = search needs
 
 pub replay-spec : {M : Type 1} → statement M
 replay-spec =
@@ -90,12 +43,7 @@ replay-spec =
     check-requires
     enum-known-n
     enum-known-header
-    shaped-requires
+    replay-checked-requires
     returns
-    intervals-requires
-    mul-if2
-    returns-2
-    play-requires
-    returns-3
     same-length
-    returns-4)
+    returns-2)

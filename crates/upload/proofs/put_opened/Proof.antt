@@ -1,4 +1,4 @@
-use Rattle.model.proofs.Lent.{stored}
+use Rattle.base.proofs.Lent.{stored}
 use Rattle.upload.specs.Exports.{opened-values}
 use Rattle.job.specs.Answers.{plain}
 use lib.ListN.{length-set}

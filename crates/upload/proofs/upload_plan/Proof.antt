@@ -1,19 +1,38 @@
-use Rattle.upload.proofs.Answering.{plan-12, plan-refused, plan-best}
+use Rattle.upload.proofs.Answering.{plan-before, plan-12, plan-refused, plan-best}
+use Rattle.job.specs.Answers.{verdict}
+use mathlib.Core.Path.{sym, _∙_, ap}
 use borrow.Author.Needs.{needs}
 use Rattle.upload.proofs.upload_plan.Statement.{statement}
 use Rattle.upload.proofs.upload_plan.Tie as tie
 
-returns : tie.Need-returns
-returns c = plan-12 _ _ _ _ _ _ (c .if1 .taken)
-
-sit-requires : tie.Need-sit-requires
-sit-requires c κs = search needs
+plan-refusal-requires : tie.Need-plan-refusal-requires
+plan-refusal-requires c κs = search needs
 
 enum-known-n : tie.Need-enum-known-n
 enum-known-n c = search needs
 
 cast-result : tie.Need-cast-result
 cast-result c = search needs
+
+returns : tie.Need-returns
+unfolding verdict
+returns c = plan-before _ _ _ _ _ _ _ (ap verdict (sym (c .before .n .given .1)) ∙ c .before .before .before .plan-refusal .ensures)
+
+enum-told : tie.Need-enum-told
+enum-told c = search needs
+
+returns-2 : tie.Need-returns-2
+unfolding verdict
+returns-2 c = plan-12 _ _ _ _ _ _ (ap verdict (sym (c .before .enum-told .given .1)) ∙ c .before .before .before .plan-refusal .ensures) (c .if1 .taken)
+
+plan-after-requires : tie.Need-plan-after-requires
+plan-after-requires c κs = search needs
+
+enum-known-n-2 : tie.Need-enum-known-n-2
+enum-known-n-2 c = search needs
+
+cast-result-2 : tie.Need-cast-result-2
+cast-result-2 c = search needs
 
 enum-known-totals : tie.Need-enum-known-totals
 enum-known-totals c = search needs
@@ -30,11 +49,9 @@ same-length-2 c = search needs
 same-length-3 : tie.Need-same-length-3
 same-length-3 c = search needs
 
-returns-2 : tie.Need-returns-2
-returns-2 c =
-    let n = c .before in
-    let s = n .before .before .before .before .before .before .before .before in
-    plan-refused _ _ _ _ _ _ (s .before .before .before .before .if1 .left) (s .sit .result) _ _ _ (s .sit .ensures) _ (n .n .given .1)
+returns-3 : tie.Need-returns-3
+unfolding verdict
+returns-3 c = plan-refused _ _ _ _ _ _ (ap verdict (sym (c .before .before .before .before .before .before .before .before .before .before .before .before .before .before .enum-told .given .1)) ∙ c .before .before .before .before .before .before .before .before .before .before .before .before .before .before .before .before .plan-refusal .ensures) (c .before .before .before .before .before .before .before .before .before .before .before .before .before .if1 .left) (c .before .before .before .before .before .before .before .before .before .plan-after .result) _ _ _ (c .before .before .before .before .before .before .before .before .before .plan-after .ensures) _ (c .before .n2 .given .1)
 
 same-length-4 : tie.Need-same-length-4
 same-length-4 c = search needs
@@ -48,29 +65,31 @@ same-length-6 c = search needs
 same-length-7 : tie.Need-same-length-7
 same-length-7 c = search needs
 
-returns-3 : tie.Need-returns-3
-returns-3 c =
-    let p = c .before .before in
-    let n = p .before .before .before in
-    let s = n .before .before .before .before .before .before .before .before in
-    plan-best _ _ _ _ _ _ (s .before .before .before .before .if1 .left) (s .sit .result) _ _ _ (s .sit .ensures) _ (n .totals .given .1) _ (p .put-totals .ensures)
+returns-4 : tie.Need-returns-4
+unfolding verdict
+returns-4 c = plan-best _ _ _ _ _ _ (ap verdict (sym (c .before .before .before .before .before .before .before .before .before .before .before .before .before .before .before .before .before .before .enum-told .given .1)) ∙ c .before .before .before .before .before .before .before .before .before .before .before .before .before .before .before .before .before .before .before .before .plan-refusal .ensures) (c .before .before .before .before .before .before .before .before .before .before .before .before .before .before .before .before .before .if1 .left) (c .before .before .before .before .before .before .before .before .before .before .before .before .before .plan-after .result) _ _ _ (c .before .before .before .before .before .before .before .before .before .before .before .before .before .plan-after .ensures) _ (c .before .before .before .before .before .totals .given .1) _ (c .before .before .put-totals .ensures)
 
 pub upload-plan-spec : {M : Type 1} → statement M
 upload-plan-spec =
     tie.close
     (tie.spec
-    returns
-    sit-requires
+    plan-refusal-requires
     enum-known-n
     cast-result
+    returns
+    enum-told
+    returns-2
+    plan-after-requires
+    enum-known-n-2
+    cast-result-2
     enum-known-totals
     put-totals-requires
     same-length
     same-length-2
     same-length-3
-    returns-2
+    returns-3
     same-length-4
     same-length-5
     same-length-6
     same-length-7
-    returns-3)
+    returns-4)

@@ -1,19 +1,38 @@
-use Rattle.upload.proofs.Answering.{replay-12, replay-refused, replay-clean, replay-violated}
+use Rattle.upload.proofs.Answering.{replay-before, replay-12, replay-refused, replay-clean, replay-violated}
+use Rattle.job.specs.Answers.{verdict}
+use mathlib.Core.Path.{sym, _∙_, ap}
 use borrow.Author.Needs.{needs}
 use Rattle.upload.proofs.upload_replay.Statement.{statement}
 use Rattle.upload.proofs.upload_replay.Tie as tie
 
-returns : tie.Need-returns
-returns c = replay-12 _ _ _ _ _ (c .if1 .taken)
-
-replay-after-requires : tie.Need-replay-after-requires
-replay-after-requires c κs = search needs
+replay-refusal-requires : tie.Need-replay-refusal-requires
+replay-refusal-requires c κs = search needs
 
 enum-known-n : tie.Need-enum-known-n
 enum-known-n c = search needs
 
 cast-result : tie.Need-cast-result
 cast-result c = search needs
+
+returns : tie.Need-returns
+unfolding verdict
+returns c = replay-before _ _ _ _ _ _ (ap verdict (sym (c .before .n .given .1)) ∙ c .before .before .before .replay-refusal .ensures)
+
+enum-told : tie.Need-enum-told
+enum-told c = search needs
+
+returns-2 : tie.Need-returns-2
+unfolding verdict
+returns-2 c = replay-12 _ _ _ _ _ (ap verdict (sym (c .before .enum-told .given .1)) ∙ c .before .before .before .replay-refusal .ensures) (c .if1 .taken)
+
+replay-after-requires : tie.Need-replay-after-requires
+replay-after-requires c κs = search needs
+
+enum-known-n-2 : tie.Need-enum-known-n-2
+enum-known-n-2 c = search needs
+
+cast-result-2 : tie.Need-cast-result-2
+cast-result-2 c = search needs
 
 enum-known-totals : tie.Need-enum-known-totals
 enum-known-totals c = search needs
@@ -27,17 +46,18 @@ enum-known-interval c = search needs
 violation-number-requires : tie.Need-violation-number-requires
 violation-number-requires c κs = search needs
 
+none-requires : tie.Need-none-requires
+none-requires c κs = search needs
+
 put-replayed-requires-2 : tie.Need-put-replayed-requires-2
 put-replayed-requires-2 c κs = search needs
 
 same-length : tie.Need-same-length
 same-length c = search needs
 
-returns-2 : tie.Need-returns-2
-returns-2 c =
-    let n = c .before in
-    let r = n .before .before .before .before in
-    replay-refused _ _ _ _ _ (r .before .before .if1 .left) (r .replay-after .result) _ (r .replay-after .ensures) _ (n .n .given .1)
+returns-3 : tie.Need-returns-3
+unfolding verdict
+returns-3 c = replay-refused _ _ _ _ _ (ap verdict (sym (c .before .before .before .before .before .before .before .before .enum-told .given .1)) ∙ c .before .before .before .before .before .before .before .before .before .before .replay-refusal .ensures) (c .before .before .before .before .before .before .before .if1 .left) (c .before .before .before .before .before .replay-after .result) _ (c .before .before .before .before .before .replay-after .ensures) _ (c .before .n2 .given .1)
 
 same-length-2 : tie.Need-same-length-2
 same-length-2 c = search needs
@@ -45,12 +65,9 @@ same-length-2 c = search needs
 same-length-3 : tie.Need-same-length-3
 same-length-3 c = search needs
 
-returns-3 : tie.Need-returns-3
-returns-3 c =
-    let p = c .before .before in
-    let n = p .before .before .before in
-    let r = n .before .before .before .before in
-    replay-clean _ _ _ _ _ (r .before .before .if1 .left) (r .replay-after .result) _ (r .replay-after .ensures) _ (n .totals .given .1) _ (p .put-replayed .ensures)
+returns-4 : tie.Need-returns-4
+unfolding verdict
+returns-4 c = replay-clean _ _ _ _ _ (ap verdict (sym (c .before .before .before .before .before .before .before .before .before .before .before .before .enum-told .given .1)) ∙ c .before .before .before .before .before .before .before .before .before .before .before .before .before .before .replay-refusal .ensures) (c .before .before .before .before .before .before .before .before .before .before .before .if1 .left) (c .before .before .before .before .before .before .before .before .before .replay-after .result) _ (c .before .before .before .before .before .before .before .before .before .replay-after .ensures) _ (c .before .before .before .before .before .totals .given .1) _ (c .before .before .put-replayed .ensures)
 
 same-length-4 : tie.Need-same-length-4
 same-length-4 c = search needs
@@ -58,32 +75,34 @@ same-length-4 c = search needs
 same-length-5 : tie.Need-same-length-5
 same-length-5 c = search needs
 
-returns-4 : tie.Need-returns-4
-returns-4 c =
-    let p = c .before .before in
-    let v = p .before in
-    let n = v .before .before .before in
-    let r = n .before .before .before .before in
-    replay-violated _ _ _ _ _ (r .before .before .if1 .left) (r .replay-after .result) _ (r .replay-after .ensures) _ _ (n .interval .given .1) _ (v .violation-number .ensures) _ (p .put-replayed2 .ensures)
+returns-5 : tie.Need-returns-5
+unfolding verdict
+returns-5 c = replay-violated _ _ _ _ _ (ap verdict (sym (c .before .before .before .before .before .before .before .before .before .before .before .before .before .before .enum-told .given .1)) ∙ c .before .before .before .before .before .before .before .before .before .before .before .before .before .before .before .before .replay-refusal .ensures) (c .before .before .before .before .before .before .before .before .before .before .before .before .before .if1 .left) (c .before .before .before .before .before .before .before .before .before .before .before .replay-after .result) _ (c .before .before .before .before .before .before .before .before .before .before .before .replay-after .ensures) _ _ (c .before .before .before .before .before .before .before .interval .given .1) _ (c .before .before .before .before .before .violation-number .ensures) _ (c .before .before .before .none .ensures) _ (c .before .before .put-replayed2 .ensures)
 
 pub upload-replay-spec : {M : Type 1} → statement M
 upload-replay-spec =
     tie.close
     (tie.spec
-    returns
-    replay-after-requires
+    replay-refusal-requires
     enum-known-n
     cast-result
+    returns
+    enum-told
+    returns-2
+    replay-after-requires
+    enum-known-n-2
+    cast-result-2
     enum-known-totals
     put-replayed-requires
     enum-known-interval
     violation-number-requires
+    none-requires
     put-replayed-requires-2
     same-length
-    returns-2
+    returns-3
     same-length-2
     same-length-3
-    returns-3
+    returns-4
     same-length-4
     same-length-5
-    returns-4)
+    returns-5)

@@ -1,29 +1,48 @@
 -- `upload::upload_write` meets its contract.
-use Rattle.upload.proofs.Answering.{write-12, write-3, write-refused, write-done}
-use Rattle.model.proofs.Lent.{stored}
+use Rattle.upload.proofs.Answering.{write-3, write-before, write-12, write-refused, write-done}
+use Rattle.base.proofs.Lent.{stored}
 use mathlib.Core.List.{[], _∷_}
 use native.Mathlib.Omega.{arith}
+use Rattle.job.specs.Answers.{verdict}
+use mathlib.Core.Path.{sym, _∙_, ap}
 use borrow.Author.Needs.{needs}
 use Rattle.upload.proofs.upload_write.Statement.{statement}
 use Rattle.upload.proofs.upload_write.Tie as tie
 
 returns : tie.Need-returns
-returns c = write-12 _ _ _ _ _ _ (c .if1 .taken)
-
-returns-2 : tie.Need-returns-2
-returns-2 c = write-3 _ _ _ _ _ _ (c .before .if1 .left) (λ e. omega arith)
+returns c = write-3 _ _ _ _ _ _ (λ e. omega arith)
 
 header-of-requires : tie.Need-header-of-requires
 header-of-requires c κs = search needs
 
-write-job-requires : tie.Need-write-job-requires
-write-job-requires c κs = search needs
+write-refusal-requires : tie.Need-write-refusal-requires
+write-refusal-requires c κs = search needs
 
 enum-known-n : tie.Need-enum-known-n
 enum-known-n c = search needs
 
 cast-result : tie.Need-cast-result
 cast-result c = search needs
+
+returns-2 : tie.Need-returns-2
+unfolding verdict
+returns-2 c = write-before _ _ _ _ _ _ (omega arith) _ (c .before .before .before .before .header-of .ensures) _ (ap verdict (sym (c .before .n .given .1)) ∙ c .before .before .before .write-refusal .ensures)
+
+enum-told : tie.Need-enum-told
+enum-told c = search needs
+
+returns-3 : tie.Need-returns-3
+unfolding verdict
+returns-3 c = write-12 _ _ _ _ _ _ (omega arith) _ (c .before .before .before .before .header-of .ensures) (ap verdict (sym (c .before .enum-told .given .1)) ∙ c .before .before .before .write-refusal .ensures) (c .if2 .taken)
+
+write-job-requires : tie.Need-write-job-requires
+write-job-requires c κs = search needs
+
+enum-known-n-2 : tie.Need-enum-known-n-2
+enum-known-n-2 c = search needs
+
+cast-result-2 : tie.Need-cast-result-2
+cast-result-2 c = search needs
 
 enum-known-taken : tie.Need-enum-known-taken
 enum-known-taken c = search needs
@@ -34,12 +53,9 @@ slice-write-values c = search needs
 same-length : tie.Need-same-length
 same-length c = search needs
 
-returns-3 : tie.Need-returns-3
-returns-3 c =
-    let w = c .before .before .before .before .before in
-    let h = w .before .before in
-    let t = h .before in
-    write-refused _ _ _ _ _ _ (t .before .if1 .left) (omega arith) (h .header-of .result) (h .header-of .ensures) (w .write-job .result) _ (w .write-job .ensures) _ (c .before .n .given .1)
+returns-4 : tie.Need-returns-4
+unfolding verdict
+returns-4 c = write-refused _ _ _ _ _ _ (omega arith) _ (c .before .before .before .before .before .before .before .before .before .before .before .header-of .ensures) (ap verdict (sym (c .before .before .before .before .before .before .before .before .enum-told .given .1)) ∙ c .before .before .before .before .before .before .before .before .before .before .write-refusal .ensures) (c .before .before .before .before .before .before .before .if2 .left) (c .before .before .before .before .before .write-job .result) _ (c .before .before .before .before .before .write-job .ensures) _ (c .before .n2 .given .1)
 
 same-length-2 : tie.Need-same-length-2
 same-length-2 c = search needs
@@ -47,28 +63,31 @@ same-length-2 c = search needs
 same-length-3 : tie.Need-same-length-3
 same-length-3 c = search needs
 
-returns-4 : tie.Need-returns-4
-returns-4 c =
-    let w = c .before .before .before .before .before in
-    let h = w .before .before in
-    let t = h .before in
-    let a = t .before .before .before .before .before .before .before .before .args in
-    write-done _ _ _ _ _ _ (t .before .if1 .left) (omega arith) (h .header-of .result) (h .header-of .ensures) (w .write-job .result) _ (w .write-job .ensures) _ (c .before .taken .given .1) _ (stored (_ ∷ []) (a .values .now) (t .before .if1 .left))
+returns-5 : tie.Need-returns-5
+unfolding verdict
+returns-5 c =
+    let a = c .before .before .before .before .before .before .before .before .before .before .before .before .before .before .before .before .before .before .before .args in
+    write-done _ _ _ _ _ _ (omega arith) _ (c .before .before .before .before .before .before .before .before .before .before .before .header-of .ensures) (ap verdict (sym (c .before .before .before .before .before .before .before .before .enum-told .given .1)) ∙ c .before .before .before .before .before .before .before .before .before .before .write-refusal .ensures) (c .before .before .before .before .before .before .before .if2 .left) (c .before .before .before .before .before .write-job .result) _ (c .before .before .before .before .before .write-job .ensures) _ (c .before .taken .given .1) _ (stored (_ ∷ []) (a .values .now) (c .before .before .before .before .before .before .before .if2 .left))
 
 pub upload-write-spec : {M : Type 1} → statement M
 upload-write-spec =
     tie.close
     (tie.spec
     returns
-    returns-2
     header-of-requires
-    write-job-requires
+    write-refusal-requires
     enum-known-n
     cast-result
+    returns-2
+    enum-told
+    returns-3
+    write-job-requires
+    enum-known-n-2
+    cast-result-2
     enum-known-taken
     slice-write-values
     same-length
-    returns-3
+    returns-4
     same-length-2
     same-length-3
-    returns-4)
+    returns-5)

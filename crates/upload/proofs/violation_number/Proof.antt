@@ -1,5 +1,5 @@
 use Rattle.upload.specs.Exports.{violation-number}
-use Rattle.replay.specs.Answers.{violation}
+use Rattle.interval.specs.Answers.{violation}
 use borrow.Author.Needs.{needs}
 use Rattle.upload.proofs.violation_number.Statement.{statement}
 use Rattle.upload.proofs.violation_number.Tie as tie

@@ -1,38 +1,35 @@
--- `writer::write_job` meets its contract.
-use Rattle.writer.proofs.Answering.{write-refused, write-accepted, write-short, write-done}
 use Rattle.writing.proofs.Order.{Accepted}
-use Rattle.model.specs.Answer.{gives}
-use Prim.Native.Nat.{ℕ}
+use Rattle.format.specs.Places.{job-size}
+-- `writer::write_job` meets its contract.
+use Rattle.writer.proofs.Answering.{write-refused, write-accepted, write-room, write-done}
+use Rattle.writing.specs.Calls.{write-refusal}
+use Rattle.base.specs.Answer.{gives}
+use Prim.Native.Nat.{ℕ, _≤_}
+use mathlib.Core.Option.{none}
+use mathlib.Core.Path.{_≡_, sym, _∙_, ap}
+use lib.ListN.{length}
 use Rattle.writer.specs.Answers.{wrote-answer, wrote}
-use Rattle.job.specs.Answers.{plain, verdict}
-use mathlib.Core.Path.{sym, ap, _∙_}
 use native.Mathlib.Omega.{arith}
+use Rattle.job.specs.Answers.{plain, verdict}
 use borrow.Author.Needs.{needs}
 use Rattle.writer.proofs.write_job.Statement.{statement}
 use Rattle.writer.proofs.write_job.Tie as tie
 
-lists-verdict-requires : tie.Need-lists-verdict-requires
-lists-verdict-requires c κs = search needs
+write-refusal-requires : tie.Need-write-refusal-requires
+write-refusal-requires c κs = search needs
 
 enum-known-n : tie.Need-enum-known-n
 enum-known-n c = search needs
 
 returns : tie.Need-returns
 unfolding wrote wrote-answer verdict
-returns c = let v = c .before .before .before in write-refused _ _ _ _ _ _ (ap verdict (sym (c .before .n .given .1)) ∙ v .lists-verdict .ensures)
+returns c = write-refused _ _ _ _ _ _ (ap verdict (sym (c .before .n .given .1)) ∙ c .before .before .before .write-refusal .ensures)
 
 enum-told : tie.Need-enum-told
 enum-told c = search needs
 
 job-size-requires : tie.Need-job-size-requires
 job-size-requires c κs = search needs
-
-returns-2 : tie.Need-returns-2
-unfolding wrote wrote-answer verdict
-returns-2 c =
-    let t = c .before .before in
-    let v = t .before .before in
-    write-short _ _ _ _ _ (ap verdict (sym (t .enum-told .given .1)) ∙ v .lists-verdict .ensures) (omega (arith, c .before .job-size .ensures))
 
 add-body : tie.Need-add-body
 add-body c = search needs
@@ -43,56 +40,50 @@ mul-units c = search needs
 add-units : tie.Need-add-units
 add-units c = search needs
 
--- the lists are accepted
-ok : (c : tie.After-enum-told) → let a = c .before .before .before .before .before .before .before .args in Accepted (plain (a .header)) (a .rates .now) (a .sizes .now) (a .distortions .now)
+-- nothing refuses the job
+accepted : (c : tie.After-enum-told) → let a = c .before .before .before .before .before .before .before .args in none ≡ write-refusal (plain (a .header)) (a .rates .now) (a .sizes .now) (a .distortions .now) (length (a .out .now))
 unfolding verdict
-ok c = write-accepted _ _ _ _ (c .before .before .before .before .before .before .before .args .out .now) (ap verdict (sym (c .enum-told .given .1)) ∙ c .before .before .lists-verdict .ensures)
+accepted c = ap verdict (sym (c .enum-told .given .1)) ∙ c .before .before .write-refusal .ensures
+
+ok : (c : tie.After-enum-told) → let a = c .before .before .before .before .before .before .before .args in Accepted (plain (a .header)) (a .rates .now) (a .sizes .now) (a .distortions .now) × (job-size (plain (a .header)) ≤ length (a .out .now))
+ok c = let a = c .before .before .before .before .before .before .before .args in (write-accepted _ _ _ _ (a .out .now) (accepted c), write-room _ (a .rates .now) (a .sizes .now) (a .distortions .now) (a .out .now) (accepted c))
 
 put-front-requires : tie.Need-put-front-requires
 unfolding plain
-put-front-requires c κs = let s = c .before .before in let k = ok (s .before) in omega (arith, k .header, s .job-size .ensures, c .before .if1 .left)
+put-front-requires c κs = let k = ok (c .before .before) in omega (arith, k .0 .header, k .1)
 
 put-numbers-requires : tie.Need-put-numbers-requires
 unfolding plain
-put-numbers-requires c κs =
-    let t = c .before .before .before .before .before in
-    let s = t .before in
-    let k = ok (s .before) in
-    omega (arith, k .lengths, s .job-size .ensures, t .if1 .left)
+put-numbers-requires c κs = let k = ok (c .before .before .before .before .before .before) in omega (arith, k .0 .lengths, k .1)
 
 put-units-requires : tie.Need-put-units-requires
 unfolding plain
 put-units-requires c κs =
-    let t = c .before .before .before .before .before .before .before .before .before in
-    let s = t .before in
-    let k = ok (s .before) in
-    (k .header, omega (arith, k .lengths), omega (arith, k .lengths), omega (arith, k .lengths, s .job-size .ensures, t .if1 .left))
+    let k = ok (c .before .before .before .before .before .before .before .before .before .before) in
+    let a = k .0 in
+    (a .header, omega (arith, a .lengths), omega (arith, a .lengths), omega (arith, a .lengths, k .1))
 
 same-length : tie.Need-same-length
 same-length c = search needs
 
-returns-3 : tie.Need-returns-3
+returns-2 : tie.Need-returns-2
 unfolding wrote wrote-answer verdict plain
-returns-3 c =
+returns-2 c =
     let u = c .before .before in
-    let r = u .before .before .before .before in
-    let f = r .before .before .before .before in
-    let t = f .before .before in
-    let s = t .before in
-    let e = s .before in
-    ap (λ (n : ℕ). record { answer = gives n; list = u .put-units .last .0 }) (s .job-size .ensures)
-    ∙ write-done _ _ _ _ _ (ap verdict (sym (e .enum-told .given .1)) ∙ e .before .before .lists-verdict .ensures) (omega (arith, s .job-size .ensures, t .if1 .left)) _ _ _ (f .put-front .ensures) (r .put-numbers .ensures) (u .put-units .ensures)
+    let r = c .before .before .before .before .before .before in
+    let f = c .before .before .before .before .before .before .before .before .before .before in
+    ap (λ (n : ℕ). record { answer = gives n; list = u .put-units .last .0 }) (c .before .before .before .before .before .before .before .before .before .before .before .before .job-size .ensures)
+    ∙ write-done _ _ _ _ _ (accepted (c .before .before .before .before .before .before .before .before .before .before .before .before .before)) _ _ _ (f .put-front .ensures) (r .put-numbers .ensures) (u .put-units .ensures)
 
 pub write-job-spec : {M : Type 1} → statement M
 write-job-spec =
     tie.close
     (tie.spec
-    lists-verdict-requires
+    write-refusal-requires
     enum-known-n
     returns
     enum-told
     job-size-requires
-    returns-2
     add-body
     mul-units
     add-units
@@ -100,4 +91,4 @@ write-job-spec =
     put-numbers-requires
     put-units-requires
     same-length
-    returns-3)
+    returns-2)

@@ -1,11 +1,11 @@
-use Rattle.pins.specs.Answers.{state}
-use Rattle.pinning.specs.State.{unpinned, fresh}
+use Rattle.pins.specs.Answers.{set-of}
+use Rattle.pinning.specs.PinSet.{unpinned, fresh}
 use mathlib.Core.Path.{refl}
 use Rattle.pins.proofs.PinSet.fresh.Statement.{statement}
 use Rattle.pins.proofs.PinSet.fresh.Tie as tie
 
 returns : tie.Need-returns
-unfolding state fresh unpinned
+unfolding set-of fresh unpinned
 returns c = refl
 
 pub fresh-spec : {M : Type 1} → statement M

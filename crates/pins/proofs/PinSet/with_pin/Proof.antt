@@ -1,4 +1,4 @@
-use Rattle.pins.specs.Answers.{state}
+use Rattle.pins.specs.Answers.{set-of}
 use Rattle.pinning.specs.Calls.{with-pin}
 use Rattle.job.specs.Answers.{coding-of}
 use mathlib.Core.Path.{refl}
@@ -22,7 +22,7 @@ add-self-3 : tie.Need-add-self-3
 add-self-3 c = search needs
 
 returns : tie.Need-returns
-unfolding state with-pin coding-of
+unfolding set-of with-pin coding-of
 returns c = refl
 
 pub with-pin-spec : {M : Type 1} → statement M

@@ -1,4 +1,4 @@
-use Rattle.pins.specs.Answers.{state}
+use Rattle.pins.specs.Answers.{set-of}
 use Rattle.pinning.specs.Calls.{without-pin}
 use Rattle.job.specs.Answers.{coding-of}
 use mathlib.Core.Path.{refl}
@@ -22,7 +22,7 @@ sub-self-3 : tie.Need-sub-self-3
 sub-self-3 c = search needs
 
 returns : tie.Need-returns
-unfolding state without-pin coding-of
+unfolding set-of without-pin coding-of
 returns c = refl
 
 pub without-pin-spec : {M : Type 1} → statement M

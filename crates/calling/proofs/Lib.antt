@@ -1,0 +1,6 @@
+-- What is proved of the definitions, for the proofs of crates that name this one.
+pub mod Records
+pub mod Numbers
+pub mod Commands
+pub mod Sessions
+pub mod Cases

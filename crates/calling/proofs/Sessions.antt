@@ -1,0 +1,182 @@
+-- Sessions of calls: alone, `CallSessions`; with planning, `Sessions` and `SessionKeeps`; with a replay, `ReplaySessions` and `ReplaySessionKeeps`.
+use Prim.Native.Nat.{ℕ, _+_, _*_, _/_, _≤_}
+use mathlib.Core.Path.{_≡_, refl, sym, _∙_, ap, ap₂}
+use mathlib.Core.Option.{none, some}
+use mathlib.Core.List.{List, [], _∷_, _++_, map}
+use lib.ListN.{length}
+use borrow.Author.Tests.{leb-true, le-leb}
+use Rattle.base.specs.Answer.{Answer, refused, gives}
+use Rattle.base.specs.Refusals.{Test, refusal, unless, condition, guarded, InOrder}
+use Rattle.base.specs.Lent.{Ended, over, put}
+use Rattle.base.specs.Lent as lent
+use Rattle.base.proofs.Refusals.{not-none, some-same, refusal-join, first-none, unless-some, unless-none, unless-first, Decides, no-more, one-more, decides-join, in-order, Guarded, was-refused, was-done, guarded-is}
+use Rattle.base.proofs.Lent.{put-given, put-refused}
+use Rattle.base.proofs.Lent as lent-laws
+use Rattle.model.specs.Job.{Job, intervals}
+use Rattle.model.specs.Pins.{PinTotals, pin-totals}
+use Rattle.model.specs.Best.{late}
+use Rattle.model.specs.Replay.{Totals}
+use Rattle.model.specs.Table.{words}
+use Rattle.format.specs.Parser.{Result, took, on-read, refusal-in}
+use Rattle.format.specs.Parser as P
+use Rattle.format.specs.JobBytes.{parse}
+use Rattle.format.proofs.Parsing.{looks-read, read-refusal}
+use Rattle.pinning.specs.PinSet.{lines}
+use Rattle.pinning.specs.Check.{Matches}
+use Rattle.pinning.specs.Calls.{open-call, run}
+use Rattle.pinning.proofs.Agree.{passes-matches, matched}
+use Rattle.pinning.proofs.History.{history}
+use Rattle.replaying.specs.Entries.{entry-size, plan-of}
+use Rattle.replaying.specs.Calls.{Replayed, played, replay-tests, replay-call}
+use Rattle.replaying.specs.Claims.{InShape, DemandTwo}
+use Rattle.replaying.proofs.Reports as replaying
+use Rattle.planning.specs.Calls.{Planned, plan-call}
+use Rattle.planning.specs.Claims.{PlanClaim}
+use Rattle.planning.proofs.DemandThree.{demand-three}
+use Rattle.planning.proofs.Refusals as planning
+use Rattle.calling.specs.Commands.{calls-of, calls-tests}
+use Rattle.calling.specs.Sessions.{made, answer-number, numbers, answers-tests, calls-refusal, calls-call, Session, refuse, session-tests, plan-refusal, planned-after, session-call, replay-refusal, replay-session}
+use Rattle.calling.specs.Claims.{AllKinds, Whole, book-numbers, book-pins, SessionClaim, SessionKeeping, CallSessions, Sessions, SessionKeeps, ReplaySessions, ReplaySessionKeeps}
+use Rattle.calling.proofs.Numbers.{calls-decide}
+
+-- after any calls the set holds what the book does
+module _ (b : List ℕ) (j : Job) (k : ℕ) (parsed : parse b ≡ took j k) (calls : List ℕ) where
+  numbers-are : numbers b calls ≡ book-numbers j calls
+  unfolding numbers made
+  numbers-are = ap (map answer-number) (history b j k parsed (calls-of calls) .answered)
+
+  set-matches : Matches j (made b calls .set)
+  unfolding made
+  set-matches = passes-matches b j k parsed _ (history b j k parsed (calls-of calls) .passes)
+
+pub call-sessions : CallSessions
+unfolding calls-call answers-tests
+call-sessions b calls answers =
+    looks-read (lent.refuse answers) (parse b) (λ j. answers-tests calls (length answers)) (λ j. condition 2 (AllKinds calls) ∷ condition 1 (Whole calls) ∷ condition 12 (length calls / 3 ≤ length answers) ∷ []) (λ j. record { answer = gives (made b calls .set .totals); list = over (numbers b calls) answers }) (λ j r. r ≡ record { answer = gives (pin-totals j (book-pins j calls)); list = over (book-numbers j calls) answers })
+    (λ j k e. (
+      decides-join (calls-decide calls) (one-more refl (leb-true (length calls / 3) (length answers), le-leb (length calls / 3) (length answers)) no-more),
+      λ h. done j k e,
+    ))
+  where
+    done : (j : Job) (k : ℕ) → parse b ≡ took j k → _≡_ {A = Ended PinTotals} (record { answer = gives (made b calls .set .totals); list = over (numbers b calls) answers }) (record { answer = gives (pin-totals j (book-pins j calls)); list = over (book-numbers j calls) answers })
+    done j k e = unfold made in (ap₂ (λ (t : PinTotals) (l : List ℕ). record { answer = gives t; list = over l answers }) (history b j k e (calls-of calls) .totals) (numbers-are b j k e calls))
+
+-- with planning
+module _ (b calls answers table entries : List ℕ) where
+  module _ (j : Job) (k : ℕ) (parsed : parse b ≡ took j k) (room : words j ≤ length table) (space : entry-size * intervals j ≤ length entries) where
+    planned : Planned
+    planned = plan-call b (made b calls .set) table entries
+
+    claim : PlanClaim j (book-pins j calls) late 0 (j .start) table entries planned
+    unfolding made planned
+    claim = demand-three b j k parsed (calls-of calls) .planning table entries room space
+
+    session-claim : SessionClaim j calls answers table entries (planned-after b calls answers table entries)
+    unfolding planned-after planned
+    session-claim = record {
+      answered = λ f. put-given _ _ (λ (t : Totals). numbers b calls) answers (claim .else-best f .totals-are) ∙ ap (λ (l : List ℕ). over l answers) (numbers-are b j k parsed calls);
+      none-kept = λ e. put-refused _ 13 (λ (t : Totals). numbers b calls) answers e;
+      planning = claim;
+    }
+
+  pub session-decides : (j : Job) → Decides (session-tests j calls (length answers) (length table) (length entries)) (condition 2 (AllKinds calls) ∷ condition 1 (Whole calls) ∷ condition 11 (words j ≤ length table) ∷ condition 12 (length calls / 3 ≤ length answers) ∷ condition 12 (entry-size * intervals j ≤ length entries) ∷ [])
+  unfolding session-tests
+  session-decides j =
+      decides-join (calls-decide calls)
+      (one-more refl (leb-true (words j) (length table), le-leb (words j) (length table))
+      (one-more refl (leb-true (length calls / 3) (length answers), le-leb (length calls / 3) (length answers))
+      (one-more refl (leb-true (entry-size * intervals j) (length entries), le-leb (entry-size * intervals j) (length entries)) no-more)))
+
+pub sessions : Sessions
+unfolding session-call
+sessions b calls answers table entries =
+    looks-read (refuse answers table entries) (parse b) (λ j. session-tests j calls (length answers) (length table) (length entries)) (λ j. condition 2 (AllKinds calls) ∷ condition 1 (Whole calls) ∷ condition 11 (words j ≤ length table) ∷ condition 12 (length calls / 3 ≤ length answers) ∷ condition 12 (entry-size * intervals j ≤ length entries) ∷ []) (λ j. planned-after b calls answers table entries) (λ j r. SessionClaim j calls answers table entries r)
+    (λ j k e. (session-decides b calls answers table entries j, λ h. session-claim b calls answers table entries j k e (h .1 .1 .0) (h .1 .1 .1 .1 .0)))
+
+module _ (b calls answers table entries : List ℕ) where
+  refused-keeps : (n : ℕ) → SessionKeeping answers table entries (refuse answers table entries n)
+  unfolding refuse
+  refused-keeps n = record { lists = planning.refuse-keeps table entries n; answers-kept = λ k e. refl }
+
+  after-keeps : SessionKeeping answers table entries (planned-after b calls answers table entries)
+  unfolding planned-after
+  after-keeps = record {
+    lists = planning.keeps b (made b calls .set) table entries;
+    answers-kept = λ n e. put-refused _ n (λ (t : Totals). numbers b calls) answers e;
+  }
+
+  guarded-keeps : {q : Session} → Guarded (refuse answers table entries) (planned-after b calls answers table entries) q → SessionKeeping answers table entries q
+  guarded-keeps (was-refused n) = refused-keeps n
+  guarded-keeps was-done = after-keeps
+
+  read-keeps : (r : Result Job) → SessionKeeping answers table entries (on-read (refuse answers table entries) r (λ j. guarded (refuse answers table entries) (session-tests j calls (length answers) (length table) (length entries)) (planned-after b calls answers table entries)))
+  unfolding on-read
+  read-keeps (P.refused n) = refused-keeps n
+  read-keeps (P.took j k) = guarded-keeps (guarded-is (refuse answers table entries) (session-tests j calls (length answers) (length table) (length entries)) (planned-after b calls answers table entries))
+
+pub session-keeps : SessionKeeps
+unfolding session-call
+session-keeps b calls answers table entries = read-keeps b calls answers table entries (parse b)
+
+-- with a replay: after the calls come the tests of replay itself
+pub replay-sessions : ReplaySessions
+unfolding replay-session
+replay-sessions b calls entries levels =
+    looks-read (lent.refuse levels) (parse b) (λ j. calls-tests calls) (λ j. condition 2 (AllKinds calls) ∷ condition 1 (Whole calls) ∷ []) (λ j. replay-call b (made b calls .set) entries levels) Then
+    (λ j k e. (calls-decide calls, λ h. then-replay j k e))
+  where
+    Then : Job → Ended Replayed → Type 0
+    Then j r = InOrder r (lent.refuse levels) (condition 14 (InShape j entries) ∷ condition 12 ((1 + length (j .line .buckets)) * intervals j ≤ length levels) ∷ []) (DemandTwo j (book-pins j calls) (plan-of j entries) levels r)
+
+    then-replay : (j : Job) (k : ℕ) → parse b ≡ took j k → Then j (replay-call b (made b calls .set) entries levels)
+    then-replay j k e = unfold made in (rw (← history b j k e (calls-of calls) .pins) (replaying.replay-calls b (made b calls .set) entries levels .1 j k e .1 (set-matches b j k e calls)))
+
+pub replay-session-keeps : ReplaySessionKeeps
+unfolding replay-session
+replay-session-keeps b calls entries levels = replaying.read-keeps levels _ (parse b) (λ j. kept (guarded-is (lent.refuse levels) (calls-tests calls) (replay-call b (made b calls .set) entries levels)))
+  where
+    kept : {q : Ended Replayed} → Guarded (lent.refuse levels) (replay-call b (made b calls .set) entries levels) q → lent.Keeping levels q
+    kept (was-refused n) = lent-laws.refuse-keeps levels n
+    kept was-done = replaying.keeps b (made b calls .set) entries levels .0
+
+-- The refusal of each that is found before a call is made.
+
+pub calls-by : (b calls answers : List ℕ) → calls-call b calls answers ≡ unless (lent.refuse answers) (calls-refusal b calls (length answers)) (record { answer = gives (made b calls .set .totals); list = over (numbers b calls) answers })
+unfolding calls-call calls-refusal
+calls-by b calls answers = sym (read-refusal (lent.refuse answers) (parse b) (λ j. answers-tests calls (length answers)) _)
+
+pub session-by : (b calls answers table entries : List ℕ) → session-call b calls answers table entries ≡ unless (refuse answers table entries) (plan-refusal b calls (length answers) (length table) (length entries)) (planned-after b calls answers table entries)
+unfolding session-call plan-refusal
+session-by b calls answers table entries = sym (read-refusal (refuse answers table entries) (parse b) (λ j. session-tests j calls (length answers) (length table) (length entries)) _)
+
+module _ (b calls entries levels : List ℕ) where
+  abbrev replaying-tests : Job → List Test
+  replaying-tests j = calls-tests calls ++ replay-tests j entries (length levels)
+
+  abbrev then-replay : Ended Replayed
+  then-replay = replay-call b (made b calls .set) entries levels
+
+  -- of a job: the calls' tests and replay's are looked at one after the other
+  replay-on : (j : Job) (k : ℕ) → parse b ≡ took j k → then-replay ≡ guarded (lent.refuse levels) (replay-tests j entries (length levels)) (played j (lines (length (j .units)) (made b calls .set .pins)) entries levels)
+  unfolding replay-call on-read
+  replay-on j k e = rw (matched b j k e (made b calls .set) (set-matches b j k e calls))
+
+  joined : (j : Job) (k : ℕ) → parse b ≡ took j k → guarded (lent.refuse levels) (calls-tests calls) then-replay ≡ unless (lent.refuse levels) (refusal (replaying-tests j)) (played j (lines (length (j .units)) (made b calls .set .pins)) entries levels)
+  unfolding guarded
+  joined j k e = rw (replay-on j k e, refusal-join (calls-tests calls) (replay-tests j entries (length levels))) (sym (unless-first (lent.refuse levels) (refusal (calls-tests calls)) (refusal (replay-tests j entries (length levels))) (played j (lines (length (j .units)) (made b calls .set .pins)) entries levels)))
+
+  pub replay-refused : (n : ℕ) → replay-refusal b calls entries (length levels) ≡ some n → replay-session b calls entries levels ≡ lent.refuse levels n
+  unfolding replay-session replay-refusal
+  replay-refused n e = go (parse b) refl e
+    where
+      go : (r : Result Job) → parse b ≡ r → refusal-in r replaying-tests ≡ some n → on-read (lent.refuse levels) r (λ j. guarded (lent.refuse levels) (calls-tests calls) then-replay) ≡ lent.refuse levels n
+      go (P.refused m) q f = unfold on-read refusal-in in (ap (lent.refuse levels) (some-same f))
+      go (took j k) q f = unfold on-read refusal-in in (joined j k q ∙ unless-some (lent.refuse levels) _ n _ f)
+
+  pub replay-passed : replay-refusal b calls entries (length levels) ≡ none → replay-session b calls entries levels ≡ then-replay
+  unfolding replay-session replay-refusal
+  replay-passed e = go (parse b) e
+    where
+      go : (r : Result Job) → refusal-in r replaying-tests ≡ none → on-read (lent.refuse levels) r (λ j. guarded (lent.refuse levels) (calls-tests calls) then-replay) ≡ then-replay
+      go (P.refused m) f = unfold refusal-in in (absurd (not-none f))
+      go (took j k) f = unfold on-read refusal-in guarded in (unless-none (lent.refuse levels) _ _ (first-none _ _ (sym (refusal-join (calls-tests calls) (replay-tests j entries (length levels))) ∙ f) .0))

@@ -1,0 +1,86 @@
+-- A session of calls in one call: pins and lifts in turn from the set that opening answers, refused ones included, and what comes after them: nothing more, planning, or a replay. And what the program reads: a job with commands behind it, and planning.
+use Prim.Native.Nat.{ℕ, _*_, _/_}
+use mathlib.Core.Option.{Option, none, some}
+use mathlib.Core.List.{List, [], _∷_, _++_, map}
+use lib.Dec.{leb}
+use lib.ListN.{length}
+use Rattle.base.specs.Answer.{gives}
+use Rattle.base.specs.Refusals.{Test, test, unless, guarded}
+use Rattle.base.specs.Lent.{Ended, over, put}
+use Rattle.base.specs.Lent as lent
+use Rattle.model.specs.Job.{Job, intervals}
+use Rattle.model.specs.Pins.{PinTotals}
+use Rattle.model.specs.Table.{words}
+use Rattle.format.specs.Parser.{on-read, refusal-in}
+use Rattle.format.specs.JobBytes.{parse}
+use Rattle.pinning.specs.PinSet.{PinSet}
+use Rattle.pinning.specs.Calls.{CallsMade, open-call, run}
+use Rattle.replaying.specs.Entries.{entry-size}
+use Rattle.replaying.specs.Calls.{Replayed, replay-tests, replay-call}
+use Rattle.planning.specs.Calls.{Planned, plan-call}
+use Rattle.planning.specs.Calls as plan
+use Rattle.calling.specs.Commands.{commands-call, calls-of, calls-tests}
+
+-- the calls, made in turn
+unfoldable pub made : List ℕ → List ℕ → CallsMade
+made b calls = run b (open-call b .set) (calls-of calls)
+
+-- 0 for a call that was taken, else the number that refused it
+unfoldable pub answer-number : Option ℕ → ℕ
+answer-number none = 0
+answer-number (some n) = n
+
+unfoldable pub numbers : List ℕ → List ℕ → List ℕ
+numbers b calls = map answer-number (made b calls .answers)
+
+-- The calls alone: each one's number goes to a list, and the answer has the totals of the set that they leave.
+unfoldable pub answers-tests : List ℕ → ℕ → List Test
+answers-tests calls answers = calls-tests calls ++ (test 12 (leb (length calls / 3) answers) ∷ [])
+
+unfoldable pub calls-refusal : List ℕ → List ℕ → ℕ → Option ℕ
+calls-refusal b calls answers = refusal-in (parse b) (λ j. answers-tests calls answers)
+
+unfoldable pub calls-call : List ℕ → List ℕ → List ℕ → Ended PinTotals
+calls-call b calls answers = on-read (lent.refuse answers) (parse b) (λ j. guarded (lent.refuse answers) (answers-tests calls (length answers)) (record { answer = gives (made b calls .set .totals); list = over (numbers b calls) answers }))
+
+-- The calls and the planning after them: what planning answers and leaves, and the list for the calls' numbers.
+pub record Session : Type 0 where
+  pub answers : List ℕ
+  pub planned : Planned
+
+-- a refusal writes nothing
+unfoldable pub refuse : List ℕ → List ℕ → List ℕ → ℕ → Session
+refuse answers table entries n = record { answers = answers; planned = plan.refuse table entries n }
+
+-- all that is looked at before a call is made: the calls, 2 or 1, then the table, 11, then the lists for the numbers and the entries, 12
+unfoldable pub session-tests : Job → List ℕ → ℕ → ℕ → ℕ → List Test
+session-tests j calls answers table entries = calls-tests calls ++ (test 11 (leb (words j) table) ∷ test 12 (leb (length calls / 3) answers) ∷ test 12 (leb (entry-size * intervals j) entries) ∷ [])
+
+unfoldable pub plan-refusal : List ℕ → List ℕ → ℕ → ℕ → ℕ → Option ℕ
+plan-refusal b calls answers table entries = refusal-in (parse b) (λ j. session-tests j calls answers table entries)
+
+-- the numbers are written where there is a plan: "no plan" writes the table alone
+unfoldable pub planned-after : List ℕ → List ℕ → List ℕ → List ℕ → List ℕ → Session
+planned-after b calls answers table entries = record {
+  answers = put (plan-call b (made b calls .set) table entries .answer) (λ t. numbers b calls) answers;
+  planned = plan-call b (made b calls .set) table entries;
+}
+
+unfoldable pub session-call : List ℕ → List ℕ → List ℕ → List ℕ → List ℕ → Session
+session-call b calls answers table entries = on-read (refuse answers table entries) (parse b) (λ j. guarded (refuse answers table entries) (session-tests j calls (length answers) (length table) (length entries)) (planned-after b calls answers table entries))
+
+-- a replay after calls is refused by the calls, 2 or 1, then by what replay is tested for
+unfoldable pub replay-refusal : List ℕ → List ℕ → List ℕ → ℕ → Option ℕ
+replay-refusal b calls entries levels = refusal-in (parse b) (λ j. calls-tests calls ++ replay-tests j entries levels)
+
+-- The calls and a replay after them: the job, 1 to 5, then the calls, 2 or 1, then as replay does.
+unfoldable pub replay-session : List ℕ → List ℕ → List ℕ → List ℕ → Ended Replayed
+replay-session b calls entries levels = on-read (lent.refuse levels) (parse b) (λ j. guarded (lent.refuse levels) (calls-tests calls) (replay-call b (made b calls .set) entries levels))
+
+-- how many bytes the program takes
+abbrev pub input-size : ℕ
+input-size = 32768
+
+-- what the program plans: 15 first, then a job and commands to the end of the bytes, the first refusal ending it, then planning
+unfoldable pub input-call : List ℕ → List ℕ → List ℕ → Planned
+input-call b table entries = guarded (plan.refuse table entries) (test 15 (leb (length b) input-size) ∷ []) (unless (plan.refuse table entries) (commands-call b .refused) (plan-call b (commands-call b .set) table entries))

@@ -1,0 +1,197 @@
+-- What refuses a session of calls before a call is made, test by test, and what the calls answer and leave behind it.
+use Prim.Native.Nat.{ℕ, _+_, _*_, _/_, _<_, _≤_}
+use mathlib.Core.Path.{_≡_, sym, _∙_, ap}
+use mathlib.Core.Bool.{true, false}
+use mathlib.Core.Option.{Option, none, some}
+use mathlib.Core.List.{List, [], _∷_, _++_}
+use native.Mathlib.Omega.{arith}
+use lib.Dec.{leb}
+use lib.ListN.{length}
+use borrow.Author.Tests.{lt-leb, le-leb, leb-true}
+use Rattle.base.specs.Answer.{refused, gives}
+use Rattle.base.specs.Refusals.{Test, test, refusal, first}
+use Rattle.base.specs.Lent as lent
+use Rattle.base.proofs.Refusals.{refusal-past, refusal-here, refusal-last, refusal-none, refusal-join, first-none, unless-some, unless-none}
+use Rattle.base.proofs.Lent.{put-given, put-refused}
+use Rattle.model.specs.Job.{Job, intervals}
+use Rattle.model.specs.Replay.{Totals}
+use Rattle.model.specs.Table.{words}
+use Rattle.format.specs.Parser.{refusal-in}
+use Rattle.format.specs.Parser as P
+use Rattle.format.specs.JobBytes.{Header, job-in, parse, Opens}
+use Rattle.format.proofs.Parsing.{passed}
+use Rattle.format.proofs.Opened.{job-formed, intervals-are}
+use Rattle.pinning.specs.PinSet.{PinSet}
+use Rattle.pins.specs.declared.PinSet as code-set
+use Rattle.pins.specs.Answers.{set-of}
+use Rattle.replaying.specs.Entries.{entry-size, shaped}
+use Rattle.replaying.specs.Calls.{level-count, replay-tests, replay-call}
+use Rattle.planner.specs.Answers.{table-words}
+use Rattle.planner.proofs.Answering.{words-are}
+use Rattle.planning.specs.Calls.{Planned, plan-call}
+use Rattle.calling.specs.Commands.{calls-tests}
+use Rattle.calling.specs.Sessions.{made, numbers, answers-tests, calls-refusal, calls-call, refuse, session-tests, plan-refusal, planned-after, session-call, replay-refusal, replay-session}
+use Rattle.calling.proofs.Sessions.{calls-by, session-by, replay-passed}
+use Rattle.session.specs.Answers.{Made}
+
+-- the calls' tests, and others behind them
+module _ (b calls : List ℕ) (more : Job → List Test) where
+  abbrev whole : Option ℕ
+  whole = refusal-in (parse b) (λ j. calls-tests calls ++ more j)
+
+  not-read : (n : ℕ) → parse b ≡ P.refused n → some n ≡ whole
+  unfolding refusal-in
+  not-read n e = rw e
+
+  module _ (h : Header) (o : Opens b h) where
+    looked : whole ≡ first (refusal (calls-tests calls)) (refusal (more (job-in b)))
+    unfolding refusal-in
+    looked = rw (o .parsed) (refusal-join (calls-tests calls) (more (job-in b)))
+
+    by-calls : (n : ℕ) → some n ≡ refusal (calls-tests calls) → some n ≡ whole
+    by-calls n e = sym (looked ∙ unless-some some (refusal (calls-tests calls)) n _ (sym e))
+
+    behind-calls : none ≡ refusal (calls-tests calls) → whole ≡ refusal (more (job-in b))
+    behind-calls e = looked ∙ unless-none some (refusal (calls-tests calls)) _ (sym e)
+
+-- calls alone
+module _ (b calls : List ℕ) (answers : ℕ) where
+  abbrev few : Test
+  few = test 12 (leb (length calls / 3) answers)
+
+  pub calls-not-read : (n : ℕ) → parse b ≡ P.refused n → some n ≡ calls-refusal b calls answers
+  unfolding calls-refusal answers-tests
+  calls-not-read = not-read b calls (λ j. few ∷ [])
+
+  module _ (h : Header) (o : Opens b h) where
+    pub calls-not-due : (n : ℕ) → some n ≡ refusal (calls-tests calls) → some n ≡ calls-refusal b calls answers
+    unfolding calls-refusal answers-tests
+    calls-not-due = by-calls b calls (λ j. few ∷ []) h o
+
+    module _ (f : none ≡ refusal (calls-tests calls)) where
+      on : calls-refusal b calls answers ≡ refusal (few ∷ [])
+      unfolding calls-refusal answers-tests
+      on = behind-calls b calls (λ j. few ∷ []) h o f
+
+      pub calls-12 : answers < length calls / 3 → some 12 ≡ calls-refusal b calls answers
+      calls-12 l = sym (on ∙ refusal-here few [] (lt-leb (length calls / 3) answers l))
+
+      pub calls-fit : length calls / 3 ≤ answers → none ≡ calls-refusal b calls answers
+      calls-fit l = sym (on ∙ refusal-last few (le-leb (length calls / 3) answers l))
+
+-- with planning
+module _ (b calls : List ℕ) (answers table entries : ℕ) where
+  abbrev more : Job → List Test
+  more j = test 11 (leb (words j) table) ∷ test 12 (leb (length calls / 3) answers) ∷ test 12 (leb (entry-size * intervals j) entries) ∷ []
+
+  pub plan-not-read : (n : ℕ) → parse b ≡ P.refused n → some n ≡ plan-refusal b calls answers table entries
+  unfolding plan-refusal session-tests
+  plan-not-read = not-read b calls more
+
+  module _ (h : Header) (o : Opens b h) where
+    pub plan-not-due : (n : ℕ) → some n ≡ refusal (calls-tests calls) → some n ≡ plan-refusal b calls answers table entries
+    unfolding plan-refusal session-tests
+    plan-not-due = by-calls b calls more h o
+
+    module _ (f : none ≡ refusal (calls-tests calls)) where
+      plan-on : plan-refusal b calls answers table entries ≡ refusal (more (job-in b))
+      unfolding plan-refusal session-tests
+      plan-on = behind-calls b calls more h o f
+
+      pub plan-11 : table < table-words h → some 11 ≡ plan-refusal b calls answers table entries
+      plan-11 l = sym (plan-on ∙ refusal-here _ _ (lt-leb (words (job-in b)) table (omega (arith, words-are b h o))))
+
+      module _ (room : table-words h ≤ table) where
+        past-11 : plan-refusal b calls answers table entries ≡ refusal (test 12 (leb (length calls / 3) answers) ∷ test 12 (leb (entry-size * intervals (job-in b)) entries) ∷ [])
+        past-11 = plan-on ∙ refusal-past _ _ (le-leb (words (job-in b)) table (omega (arith, words-are b h o)))
+
+        pub plan-12-answers : answers < length calls / 3 → some 12 ≡ plan-refusal b calls answers table entries
+        plan-12-answers l = sym (past-11 ∙ refusal-here _ _ (lt-leb (length calls / 3) answers l))
+
+        module _ (each : length calls / 3 ≤ answers) where
+          past-12 : plan-refusal b calls answers table entries ≡ refusal (test 12 (leb (entry-size * intervals (job-in b)) entries) ∷ [])
+          past-12 = past-11 ∙ refusal-past _ _ (le-leb (length calls / 3) answers each)
+
+          pub plan-12-entries : entries < entry-size * (h .units + h .delay) → some 12 ≡ plan-refusal b calls answers table entries
+          plan-12-entries l = sym (past-12 ∙ refusal-here _ _ (lt-leb (entry-size * intervals (job-in b)) entries (omega (arith, intervals-are b h o))))
+
+          pub plan-fits : entry-size * (h .units + h .delay) ≤ entries → none ≡ plan-refusal b calls answers table entries
+          plan-fits l = sym (past-12 ∙ refusal-last _ (le-leb (entry-size * intervals (job-in b)) entries (omega (arith, intervals-are b h o))))
+
+-- with a replay
+module _ (b calls entries : List ℕ) (levels : ℕ) where
+  pub replay-not-read : (n : ℕ) → parse b ≡ P.refused n → some n ≡ replay-refusal b calls entries levels
+  unfolding replay-refusal
+  replay-not-read = not-read b calls (λ j. replay-tests j entries levels)
+
+  module _ (h : Header) (o : Opens b h) where
+    pub replay-not-due : (n : ℕ) → some n ≡ refusal (calls-tests calls) → some n ≡ replay-refusal b calls entries levels
+    unfolding replay-refusal
+    replay-not-due = by-calls b calls (λ j. replay-tests j entries levels) h o
+
+    -- two numbers an interval
+    counted : level-count (job-in b) ≡ 2 * (h .units + h .delay)
+    unfolding level-count
+    counted = rw (job-formed b h o .one-bucket, intervals-are b h o)
+
+    module _ (f : none ≡ refusal (calls-tests calls)) where
+      replay-on : replay-refusal b calls entries levels ≡ refusal (test 14 (shaped h entries) ∷ test 12 (leb (level-count (job-in b)) levels) ∷ [])
+      unfolding replay-refusal replay-tests
+      replay-on = behind-calls b calls (λ j. replay-tests j entries levels) h o f ∙ rw (o .header-is)
+
+      pub replay-14 : shaped h entries ≡ false → some 14 ≡ replay-refusal b calls entries levels
+      replay-14 e = sym (replay-on ∙ refusal-here _ _ e)
+
+      module _ (e : shaped h entries ≡ true) where
+        pub replay-12 : levels < 2 * (h .units + h .delay) → some 12 ≡ replay-refusal b calls entries levels
+        replay-12 l = sym (replay-on ∙ refusal-past _ _ e ∙ refusal-here _ _ (lt-leb (level-count (job-in b)) levels (omega (arith, counted))))
+
+        pub replay-fits : 2 * (h .units + h .delay) ≤ levels → none ≡ replay-refusal b calls entries levels
+        replay-fits l = sym (replay-on ∙ refusal-past _ _ e ∙ refusal-last _ (le-leb (level-count (job-in b)) levels (omega (arith, counted))))
+
+-- Behind the tests.
+
+pub calls-room : (b calls : List ℕ) (answers : ℕ) → none ≡ calls-refusal b calls answers → length calls / 3 ≤ answers
+unfolding calls-refusal answers-tests
+calls-room b calls answers e =
+    let p = passed (parse b) (λ j. calls-tests calls ++ (few b calls answers ∷ [])) (sym e) in
+    leb-true (length calls / 3) answers (refusal-none _ [] (first-none (refusal (calls-tests calls)) _ (sym (refusal-join (calls-tests calls) (few b calls answers ∷ [])) ∙ p .none-refuses) .1) .0)
+
+pub session-room : (b calls : List ℕ) (answers table entries : ℕ) → none ≡ plan-refusal b calls answers table entries → length calls / 3 ≤ answers
+unfolding plan-refusal session-tests
+session-room b calls answers table entries e =
+    let p = passed (parse b) (λ j. calls-tests calls ++ more b calls answers table entries j) (sym e) in
+    let behind = first-none (refusal (calls-tests calls)) _ (sym (refusal-join (calls-tests calls) (more b calls answers table entries (p .value))) ∙ p .none-refuses) .1 in
+    leb-true (length calls / 3) answers (refusal-none _ _ (refusal-none _ _ behind .1) .0)
+
+module _ (b calls answers : List ℕ) where
+  pub calls-refused : (n : ℕ) → some n ≡ calls-refusal b calls (length answers) → lent.refuse answers n ≡ calls-call b calls answers
+  calls-refused n e = sym (calls-by b calls answers ∙ unless-some (lent.refuse answers) _ n _ (sym e))
+
+  pub calls-made : none ≡ calls-refusal b calls (length answers) → (s : code-set.PinSet) (new : List ℕ) → Made b calls answers s new → record { answer = gives (set-of s .totals); list = new } ≡ calls-call b calls answers
+  calls-made e s new m = rw (m .set-is, m .written) (sym (calls-by b calls answers ∙ unless-none (lent.refuse answers) _ _ (sym e)))
+
+module _ (b calls answers table entries : List ℕ) where
+  -- the tests passed
+  module _ (e : none ≡ plan-refusal b calls (length answers) (length table) (length entries)) where
+    on-planning : session-call b calls answers table entries ≡ planned-after b calls answers table entries
+    on-planning = session-by b calls answers table entries ∙ unless-none (refuse answers table entries) _ _ (sym e)
+
+    -- the set that the calls left, and what planning with it came to
+    module _ (s : code-set.PinSet) (is : set-of s ≡ made b calls .set) (p : Planned) (i : p ≡ plan-call b (set-of s) table entries) where
+      planned-is : plan-call b (made b calls .set) table entries ≡ p
+      planned-is = ap (λ (t : PinSet). plan-call b t table entries) (sym is) ∙ sym i
+
+      pub session-none : (n : ℕ) → p .answer ≡ refused n → record { answers = answers; planned = record { answer = refused n; table = p .table; entries = p .entries } } ≡ session-call b calls answers table entries
+      unfolding planned-after
+      session-none n q = rw (← q) (sym (on-planning ∙ rw (planned-is, put-refused (p .answer) n (λ (t : Totals). numbers b calls) answers q)))
+
+      pub session-made : (t : Totals) → p .answer ≡ gives t → (u : code-set.PinSet) (new : List ℕ) → Made b calls answers u new → record { answers = new; planned = record { answer = gives t; table = p .table; entries = p .entries } } ≡ session-call b calls answers table entries
+      unfolding planned-after
+      session-made t q u new m = rw (m .written, ← q) (sym (on-planning ∙ rw (planned-is, put-given (p .answer) t (λ (t : Totals). numbers b calls) answers q)))
+
+  pub session-refused : (n : ℕ) → some n ≡ plan-refusal b calls (length answers) (length table) (length entries) → refuse answers table entries n ≡ session-call b calls answers table entries
+  session-refused n e = sym (session-by b calls answers table entries ∙ unless-some (refuse answers table entries) _ n _ (sym e))
+
+pub replay-done : (b calls entries levels : List ℕ) → none ≡ replay-refusal b calls entries (length levels) → (s : PinSet) → s ≡ made b calls .set → replay-call b s entries levels ≡ replay-session b calls entries levels
+replay-done b calls entries levels e s is = rw is (sym (replay-passed b calls entries levels (sym e)))

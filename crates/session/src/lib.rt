@@ -1,0 +1,397 @@
+// A session of calls: pins and lifts in turn, refused ones included, and what comes after them: nothing more, planning, or a replay. The calls come as numbers, three a call, or as command records behind a job's bytes (document 01, "The printed plan").
+pub mod refusal;
+
+ghost use mathlib.Core.Path.{_≡_};
+ghost use Prim.Native.Nat.{_+_, _*_, _/_, _<_, _≤_};
+ghost use lib.ListN.{length, drop};
+ghost use Rattle.base.specs.Refusals.{refusal};
+ghost use Rattle.pinning.specs.Calls.{call};
+ghost use Rattle.pins.specs.Answers.{set-of, number, handed};
+ghost use Rattle.job.specs.Answers.{verdict};
+ghost use Rattle.planner.specs.Answers.{planned};
+ghost use Rattle.replay.specs.Answers.{ended};
+ghost use Rattle.calling.specs.Commands.{kind-fits, call-at, calls-tests, command, follow, commands-call};
+ghost use Rattle.calling.specs.Sessions.{made, answer-number, calls-refusal, calls-call, plan-refusal, session-call, replay-refusal, replay-session, input-call};
+ghost use Rattle.session.specs.Answers.{called, session-is, command-is, step-is, carries-out, Made};
+use job::Reading;
+use job::Verdict;
+use pins::Answer;
+use pins::Handed;
+use pins::Opening;
+use pins::PinSet;
+use planner::Planned;
+use replay::Replayed;
+
+// Of the pins that calls leave: how many, their sizes, their distortions.
+pub struct PinTotals {
+    pub count: u32,
+    pub size: u32,
+    pub distortion: u32,
+}
+
+// The totals of the pins that calls leave, or the refusal's number.
+pub enum Called {
+    Done(PinTotals),
+    Refused(u8),
+}
+
+// A command record, or the number that refuses it.
+enum Command {
+    Pin { unit: u16, choice: u16 },
+    Lift { unit: u16 },
+    Refused(u8),
+}
+
+// What one command comes to: its answer, the set after it and where the next stands.
+struct Step {
+    answer: Answer,
+    set: PinSet,
+    next: usize,
+}
+
+// The kinds of the command records, which calls as numbers have too, and how many fields they have.
+const PIN: u16 = 6;
+
+const LIFT: u16 = 7;
+
+const PIN_FIELDS: u8 = 2;
+
+const LIFT_FIELDS: u8 = 1;
+
+// The bytes of the two records.
+const PIN_SIZE: usize = 8;
+
+const LIFT_SIZE: usize = 6;
+
+// How many numbers a call has.
+const NUMBERS: usize = 3;
+
+// How many bytes the program takes.
+const MOST_INPUT: usize = 32768;
+
+fn kind_fits(kind: u16) -> bool
+    ensures { λ r. ⌜ r ≡ kind-fits kind ⌝ }
+{
+    match kind {
+        PIN => true,
+        LIFT => true,
+        _ => false,
+    }
+}
+
+// Calls as numbers: another kind is 2; then a last call that is cut is 1.
+fn calls_verdict(calls: &[u16]) -> Verdict
+    ensures { λ r. ⌜ verdict r ≡ refusal (calls-tests (now (calls .entry))) ⌝ }
+{
+    let count = calls.len() / NUMBERS;
+    for place in 0..count {
+        let at = NUMBERS * place;
+        if !kind_fits(calls[at]) {
+            return Verdict::Refused(job::refusal::NOT_DUE);
+        }
+    }
+    if calls.len() % NUMBERS != 0 {
+        return Verdict::Refused(job::refusal::CUT);
+    }
+    Verdict::Fits
+}
+
+// The call in a place, made.
+fn make_call(job: &[u8], set: PinSet, calls: &[u16], place: usize) -> Handed
+    requires { ⌜ 3 * place + 2 < length (now calls) ⌝ }
+    ensures { λ r. ⌜ handed r ≡ call (now (job .entry)) (set-of set) (call-at (now (calls .entry)) place) ⌝ }
+{
+    let at = NUMBERS * place;
+    let second = at + 1;
+    let third = at + 2;
+    let unit = calls[second];
+    if calls[at] == PIN {
+        return pins::pin(job, set, unit, calls[third]);
+    }
+    pins::lift(job, set, unit)
+}
+
+// 0 for a call that was taken, else the number that refused it.
+fn answer_number(answer: Answer) -> u8
+    ensures { λ r. ⌜ r ≡ answer-number (number answer) ⌝ }
+{
+    match answer {
+        Answer::Done => 0,
+        Answer::Refused(n) => n,
+    }
+}
+
+// Makes all calls in turn, each given the set that the last one handed back, and writes their numbers.
+fn put_numbers(job: &[u8], calls: &[u16], answers: &mut [u8]) -> PinSet
+    requires { ⌜ length (now calls) / 3 ≤ length (now answers) ⌝ }
+    ensures { λ r. ⌜ Made (now (job .entry)) (now (calls .entry)) (now (answers .entry)) r (now (answers .exit)) ⌝ }
+{
+    let count = calls.len() / NUMBERS;
+    let opened = pins::open(job);
+    let mut set = opened.set;
+    for place in 0..count {
+        let made = make_call(job, set, calls, place);
+        let answer = made.answer;
+        answers[place] = answer_number(answer);
+        set = made.set;
+    }
+    set
+}
+
+// The set after calls as numbers, refused ones included.
+fn set_after(job: &[u8], calls: &[u16]) -> PinSet
+    ensures { λ r. ⌜ set-of r ≡ made (now (job .entry)) (now (calls .entry)) .set ⌝ }
+{
+    let count = calls.len() / NUMBERS;
+    let opened = pins::open(job);
+    let mut set = opened.set;
+    for place in 0..count {
+        let handed = make_call(job, set, calls, place);
+        set = handed.set;
+    }
+    set
+}
+
+// What refuses calls alone, before one is made, where there is room for so many numbers: the job, 1 to 5, the calls, 2 or 1, then 12.
+pub fn calls_refusal(job: &[u8], calls: &[u16], answers: usize) -> Verdict
+    ensures { λ r. ⌜ verdict r ≡ calls-refusal (now (job .entry)) (now (calls .entry)) answers ⌝ }
+{
+    match job::read(job) {
+        Reading::Refused(n) => Verdict::Refused(n),
+        Reading::Read {
+            header: _,
+            taken: _,
+        } => {
+            if let Verdict::Refused(n) = calls_verdict(calls) {
+                return Verdict::Refused(n);
+            }
+            if answers < calls.len() / NUMBERS {
+                return Verdict::Refused(job::refusal::LIST);
+            }
+            Verdict::Fits
+        }
+    }
+}
+
+// Makes calls as numbers, three a call (kind 6 or 7 as in the command records, unit, choice), refused ones included. Each call's number goes to `answers`, 0 where it was taken.
+pub fn make_calls(job: &[u8], calls: &[u16], answers: &mut [u8]) -> Called
+    ensures { λ r. ⌜ called r (now (answers .exit)) ≡ calls-call (now (job .entry)) (now (calls .entry)) (now (answers .entry)) ⌝ }
+{
+    if let Verdict::Refused(n) = calls_refusal(job, calls, answers.len()) {
+        return Called::Refused(n);
+    }
+    let set = put_numbers(job, calls, answers);
+    Called::Done(PinTotals {
+        count: set.count,
+        size: set.size,
+        distortion: set.distortion,
+    })
+}
+
+// What refuses calls and planning, before one is made, with lists of these lengths: the job, 1 to 5, the calls, 2 or 1, the table, 11, then 12 for the numbers and the entries.
+pub fn plan_refusal(
+    job: &[u8],
+    calls: &[u16],
+    answers: usize,
+    table: usize,
+    entries: usize,
+) -> Verdict
+    ensures { λ r. ⌜ verdict r ≡ plan-refusal (now (job .entry)) (now (calls .entry)) answers table entries ⌝ }
+{
+    match job::read(job) {
+        Reading::Refused(n) => Verdict::Refused(n),
+        Reading::Read { header, taken: _ } => {
+            if let Verdict::Refused(n) = calls_verdict(calls) {
+                return Verdict::Refused(n);
+            }
+            if table < planner::table_words(header) {
+                return Verdict::Refused(planner::refusal::TABLE);
+            }
+            if answers < calls.len() / NUMBERS {
+                return Verdict::Refused(job::refusal::LIST);
+            }
+            if entries < entry::SIZE * entry::intervals(header) {
+                return Verdict::Refused(job::refusal::LIST);
+            }
+            Verdict::Fits
+        }
+    }
+}
+
+// Makes calls as numbers and plans with the pins that they leave. Where there is a plan, each call's number goes to `answers`; "no plan" writes the table alone.
+pub fn plan_after(
+    job: &[u8],
+    calls: &[u16],
+    answers: &mut [u8],
+    table: &mut [u32],
+    entries: &mut [u8],
+) -> Planned
+    ensures { λ r. ⌜ session-is r (now (answers .exit)) (now (table .exit)) (now (entries .exit)) ≡ session-call (now (job .entry)) (now (calls .entry)) (now (answers .entry)) (now (table .entry)) (now (entries .entry)) ⌝ }
+{
+    if let Verdict::Refused(n) = plan_refusal(
+        job,
+        calls,
+        answers.len(),
+        table.len(),
+        entries.len(),
+    ) {
+        return Planned::Refused(n);
+    }
+    let set = set_after(job, calls);
+    match planner::plan(job, set, table, entries) {
+        Planned::Refused(n) => Planned::Refused(n),
+        Planned::Best(totals) => {
+            // the calls are made again for their numbers: until there is a plan, nothing but the table may be written
+            put_numbers(job, calls, answers);
+            Planned::Best(totals)
+        }
+    }
+}
+
+// What refuses calls and a replay, with room for so many levels: the job, 1 to 5, the calls, 2 or 1, the plan, 14, then 12.
+pub fn replay_refusal(job: &[u8], calls: &[u16], entries: &[u8], levels: usize) -> Verdict
+    ensures { λ r. ⌜ verdict r ≡ replay-refusal (now (job .entry)) (now (calls .entry)) (now (entries .entry)) levels ⌝ }
+{
+    match job::read(job) {
+        Reading::Refused(n) => Verdict::Refused(n),
+        Reading::Read { header, taken: _ } => {
+            if let Verdict::Refused(n) = calls_verdict(calls) {
+                return Verdict::Refused(n);
+            }
+            if !entry::shaped(header, entries) {
+                return Verdict::Refused(entry::refusal::PLAN);
+            }
+            if levels < replay::LEVELS_EACH * entry::intervals(header) {
+                return Verdict::Refused(job::refusal::LIST);
+            }
+            Verdict::Fits
+        }
+    }
+}
+
+// Replays a plan with the pins that calls as numbers leave, refused ones included.
+pub fn replay_after(job: &[u8], calls: &[u16], entries: &[u8], levels: &mut [u16]) -> Replayed
+    ensures { λ r. ⌜ ended r (now (levels .exit)) ≡ replay-session (now (job .entry)) (now (calls .entry)) (now (entries .entry)) (now (levels .entry)) ⌝ }
+{
+    if let Verdict::Refused(n) = replay_refusal(job, calls, entries, levels.len()) {
+        return Replayed::Refused(n);
+    }
+    let set = set_after(job, calls);
+    replay::replay(job, set, entries, levels)
+}
+
+// The command record at the front of these bytes: by its kind a lift, else a pin.
+fn read_command(rest: &[u8]) -> Command
+    ensures { λ r. ⌜ command-is r ≡ command (now (rest .entry)) ⌝ }
+{
+    match job::field16(rest, 2) {
+        LIFT => {
+            if let Verdict::Refused(n) = job::plain_verdict(rest, LIFT, LIFT_FIELDS) {
+                return Command::Refused(n);
+            }
+            Command::Lift {
+                unit: job::field16(rest, 4),
+            }
+        }
+        _ => {
+            if let Verdict::Refused(n) = job::plain_verdict(rest, PIN, PIN_FIELDS) {
+                return Command::Refused(n);
+            }
+            Command::Pin {
+                unit: job::field16(rest, 4),
+                choice: job::field16(rest, 6),
+            }
+        }
+    }
+}
+
+// The command at a place, carried out.
+fn carry_out(job: &[u8], set: PinSet, at: usize) -> Step
+    requires { ⌜ at < length (now job) ⌝ }
+    ensures { λ r. ⌜ step-is r ≡ carries-out (now (job .entry)) (set-of set) at ⌝ }
+{
+    match read_command(&job[at..]) {
+        Command::Refused(n) => Step {
+            answer: Answer::Refused(n),
+            set,
+            next: at,
+        },
+        Command::Pin { unit, choice } => {
+            let made = pins::pin(job, set, unit, choice);
+            let answer = made.answer;
+            let held = made.set;
+            Step {
+                answer,
+                set: held,
+                next: at + PIN_SIZE,
+            }
+        }
+        Command::Lift { unit } => {
+            let made = pins::lift(job, set, unit);
+            let answer = made.answer;
+            let held = made.set;
+            Step {
+                answer,
+                set: held,
+                next: at + LIFT_SIZE,
+            }
+        }
+    }
+}
+
+// The commands from a place on, in turn, to the end of the bytes or to the first refusal.
+fn follow(job: &[u8], fresh: PinSet, from: usize) -> Handed
+    requires { ⌜ from ≤ length (now job) ⌝ }
+    ensures { λ r. ⌜ handed r ≡ follow (length (now (job .entry))) (now (job .entry)) (set-of fresh) (drop from (now (job .entry))) ⌝ }
+{
+    let mut set = fresh;
+    let mut at = from;
+    while at < job.len() {
+        let done = carry_out(job, set, at);
+        let answer = done.answer;
+        set = done.set;
+        if let Answer::Refused(n) = answer {
+            return Handed {
+                answer: Answer::Refused(n),
+                set,
+            };
+        }
+        at = done.next;
+    }
+    Handed {
+        answer: Answer::Done,
+        set,
+    }
+}
+
+// Opens the job at the front of the bytes and takes the command records behind it, kind 6 pins and kind 7 lifts, in turn. The first refusal ends it, and hands back the set as it was before the command.
+pub fn take_commands(input: &[u8]) -> Handed
+    ensures { λ r. ⌜ handed r ≡ commands-call (now (input .entry)) ⌝ }
+{
+    let opened = pins::open(input);
+    let answer = opened.answer;
+    let set = opened.set;
+    match answer {
+        Opening::Refused(n) => Handed {
+            answer: Answer::Refused(n),
+            set,
+        },
+        Opening::Took(taken) => follow(input, set, taken),
+    }
+}
+
+// Plans what the program reads: a job, then command records to the end of the bytes. Input longer than the program takes is refused first.
+pub fn plan_input(input: &[u8], table: &mut [u32], entries: &mut [u8]) -> Planned
+    ensures { λ r. ⌜ planned r (now (table .exit)) (now (entries .exit)) ≡ input-call (now (input .entry)) (now (table .entry)) (now (entries .entry)) ⌝ }
+{
+    if MOST_INPUT < input.len() {
+        return Planned::Refused(refusal::INPUT);
+    }
+    let taken = take_commands(input);
+    let answer = taken.answer;
+    let set = taken.set;
+    match answer {
+        Answer::Refused(n) => Planned::Refused(n),
+        Answer::Done => planner::plan(input, set, table, entries),
+    }
+}

@@ -1,0 +1,133 @@
+// Tries sets that do not match their job: refusal 6 of every call that takes a set, which no call for other languages can reach.
+// Standard input has Job A of document 01, 64 bytes, then rows of one set each. A line says what the check, a pin of unit 2 at 0, a lift of unit 1, a replay and planning answer: 0, or the number of the refusal.
+ghost use Prim.Native.Nat.{_≤_};
+ghost use lib.ListN.{length};
+use job::Header;
+use job::Reading;
+use libc::STDIN_FILENO;
+use libc::STDOUT_FILENO;
+use pins::Answer;
+use pins::PinSet;
+use planner::Planned;
+use replay::Replayed;
+
+// The bytes of Job A, and of a row: the nine fields of the set's header, a unit and its pin, which unit 0 leaves out, and the three totals.
+const JOB: usize = 64;
+
+const ROW: usize = 28;
+
+// A plan of Job A without a violation, where no pin bars it.
+const PLAN: [u8; 6] = [0, 255, 2, 0, 1, 1];
+
+fn header_at(input: &[u8], at: usize) -> Header
+    requires { ⌜ at ≤ 4096 ⌝ }
+{
+    Header {
+        units: job::field16(input, at),
+        delay: job::field16(input, at + 2),
+        decoder: job::field16(input, at + 4),
+        bucket: job::field16(input, at + 6),
+        drain: job::field16(input, at + 8),
+        level: job::field16(input, at + 10),
+        fill: job::field16(input, at + 12),
+        rates: job::field16(input, at + 14),
+        choices: job::field16(input, at + 16),
+    }
+}
+
+fn set_at(input: &[u8], at: usize) -> PinSet
+    requires { ⌜ at ≤ 4096 ⌝ }
+{
+    let mut pins = [255u8; 512];
+    let unit = job::field16(input, at + 18);
+    let pin = job::field16(input, at + 20);
+    match unit {
+        1..=512 => {
+            let place = (unit - 1) as usize;
+            pins[place] = (pin % 256) as u8;
+        }
+        _ => {}
+    }
+    PinSet {
+        header: header_at(input, at),
+        pins,
+        count: job::field16(input, at + 22) as u32,
+        size: job::field16(input, at + 24) as u32,
+        distortion: job::field16(input, at + 26) as u32,
+    }
+}
+
+fn print_number(n: u8) {
+    io::write_all(STDOUT_FILENO, b" ");
+    io::print_decimal(STDOUT_FILENO, n as u64);
+}
+
+fn print_answer(answer: Answer) {
+    match answer {
+        Answer::Done => print_number(0),
+        Answer::Refused(n) => print_number(n),
+    }
+}
+
+fn print_reading(reading: Reading) {
+    match reading {
+        Reading::Read {
+            header: _,
+            taken: _,
+        } => print_number(0),
+        Reading::Refused(n) => print_number(n),
+    }
+}
+
+fn print_replayed(replayed: Replayed) {
+    match replayed {
+        Replayed::Refused(n) => print_number(n),
+        _ => print_number(0),
+    }
+}
+
+fn print_planned(planned: Planned) {
+    match planned {
+        Planned::Best(_) => print_number(0),
+        Planned::Refused(n) => print_number(n),
+    }
+}
+
+fn try_set(job: &[u8], set: PinSet) {
+    print_reading(pins::check(job, set));
+    let pinned = pins::pin(job, set, 2, 0);
+    let answer = pinned.answer;
+    print_answer(answer);
+    let lifted = pins::lift(job, set, 1);
+    let answer = lifted.answer;
+    print_answer(answer);
+    let mut levels = [0u16; 6];
+    let plan = PLAN;
+    print_replayed(replay::replay(job, set, &plan, &mut levels));
+    let mut table = [0u32; 80];
+    let mut entries = [0u8; 6];
+    print_planned(planner::plan(job, set, &mut table, &mut entries));
+}
+
+fn try_rows(input: &[u8])
+    requires { ⌜ length (now input) ≤ 4096 ⌝ }
+{
+    if input.len() < JOB {
+        return;
+    }
+    let rows = (input.len() - JOB) / ROW;
+    let start = 0;
+    for row in 0..rows {
+        let at = JOB + ROW * row;
+        io::write_all(STDOUT_FILENO, b"set ");
+        io::print_decimal(STDOUT_FILENO, row as u64 + 1);
+        try_set(&input[start..JOB], set_at(input, at));
+        io::write_all(STDOUT_FILENO, b"\n");
+    }
+}
+
+fn main() {
+    let mut input = [0u8; 4096];
+    let n = io::read_full(STDIN_FILENO, &mut input);
+    try_rows(&input[..n]);
+}
