@@ -6,9 +6,9 @@
 //! is faster. Growth is the time over that of the line before it, beside how
 //! much the work grew.
 //!
-//! Planning stands beside two plain programs: four nested loops, and the two
-//! passes of the library written plainly. All three must give the same table,
-//! plan and least distortion.
+//! Planning stands beside two plain programs: four nested loops, with a second
+//! bucket five, and the two passes of the library written plainly. All three must
+//! give the same table, plan and least distortion.
 
 use std::hint::black_box;
 use std::time::{Duration, Instant};
@@ -26,9 +26,21 @@ const NEVER: u32 = u32::MAX;
 // The plain programs.
 // ---------------------------------------------------------------------------
 
+/// A carrier's bucket and its starting level.
+#[derive(Clone, Copy)]
+struct Bucket {
+    size: usize,
+    drain: usize,
+    level: usize,
+}
+
+/// The outer bucket of a line that has one: nothing stays in it.
+const NEUTRAL: Bucket = Bucket { size: 0, drain: usize::MAX, level: 0 };
+
 /// What a reader finds; rates and units stay in the job's bytes.
 struct Read<'a> {
     header: [usize; 9],
+    second: Option<Bucket>,
     rates: &'a [u8],
     units: &'a [u8],
     taken: usize,
@@ -36,13 +48,19 @@ struct Read<'a> {
 
 /// Checks a whole job.
 fn plain_open(job: &[u8]) -> Option<Read<'_>> {
-    let body = plain_record(job, 0, 1, 20)?;
-    let header: [usize; 9] = std::array::from_fn(|i| u16_at(body, 2 * i) as usize);
-    if !plain_header(&header) {
+    let two = job.get(2..4)? == [8, 0];
+    let body = if two { plain_record(job, 0, 8, 26)? } else { plain_record(job, 0, 1, 20)? };
+    let field = |i: usize| u16_at(body, 2 * i) as usize;
+    let header: [usize; 9] = std::array::from_fn(field);
+    let second = two.then(|| Bucket { size: field(9), drain: field(10), level: field(11) });
+    let fits =
+        |bucket: Bucket| bucket.size <= 63 && bucket.drain <= 4095 && bucket.level <= bucket.size;
+    if !plain_header(&header) || !second.map_or(true, fits) {
         return None;
     }
     let [units, .., rates, choices] = header;
-    let listed = plain_record(job, 22, 2, 2 + 2 * rates)?;
+    let after = 4 + body.len();
+    let listed = plain_record(job, after, 2, 2 + 2 * rates)?;
     let rising = listed.chunks_exact(2).map(|two| u16_at(two, 0) as i32);
     if !rising.clone().zip(rising.skip(1)).all(|(one, two)| one < two) {
         return None;
@@ -50,7 +68,7 @@ fn plain_open(job: &[u8]) -> Option<Read<'_>> {
     if u16_at(listed, 2 * (rates - 1)) > 4095 {
         return None;
     }
-    let first = 26 + 2 * rates;
+    let first = after + 4 + 2 * rates;
     let size = 4 + 6 * choices;
     for unit in 0..units {
         let body = plain_record(job, first + unit * size, 3, 2 + 6 * choices)?;
@@ -60,7 +78,7 @@ fn plain_open(job: &[u8]) -> Option<Read<'_>> {
         }
     }
     let taken = first + units * size;
-    Some(Read { header, rates: listed, units: &job[first..taken], taken })
+    Some(Read { header, second, rates: listed, units: &job[first..taken], taken })
 }
 
 /// Whether all fields are in range.
@@ -87,7 +105,15 @@ impl Read<'_> {
     }
 
     fn words(&self) -> usize {
-        (self.intervals() + 1) * (self.header[2] + 1) * (self.header[3] + 1)
+        let [outer, inner] = self.buckets();
+        (self.intervals() + 1) * (self.header[2] + 1) * (outer.size + 1) * (inner.size + 1)
+    }
+
+    /// The outer bucket and the inner one, whose levels stand side by side in the table.
+    fn buckets(&self) -> [Bucket; 2] {
+        let [_, _, _, size, drain, _, level, ..] = self.header;
+        let first = Bucket { size, drain, level };
+        self.second.map_or([NEUTRAL, first], |second| [first, second])
     }
 
     fn rate(&self, index: usize) -> usize {
@@ -123,6 +149,12 @@ fn plain_level(before: usize, sent: usize, taken: usize, size: usize) -> Option<
     peak.checked_sub(taken)
 }
 
+/// A bucket's level after an interval, if it fits.
+fn plain_filled(before: usize, sent: usize, bucket: &Bucket) -> Option<usize> {
+    let level = (before + sent).saturating_sub(bucket.drain);
+    (level <= bucket.size).then_some(level)
+}
+
 /// The pins that a list of calls leaves, and the answer to each call.
 fn plain_calls(read: &Read, calls: &[u16], answers: &mut [u8]) -> Vec<Option<usize>> {
     let mut pins = vec![None; read.header[0]];
@@ -151,42 +183,49 @@ fn plain_calls(read: &Read, calls: &[u16], answers: &mut [u8]) -> Vec<Option<usi
 /// What receiver and carrier fix.
 struct PlainLine {
     decoder: usize,
-    bucket: usize,
-    drain: usize,
+    outer: Bucket,
+    inner: Bucket,
     rates: Vec<usize>,
 }
 
 /// How a plain program fills a layer from the next one.
 #[derive(Clone, Copy, PartialEq)]
 enum Filling {
-    /// Loops over decoder levels, bucket levels, rates and choices.
-    FourLoops,
+    /// Loops over decoder levels, levels of each bucket, rates and choices.
+    Loops,
     /// A pass over sizes and a pass over rates, as the library does it.
     TwoPasses,
 }
 
 impl PlainLine {
+    /// The words of a decoder level, and of a level of the outer bucket in it.
+    fn widths(&self) -> [usize; 2] {
+        let [outer, inner] = [self.outer, self.inner].map(|bucket| bucket.size + 1);
+        [outer * inner, inner]
+    }
+
     /// Every state with every rate and choice.
-    fn four_loops(&self, options: &[(u8, usize, u32)], layer: &mut [u32], next: &[u32]) {
-        let width = self.bucket + 1;
+    fn loops(&self, options: &[(u8, usize, u32)], layer: &mut [u32], next: &[u32]) {
+        let [row, width] = self.widths();
         for b in 0..=self.decoder {
-            for l in 0..=self.bucket {
-                let mut best = NEVER;
-                for &sent in &self.rates {
-                    let filled = (l + sent).saturating_sub(self.drain);
-                    if filled > self.bucket {
-                        continue;
-                    }
-                    for &(_, grains, distortion) in options {
-                        if let Some(level) = plain_level(b, sent, grains, self.decoder) {
-                            let rest = next[level * width + filled];
-                            if rest != NEVER && rest + distortion < best {
-                                best = rest + distortion;
+            for l in 0..=self.outer.size {
+                for m in 0..=self.inner.size {
+                    let mut best = NEVER;
+                    for &sent in &self.rates {
+                        let Some(one) = plain_filled(l, sent, &self.outer) else { continue };
+                        let Some(two) = plain_filled(m, sent, &self.inner) else { continue };
+                        let filled = one * width + two;
+                        for &(_, grains, distortion) in options {
+                            if let Some(level) = plain_level(b, sent, grains, self.decoder) {
+                                let rest = next[level * row + filled];
+                                if rest != NEVER && rest + distortion < best {
+                                    best = rest + distortion;
+                                }
                             }
                         }
                     }
+                    layer[b * row + l * width + m] = best;
                 }
-                layer[b * width + l] = best;
             }
         }
     }
@@ -221,7 +260,7 @@ impl Passes {
 
     /// First, for each level between arrival and decoding, the least over sizes;
     /// then, for each level before, the least over rates. Row by row, a row being
-    /// the bucket levels of one decoder level.
+    /// the bucket levels of one decoder level, and within it by outer levels.
     fn fill(
         &mut self,
         line: &PlainLine,
@@ -229,31 +268,34 @@ impl Passes {
         layer: &mut [u32],
         next: &[u32],
     ) {
-        let width = line.bucket + 1;
+        let [all, width] = line.widths();
         for (number, &word) in self.next.iter_mut().zip(next) {
             *number = if word == NEVER { FAR } else { word as i32 };
         }
         let prices = line.prices(options);
-        for (peak, row) in self.between.chunks_exact_mut(width).enumerate() {
+        for (peak, row) in self.between.chunks_exact_mut(all).enumerate() {
             row.fill(FAR);
             for &(size, distortion) in prices.iter().take_while(|price| price.0 <= peak) {
-                let from = &self.next[(peak - size) * width..][..width];
+                let from = &self.next[(peak - size) * all..][..all];
                 for (least, rest) in row.iter_mut().zip(from) {
                     *least = (*least).min(rest + distortion);
                 }
             }
         }
         // What the next layer was is not needed any more.
-        let rows = self.next.chunks_exact_mut(width).zip(layer.chunks_exact_mut(width));
+        let rows = self.next.chunks_exact_mut(all).zip(layer.chunks_exact_mut(all));
         for (level, (row, words)) in rows.enumerate() {
             row.fill(FAR);
-            for &sent in line.rates.iter().take_while(|sent| level + **sent <= line.decoder) {
-                let from = &self.between[(level + sent) * width..][..width];
-                let low = line.drain.saturating_sub(sent).min(width);
-                let high = sent.saturating_sub(line.drain).min(width);
-                row[..low].iter_mut().for_each(|least| *least = (*least).min(from[0]));
-                for (least, rest) in row[low..].iter_mut().zip(&from[high..]) {
-                    *least = (*least).min(*rest);
+            for (outer, row) in row.chunks_exact_mut(width).enumerate() {
+                for &sent in line.rates.iter().take_while(|sent| level + **sent <= line.decoder) {
+                    let Some(filled) = plain_filled(outer, sent, &line.outer) else { break };
+                    let from = &self.between[(level + sent) * all + filled * width..][..width];
+                    let low = line.inner.drain.saturating_sub(sent).min(width);
+                    let high = sent.saturating_sub(line.inner.drain).min(width);
+                    row[..low].iter_mut().for_each(|least| *least = (*least).min(from[0]));
+                    for (least, rest) in row[low..].iter_mut().zip(&from[high..]) {
+                        *least = (*least).min(*rest);
+                    }
                 }
             }
             for (word, number) in words.iter_mut().zip(row) {
@@ -274,11 +316,12 @@ fn plain_plan(
 ) -> Option<u64> {
     let read = plain_open(job)?;
     let pins = plain_calls(&read, calls, answers);
-    let [_, _, decoder, bucket, drain, start_decoder, start_bucket, rates, _] = read.header;
+    let [_, _, decoder, _, _, start, _, rates, _] = read.header;
     let rates = (0..rates).map(|rate| read.rate(rate)).collect();
-    let line = PlainLine { decoder, bucket, drain, rates };
-    let width = bucket + 1;
-    let layer = (decoder + 1) * width;
+    let [outer, inner] = read.buckets();
+    let line = PlainLine { decoder, outer, inner, rates };
+    let [row, width] = line.widths();
+    let layer = (decoder + 1) * row;
     let mut passes = Passes::new(if filling == Filling::TwoPasses { layer } else { 0 });
     table[read.intervals() * layer..read.words()].fill(0);
     for t in (1..=read.intervals()).rev() {
@@ -286,43 +329,45 @@ fn plain_plan(
         let (before, next) = table.split_at_mut(t * layer);
         let before = &mut before[(t - 1) * layer..];
         match filling {
-            Filling::FourLoops => line.four_loops(&options, before, next),
+            Filling::Loops => line.loops(&options, before, next),
             Filling::TwoPasses => passes.fill(&line, &options, before, next),
         }
     }
-    let (mut b, mut l, mut total) = (start_decoder, start_bucket, 0);
+    let (mut levels, mut total) = ([start, outer.level, inner.level], 0);
     for t in 1..=read.intervals() {
-        let due = table[(t - 1) * layer + b * width + l];
+        let [b, l, m] = levels;
+        let due = table[(t - 1) * layer + b * row + l * width + m];
         if due == NEVER {
             return None;
         }
         let options = read.options(&pins, t);
-        let (rate, choice, level, filled, distortion) =
-            plain_entry(&line, &options, [b, l], due, &table[t * layer..])?;
-        entries[2 * t - 2..2 * t].copy_from_slice(&[rate, choice]);
+        let (entry, after, distortion) =
+            plain_entry(&line, &options, levels, due, &table[t * layer..])?;
+        entries[2 * t - 2..2 * t].copy_from_slice(&entry);
         total += distortion as u64;
-        (b, l) = (level, filled);
+        levels = after;
     }
     Some(total)
 }
 
-/// The first entry that attains what is due from these levels.
+/// The first entry that attains what is due from these levels, and the levels and
+/// distortion that it leads to.
 fn plain_entry(
     line: &PlainLine,
     options: &[(u8, usize, u32)],
-    [b, l]: [usize; 2],
+    [b, l, m]: [usize; 3],
     due: u32,
     next: &[u32],
-) -> Option<(u8, u8, usize, usize, u32)> {
+) -> Option<([u8; 2], [usize; 3], u32)> {
+    let [row, width] = line.widths();
     for (rate, &sent) in line.rates.iter().enumerate() {
-        let filled = (l + sent).saturating_sub(line.drain);
+        let Some(one) = plain_filled(l, sent, &line.outer) else { continue };
+        let Some(two) = plain_filled(m, sent, &line.inner) else { continue };
         for &(choice, grains, distortion) in options {
             let Some(level) = plain_level(b, sent, grains, line.decoder) else { continue };
-            if filled <= line.bucket {
-                let rest = next[level * (line.bucket + 1) + filled];
-                if rest != NEVER && rest + distortion == due {
-                    return Some((rate as u8, choice, level, filled, distortion));
-                }
+            let rest = next[level * row + one * width + two];
+            if rest != NEVER && rest + distortion == due {
+                return Some(([rate as u8, choice], [level, one, two], distortion));
             }
         }
     }
@@ -344,7 +389,10 @@ fn plain_replay(job: &[u8], calls: &[u16], entries: &[u8], levels: &mut [u16]) -
     if !plain_shape(&read, entries) {
         return None;
     }
-    let [_, delay, decoder, bucket, drain, mut b, mut l, ..] = read.header;
+    let [_, delay, decoder, _, _, mut b, ..] = read.header;
+    let [outer, inner] = read.buckets();
+    let (mut l, mut m) = (outer.level, inner.level);
+    let mut rest = levels.iter_mut();
     let mut total = 0;
     for (t, entry) in entries.chunks_exact(2).enumerate() {
         let sent = read.rate(entry[0] as usize);
@@ -358,11 +406,10 @@ fn plain_replay(job: &[u8], calls: &[u16], entries: &[u8], levels: &mut [u16]) -
             }
         }
         b = plain_level(b, sent, taken, decoder)?;
-        l = (l + sent).saturating_sub(drain);
-        if l > bucket {
-            return None;
-        }
-        levels[2 * t..2 * t + 2].copy_from_slice(&[b as u16, l as u16]);
+        l = plain_filled(l, sent, &outer)?;
+        m = plain_filled(m, sent, &inner)?;
+        let held: &[usize] = if read.second.is_some() { &[b, l, m] } else { &[b, m] };
+        held.iter().zip(&mut rest).for_each(|(after, level)| *level = *after as u16);
     }
     Some(total)
 }
@@ -431,7 +478,7 @@ impl Size {
         (layer * (self.units * self.choices + self.delay + self.intervals() * self.rates)) as f64
     }
 
-    /// States times rates times choices: the moves that four loops try.
+    /// States times rates times choices: the moves that loops try.
     fn moves(&self) -> f64 {
         let layer = (self.decoder + 1) * (self.bucket + 1) * self.rates;
         (layer * (self.units * self.choices + self.delay)) as f64
@@ -449,6 +496,11 @@ impl Size {
 
 fn job_of(size: &Size) -> Vec<u8> {
     draft_of(size).bytes()
+}
+
+/// A second bucket, half full at the start: its size, drain and level.
+fn half_full(size: usize, drain: usize) -> [u16; 3] {
+    [size, drain, size / 2].map(|number| number as u16)
 }
 
 /// Units of fine and coarse codings around what the line carries; the coarsest
@@ -601,13 +653,13 @@ struct Left {
 
 const PROGRAMS: usize = 3;
 
-/// The library, two passes, four loops.
+/// The library, two passes, loops.
 fn run_plan(program: usize, job: &[u8], left: &mut Left) {
     let Left { table, entries, .. } = left;
     left.total = match program {
         0 => upload_planner::plan(job, &[], &mut [], table, entries).ok().map(|t| t.distortion),
         1 => plain_plan(Filling::TwoPasses, job, &[], &mut [], table, entries),
-        _ => plain_plan(Filling::FourLoops, job, &[], &mut [], table, entries),
+        _ => plain_plan(Filling::Loops, job, &[], &mut [], table, entries),
     };
 }
 
@@ -659,7 +711,7 @@ impl Plans {
             "",
             "library",
             "two passes",
-            "four loops",
+            "loops",
             "to passes",
             "loops to",
             if grows { "grows" } else { "" },
@@ -668,11 +720,12 @@ impl Plans {
         Plans { last: None, grows }
     }
 
-    fn add(&mut self, name: impl Into<String>, size: &Size, job: &[u8], with_loops: bool) {
+    /// `steps`: what the time should grow with.
+    fn add(&mut self, name: impl Into<String>, steps: f64, job: &[u8], with_loops: bool) {
         let times = time_plan(job, with_loops);
         let [Some(ours), Some(passes), loops] = times else { panic!("a time is missing") };
-        let growth = self.last.map_or(["".into(), "".into()], |(time, steps)| {
-            [ours / time, size.steps() / steps].map(|ratio| format!("x{ratio:.2}"))
+        let growth = self.last.map_or(["".into(), "".into()], |(time, before)| {
+            [ours / time, steps / before].map(|ratio| format!("x{ratio:.2}"))
         });
         println!(
             "  {:<38} {:>10} {:>10} {:>10} {:>9.2} {:>8} {:>7} {:>7}",
@@ -685,26 +738,27 @@ impl Plans {
             growth[0],
             growth[1]
         );
-        self.last = self.grows.then_some((ours, size.steps()));
+        self.last = self.grows.then_some((ours, steps));
     }
 }
 
-/// Whether four loops take seconds at most.
-fn loops_are_short(size: &Size) -> bool {
-    size.moves() * 4.0 < FULL.moves()
+/// Whether loops over so many moves take seconds at most.
+fn loops_are_short(moves: f64) -> bool {
+    moves * 4.0 < FULL.moves()
 }
 
 fn plan_tables(with_full: bool) {
     println!("\nto passes: the library's time over that of two passes written plainly;");
-    println!("loops to: the time of four loops over the library's, how many times faster it is");
+    println!("loops to: the time of nested loops, four or with a second bucket five, over the");
+    println!("library's, how many times faster it is");
     let mut plans = Plans::new("planning, the largest job that opens", false);
-    plans.add("512 units, delay 64, decoder 255", &FULL, &job_of(&FULL), with_full);
+    plans.add("512 units, delay 64, decoder 255", FULL.steps(), &job_of(&FULL), with_full);
 
     let mut plans = Plans::new("planning, a programme of 512 units, 31 quantizers", false);
     for decoder in [255, 127, 60, 51, 25, 12] {
         let (size, job) = programme(512, decoder);
         let name = format!("decoder and bucket of {decoder}");
-        plans.add(name, &size, &job, loops_are_short(&size));
+        plans.add(name, size.steps(), &job, loops_are_short(size.moves()));
     }
 
     let mut plans =
@@ -712,22 +766,22 @@ fn plan_tables(with_full: bool) {
     for (decoder, bucket) in [(255, 0), (60, 0), (0, 255), (0, 60), (0, 0)] {
         let size = Size { decoder, bucket, ..FULL };
         let name = format!("decoder {decoder}, bucket {bucket}");
-        plans.add(name, &size, &job_of(&size), true);
+        plans.add(name, size.steps(), &job_of(&size), true);
     }
 
     let mut plans = Plans::new("planning, four units, delay 1", false);
     for grains in [255, 60, 25, 12, 4] {
         let size = Size { units: 4, delay: 1, decoder: grains, bucket: grains, ..FULL };
-        plans.add(format!("decoder and bucket of {grains}"), &size, &job_of(&size), true);
+        plans.add(format!("decoder and bucket of {grains}"), size.steps(), &job_of(&size), true);
     }
     let size = Size { units: 2, delay: 1, decoder: 4, bucket: 3, rates: 3, choices: 2 };
-    plans.add("two units, 20 states, 6 moves each", &size, &job_of(&size), true);
+    plans.add("two units, 20 states, 6 moves each", size.steps(), &job_of(&size), true);
 
     let mut plans = Plans::new("planning, by length (1 is 512 units, delay 64)", true);
     for part in [64, 32, 16, 8, 4, 2, 1] {
         let size = FULL.part(part);
         let name = format!("1/{part}: {} units, delay {}", size.units, size.delay);
-        plans.add(name, &size, &job_of(&size), loops_are_short(&size));
+        plans.add(name, size.steps(), &job_of(&size), loops_are_short(size.moves()));
     }
     let base = Size { units: 64, delay: 8, decoder: 63, bucket: 63, rates: 4, choices: 8 };
     let rows: [(&str, fn(&mut Size, usize), [usize; 4]); 5] = [
@@ -742,8 +796,56 @@ fn plan_tables(with_full: bool) {
         for value in values {
             let mut size = base;
             set(&mut size, value);
-            plans.add(format!("{value}"), &size, &job_of(&size), true);
+            plans.add(format!("{value}"), size.steps(), &job_of(&size), true);
         }
+    }
+}
+
+/// Two buckets beside one, by the time of a word of the table and a rate. The
+/// jobs have as many words, rates and choices, and of their intervals one in
+/// sixteen decodes nothing: with two buckets a layer has four times the words, and
+/// the job a quarter of the layers. The rates go up to 37; how many of them a
+/// second bucket takes from its levels depends on its drain, and with 40 it takes
+/// all from each.
+fn two_bucket_tables(with_full: bool) {
+    let [units, delays] = if with_full { [[483, 120], [32, 8]] } else { [[123, 30], [8, 2]] };
+    let one = Size { units: units[0], delay: delays[0], ..FULL };
+    let two = Size { units: units[1], delay: delays[1], bucket: 63, ..FULL };
+    let with_one = job_of(&one);
+    let with_two = |drain| draft_of(&two).doubled(half_full(15, drain)).bytes();
+    let opened = [&with_one, &with_two(30)].map(|job| upload_planner::open(job).expect("a job"));
+    let words = opened[0].table_words;
+    assert!(words == opened[1].table_words, "one table is longer than the other");
+
+    let mut plans = Plans::new("planning, one bucket and two, tables of as many words", false);
+    let name = format!("bucket 255: {} units, delay {}", one.units, one.delay);
+    plans.add(name, one.steps(), &with_one, loops_are_short(one.moves()));
+    let name = format!("buckets 63, 15: {} units, delay {}", two.units, two.delay);
+    plans.add(name, 16.0 * two.steps(), &with_two(30), loops_are_short(16.0 * two.moves()));
+
+    println!("  the library alone, the least of five in turn, for a word of the table and a rate;");
+    println!("  two buckets are to take at most 1.50 times what one takes:");
+    let pairs = (words * FULL.rates) as f64;
+    let room = 2 * opened[0].intervals;
+    let mut lent = [(vec![0; words], vec![0; room]), (vec![0; words], vec![0; room])];
+    let plan = |job: &[u8], (table, entries): &mut (Vec<u32>, Vec<u8>)| {
+        upload_planner::plan(job, &[], &mut [], table, entries).expect("a plan");
+    };
+    for drain in [20, 30, 40] {
+        let with_two = with_two(drain);
+        let [for_one, for_two] = &mut lent;
+        let times = in_turn(5, || plan(&with_one, for_one), || plan(&with_two, for_two));
+        let [one, two] = times.map(|time| time * 1e9 / pairs);
+        let ratio = two / one;
+        println!("  second drain {drain}: {one:.3} ns with one, {two:.3} ns with two, x{ratio:.2}");
+    }
+
+    let mut plans = Plans::new("planning, by second bucket size", true);
+    for levels in [1, 4, 16, 64] {
+        let size = Size { units: 64, delay: 8, decoder: 63, bucket: 63, rates: 4, choices: 8 };
+        let job = draft_of(&size).doubled(half_full(levels - 1, 30)).bytes();
+        let [steps, moves] = [size.steps(), size.moves()].map(|work| work * levels as f64);
+        plans.add(format!("{levels}"), steps, &job, loops_are_short(moves));
     }
 }
 
@@ -766,7 +868,7 @@ fn call_tables() {
             },
             || {
                 let lent = (&mut spare.0, &mut spare.1, &mut spare.2);
-                let filling = Filling::FourLoops;
+                let filling = Filling::Loops;
                 black_box(plain_plan(filling, &job, black_box(&calls), lent.0, lent.1, lent.2));
             },
         );
@@ -808,11 +910,11 @@ fn some_entries(size: &Size) -> Vec<u8> {
 
 /// An easy job: every interval sends one grain or none, and what waits for the
 /// delay fits the decoder; the plan never breaks off.
-fn even_job(size: &Size) -> (Vec<u8>, Vec<u8>) {
+fn even_job(size: &Size) -> (Draft, Vec<u8>) {
     let unit: Vec<(u16, u32)> = (0..size.choices).map(|i| (1, i as u32)).collect();
     let rates: Vec<u16> = (0..size.rates).map(|i| i as u16).collect();
     let levels = [size.delay as u16, 255, 255, 1, 0, 0];
-    let job = Draft::new(levels, &rates, &vec![unit; size.units]).bytes();
+    let job = Draft::new(levels, &rates, &vec![unit; size.units]);
     let choice = |t: usize| if t < size.delay { 255 } else { (t % size.choices) as u8 };
     (job, (0..size.intervals()).flat_map(|t| [1, choice(t)]).collect())
 }
@@ -859,20 +961,15 @@ fn other_tables() {
     let mut table = Table::new("replay, the job's reading included", "byte");
     for part in [64, 8, 1] {
         let size = FULL.part(part);
-        let (job, entries) = even_job(&size);
-        let mut levels = [vec![0; 2 * size.intervals()], vec![0; 2 * size.intervals()]];
-        let [our_levels, plain_levels] = &mut levels;
-        let mut total = None;
-        let times = short_in_turn(
-            || {
-                let calls: [Call; 0] = [];
-                black_box(upload_planner::replay(&job, &calls, &entries, our_levels)).unwrap();
-            },
-            || total = plain_replay(&job, &[], black_box(&entries), plain_levels),
-        );
-        assert!(total.is_some() && levels[0] == levels[1], "the levels differ");
-        table.add(line(format!("{} intervals", size.intervals()), job.len() as f64, times));
+        let (draft, entries) = even_job(&size);
+        let job = draft.bytes();
+        let name = format!("{} intervals", size.intervals());
+        table.add(line(name, job.len() as f64, time_replay(&job, &entries)));
     }
+    let (draft, entries) = even_job(&FULL);
+    let job = draft.doubled([63, 1, 0]).bytes();
+    let name = format!("{} intervals, two buckets", FULL.intervals());
+    table.add(line(name, job.len() as f64, time_replay(&job, &entries)));
 
     let mut table = Table::new("report, the job's reading included", "byte");
     for part in [64, 8, 1] {
@@ -887,6 +984,22 @@ fn other_tables() {
         let times = time_report(&size, &job_of(&size));
         table.add(line(format!("delay {delay}"), size.units as f64, times));
     }
+}
+
+fn time_replay(job: &[u8], entries: &[u8]) -> [f64; 2] {
+    let room = upload_planner::open(job).expect("a job").level_numbers();
+    let mut levels = [vec![0; room], vec![0; room]];
+    let [our_levels, plain_levels] = &mut levels;
+    let mut total = None;
+    let times = short_in_turn(
+        || {
+            let calls: [Call; 0] = [];
+            black_box(upload_planner::replay(job, &calls, entries, our_levels)).unwrap();
+        },
+        || total = plain_replay(job, &[], black_box(entries), plain_levels),
+    );
+    assert!(total.is_some() && levels[0] == levels[1], "the levels differ");
+    times
 }
 
 fn time_report(size: &Size, job: &[u8]) -> [f64; 2] {
@@ -919,4 +1032,5 @@ fn main() {
         other_tables();
     }
     plan_tables(with_full);
+    two_bucket_tables(with_full);
 }

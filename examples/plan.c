@@ -1,13 +1,13 @@
 /* Plans Job A four times and prints each plan: without pins, with unit 1 pinned
    at choice 1, with that pin lifted again, and with both units pinned at choice
-   0, for which there is no plan.
+   0, for which there is no plan. Then plans it for a line with two buckets.
 
        gcc -Wall -Wextra -Iinclude examples/plan.c libupload.a
 
    A plan's first line has N, T and the words of the table. Then comes a line
    for each interval: its number, what it sends, the choice of the unit that is
-   decoded or -, the levels of decoder and bucket. Last the totals: distortion,
-   source grains, channel grains, unused grains. */
+   decoded or -, the levels of decoder and of each bucket. Last the totals:
+   distortion, source grains, channel grains, unused grains of each bucket. */
 
 #include <inttypes.h>
 #include <stdint.h>
@@ -20,66 +20,78 @@
 #define U16(n) (n) & 255, (n) >> 8
 #define U32(n) U16((n) & 65535), U16((n) >> 16)
 
-static const uint8_t job_a[] = {
-    /* length and kind; units, delay, decoder size, bucket size, drain, both
-       starting levels, rates, choices */
-    U16(20), U16(1), U16(2), U16(1), U16(4), U16(3), U16(2), U16(0), U16(0), U16(3), U16(2),
-    /* the rates in grains */
-    U16(8), U16(2), U16(0), U16(2), U16(4),
-    /* each unit: grains and distortion of its choices */
-    U16(14), U16(3), U16(4), U32(10), U16(2), U32(30),
-    U16(14), U16(3), U16(5), U32(12), U16(2), U32(40),
+/* units, delay, decoder size, bucket size, drain, both starting levels, rates,
+   choices */
+#define FIELDS U16(2), U16(1), U16(4), U16(3), U16(2), U16(0), U16(0), U16(3), U16(2)
+
+/* the rates in grains; for each unit grains and distortion of its choices */
+#define RATES_AND_UNITS \
+    U16(8), U16(2), U16(0), U16(2), U16(4), \
+    U16(14), U16(3), U16(4), U32(10), U16(2), U32(30), \
+    U16(14), U16(3), U16(5), U32(12), U16(2), U32(40)
+
+/* The header starts with its length and kind. A second bucket has size, drain and
+   starting level. */
+static const uint8_t job_a[] = {U16(20), U16(UPLOAD_ONE_BUCKET), FIELDS, RATES_AND_UNITS};
+static const uint8_t two_buckets[] = {
+    U16(26), U16(UPLOAD_TWO_BUCKETS), FIELDS, U16(1), U16(2), U16(0), RATES_AND_UNITS,
 };
 
-/* The rates' record follows the header's 22 bytes; its first rate stands after
-   the record's length and kind. */
+/* The rates' record follows the header's, whose length leaves out its own two
+   bytes; its first rate stands after the record's length and kind. */
 static unsigned rate_of(const uint8_t *job, unsigned index)
 {
-    const uint8_t *rate = job + 22 + 4 + 2 * index;
+    const uint8_t *rate = job + 2 + job[0] + 4 + 2 * index;
     return rate[0] | (unsigned)rate[1] << 8;
 }
 
-static void print_interval(unsigned t, const uint8_t *entry, const uint16_t *levels)
+static void print_interval(unsigned t, unsigned sent, unsigned choice, const uint16_t *levels,
+                           size_t levels_len)
 {
-    printf("%u %u ", t, rate_of(job_a, entry[0]));
-    if (entry[1] == UPLOAD_NO_UNIT)
+    printf("%u %u ", t, sent);
+    if (choice == UPLOAD_NO_UNIT)
         printf("-");
     else
-        printf("%u", entry[1]);
-    printf(" %u %u\n", levels[0], levels[1]);
+        printf("%u", choice);
+    for (size_t i = 0; i < levels_len; i++)
+        printf(" %u", levels[i]);
+    printf("\n");
 }
 
 /* Plans with these calls, replays the plan for its levels, and prints it. */
-static uint32_t plan(const uint16_t *calls, size_t calls_len)
+static uint32_t plan(const uint8_t *job, size_t job_len, const uint16_t *calls, size_t calls_len)
 {
     uint64_t opened[UPLOAD_OPEN_VALUES];
-    uint32_t refusal = upload_open(job_a, sizeof job_a, opened, UPLOAD_OPEN_VALUES);
+    uint32_t refusal = upload_open(job, job_len, opened, UPLOAD_OPEN_VALUES);
     if (refusal != UPLOAD_OK)
         return refusal;
     size_t intervals = opened[2], words = opened[3];
+    size_t buckets = job[2] == UPLOAD_TWO_BUCKETS ? 2 : 1;
+    size_t each = 1 + buckets; /* levels of an interval */
 
-    uint64_t totals[UPLOAD_PLAN_VALUES], replayed[UPLOAD_REPLAY_VALUES];
+    uint64_t totals[UPLOAD_PLAN_VALUES_MOST], replayed[UPLOAD_REPLAY_VALUES_MOST];
     /* no list is empty, so that no pointer is null */
     uint8_t *answers = malloc(calls_len / 3 + 1);
     uint32_t *table = malloc(words * sizeof *table);
     uint8_t *entries = malloc(2 * intervals);
-    uint16_t *levels = malloc(2 * intervals * sizeof *levels);
+    uint16_t *levels = malloc(each * intervals * sizeof *levels);
     if (answers == NULL || table == NULL || entries == NULL || levels == NULL) {
         fprintf(stderr, "no memory\n");
         exit(1);
     }
 
-    refusal = upload_plan(job_a, sizeof job_a, calls, calls_len, answers, calls_len / 3, table,
-                          words, entries, 2 * intervals, totals, UPLOAD_PLAN_VALUES);
+    refusal = upload_plan(job, job_len, calls, calls_len, answers, calls_len / 3, table, words,
+                          entries, 2 * intervals, totals, 3 + buckets);
     if (refusal == UPLOAD_OK)
-        refusal = upload_replay(job_a, sizeof job_a, calls, calls_len, entries, 2 * intervals,
-                                levels, 2 * intervals, replayed, UPLOAD_REPLAY_VALUES);
+        refusal = upload_replay(job, job_len, calls, calls_len, entries, 2 * intervals, levels,
+                                each * intervals, replayed, 5 + buckets);
     if (refusal == UPLOAD_OK) {
         printf("plan %" PRIu64 " %zu %zu\n", opened[1], intervals, words);
-        for (size_t t = 1; t <= intervals; t++)
-            print_interval((unsigned)t, entries + 2 * (t - 1), levels + 2 * (t - 1));
+        for (size_t i = 0; i < intervals; i++)
+            print_interval((unsigned)i + 1, rate_of(job, entries[2 * i]), entries[2 * i + 1],
+                           levels + each * i, each);
         printf("total");
-        for (size_t i = 0; i < UPLOAD_PLAN_VALUES; i++)
+        for (size_t i = 0; i < 3 + buckets; i++)
             printf(" %" PRIu64, totals[i]);
         printf("\n");
     }
@@ -97,11 +109,19 @@ int main(void)
         UPLOAD_PIN, 1, 0, UPLOAD_PIN, 2, 0,  /* both units pinned at 0 */
     };
     const struct {
-        size_t from, count;
-    } sessions[] = {{0, 0}, {0, 3}, {0, 6}, {6, 6}};
+        const uint8_t *job;
+        size_t job_len, from, count;
+    } sessions[] = {
+        {job_a, sizeof job_a, 0, 0},
+        {job_a, sizeof job_a, 0, 3},
+        {job_a, sizeof job_a, 0, 6},
+        {job_a, sizeof job_a, 6, 6},
+        {two_buckets, sizeof two_buckets, 0, 0},
+    };
 
     for (size_t i = 0; i < sizeof sessions / sizeof *sessions; i++) {
-        uint32_t refusal = plan(calls + sessions[i].from, sessions[i].count);
+        uint32_t refusal = plan(sessions[i].job, sessions[i].job_len,
+                                calls + sessions[i].from, sessions[i].count);
         if (refusal != UPLOAD_OK)
             printf("refused %" PRIu32 "\n", refusal);
     }

@@ -1,20 +1,28 @@
 /* The upload planner, callable from C.
 
    A job says what a channel has to send: N units with M choices each, P channel
-   rates, a delay of d intervals, the sizes and starting levels of the decoder's
-   buffer and of the carrier's leaky bucket, and the bucket's drain. There are
-   T = N + d intervals. Interval t sends at one of the rates and, for t > d,
-   decodes unit t - d at one of its choices. A plan gives a rate to each interval
-   and a choice to each unit. It is admissible if in every interval what the
-   decoder holds just before the unit leaves, its level before the interval and
-   what that sends, is at most its size and at least what the unit takes; if the
-   bucket's level stays at most its size; and if every pinned unit has its pinned
-   choice. The decoder's level is what is left after the unit. What an interval
-   sends goes to the bucket too, which then loses the drain, or all that it has;
-   grains of the drain that find nothing there go by unused. Planning gives the
-   admissible plan of least total distortion; among several the first interval at
-   which they differ decides: the smaller rate index, then the smaller choice
-   index.
+   rates, a delay of d intervals, the size and starting level of the decoder's
+   buffer, and those of the carrier's leaky bucket, with its drain; some lines
+   have two such buckets, each with a size, a drain and a starting level of its
+   own. There are T = N + d intervals. Interval t sends at one of the rates and,
+   for t > d, decodes unit t - d at one of its choices. A plan gives a rate to
+   each interval and a choice to each unit. It is admissible if in every interval
+   what the decoder holds just before the unit leaves, its level before the
+   interval and what that sends, is at most its size and at least what the unit
+   takes; if the level of each bucket stays at most its size; and if every pinned
+   unit has its pinned choice. The decoder's level is what is left after the
+   unit. What an interval sends goes to each bucket too, which then loses its
+   drain, or all that it has; grains of the drain that find nothing there go by
+   unused. Planning gives the admissible plan of least total distortion; among
+   several the first interval at which they differ decides: the smaller rate
+   index, then the smaller choice index.
+
+   The header says how many buckets there are: a job that opens has it in its
+   byte 2, the kind of its first record, which is one of enum upload_header. With
+   a second bucket planning and replay have a value more, and replay a level more
+   for each interval. A list for values as long as the _MOST constant below is
+   long enough for every job; for a job with one bucket its last number keeps its
+   value.
 
    upload_write makes the bytes of a job from its header and lists. Every other
    function takes these bytes and reads them again; bytes after the job are not
@@ -46,11 +54,12 @@ extern "C" {
 /* What a function answers. */
 enum upload_refusal {
     UPLOAD_OK = 0,              /* not refused */
-    UPLOAD_CUT = 1,             /* the bytes end within a record; or the last call is cut */
+    UPLOAD_CUT = 1,             /* the bytes end before a record that is due is whole; or the last
+                                   call is cut */
     UPLOAD_WRONG_RECORD = 2,    /* a record's kind or length is not the one due; or a call's kind
                                    is neither a pin nor a lift */
-    UPLOAD_HEADER = 3,          /* a field of the job's header is out of range; or the fields are
-                                   not nine */
+    UPLOAD_HEADER = 3,          /* a field of the header is out of range, or the fields are not
+                                   nine or twelve */
     UPLOAD_RATES = 4,           /* a rate is over 4,095, or the rates do not rise */
     UPLOAD_CHOICES = 5,         /* a choice's size or distortion is over its limit */
     UPLOAD_OTHER_JOB = 6,       /* the set of pins does not fit the job; the functions below keep
@@ -74,37 +83,56 @@ enum upload_call {
     UPLOAD_LIFT = 7
 };
 
+/* The kind of a job's header, which is byte 2 of a job that opens: how many
+   buckets the line has. */
+enum upload_header {
+    UPLOAD_ONE_BUCKET = 1,
+    UPLOAD_TWO_BUCKETS = 8
+};
+
 /* The choice byte of an interval that decodes no unit. */
 #define UPLOAD_NO_UNIT 255
 
 /* The word of a state from which no plan can be completed. */
 #define UPLOAD_NEVER UINT32_C(4294967295)
 
-/* What replay finds first. In each interval UPLOAD_DECODER_OVER is tested first,
-   then the others in the order of their numbers. */
+/* What replay finds first. In each interval they are tested in this order:
+   UPLOAD_DECODER_OVER, UPLOAD_DECODER_SHORT, UPLOAD_BUCKET_OVER,
+   UPLOAD_SECOND_BUCKET_OVER, UPLOAD_PIN_NOT_HELD. */
 enum upload_violation {
     UPLOAD_CLEAN = 0,
     UPLOAD_DECODER_SHORT = 1,   /* the decoder holds less than the unit takes */
     UPLOAD_DECODER_OVER = 2,    /* what the decoder holds just before a unit leaves, or in an
                                    interval without one, would pass its size */
-    UPLOAD_BUCKET_OVER = 3,     /* the bucket's level would pass its size */
-    UPLOAD_PIN_NOT_HELD = 4     /* the unit is pinned at another choice */
+    UPLOAD_BUCKET_OVER = 3,     /* the level of the bucket, of two the first, would pass its
+                                   size */
+    UPLOAD_PIN_NOT_HELD = 4,    /* the unit is pinned at another choice */
+    UPLOAD_SECOND_BUCKET_OVER = 5   /* the second bucket's level would pass its size */
 };
 
-/* How many numbers the `values` lists need. */
+/* How many numbers the `values` lists need. For planning it is 3 and the number
+   of buckets, for replay 5 and the number of buckets. */
 #define UPLOAD_OPEN_VALUES 4
 #define UPLOAD_CALLS_VALUES 3
-#define UPLOAD_PLAN_VALUES 4
-#define UPLOAD_REPLAY_VALUES 6
+#define UPLOAD_PLAN_VALUES 4        /* one bucket */
+#define UPLOAD_PLAN_VALUES_MOST 5   /* two buckets */
+#define UPLOAD_REPLAY_VALUES 6      /* one bucket */
+#define UPLOAD_REPLAY_VALUES_MOST 7 /* two buckets */
 #define UPLOAD_WRITE_VALUES 1
 
+/* How many levels replay gives for each interval: 1 and the number of buckets. */
+#define UPLOAD_LEVELS 2             /* one bucket */
+#define UPLOAD_LEVELS_MOST 3        /* two buckets */
+
 /* How many fields a job's header has. */
-#define UPLOAD_FIELDS 9
+#define UPLOAD_FIELDS 9             /* one bucket */
+#define UPLOAD_FIELDS_MOST 12       /* two buckets */
 
 /* Opens a job: checks all of it and says what the other functions need.
 
    values: 4 numbers written: the bytes that the job took, N, T, and the words
-   of the table, (T + 1) x (decoder size + 1) x (bucket size + 1).
+   of the table, (T + 1) x (decoder size + 1) x (bucket size + 1), and with two
+   buckets x (second bucket's size + 1).
 
    Refusals in order: 1 to 5; 12 where `values` is too short. */
 uint32_t upload_open(const uint8_t *job, size_t job_len,
@@ -136,14 +164,17 @@ uint32_t upload_calls(const uint8_t *job, size_t job_len,
             (t x (decoder size + 1) + b) x (bucket size + 1) + l is the least
             distortion that intervals t + 1 to T can add from decoder level b
             and bucket level l after interval t, pins held; UPLOAD_NEVER where
-            they cannot be completed.
+            they cannot be completed. With two buckets it is word ((t x (decoder
+            size + 1) + b) x (bucket size + 1) + l) x (second bucket's size + 1)
+            + m, for level m of the second.
    entries: 2 x T bytes written, two an interval: the index of its rate, then
             that of its unit's choice, or UPLOAD_NO_UNIT for the first d.
-   values:  4 numbers written: total distortion, source grains (what the units
-            take), channel grains (what the intervals send) and unused grains
-            (in each interval the larger of 0 and the drain less the bucket's
-            level before it less what it sends). The bucket's starting level +
-            channel grains + unused grains = T x drain + its last level.
+   values:  3 numbers and one for each bucket written, 4 or 5: total distortion,
+            source grains (what the units take), channel grains (what the
+            intervals send), then for each bucket its unused grains (in each
+            interval the larger of 0 and its drain less its level before it less
+            what is sent). For each bucket its starting level + channel grains +
+            its unused grains = T x its drain + its last level.
 
    Refusals in order: 1 to 5 for the job; 2 for a call of another kind, then 1
    where the last call is cut; 11; 12 where `answers`, `entries` or `values` is
@@ -160,12 +191,13 @@ uint32_t upload_plan(const uint8_t *job, size_t job_len,
    up to its first violation.
 
    entries: exactly 2 x T bytes, as upload_plan writes them.
-   levels:  room for 2 x T numbers: the decoder's and the bucket's level after
-            each interval, when its unit has left. Only those before the
+   levels:  room for 2 x T numbers, with two buckets for 3 x T: after each
+            interval, when its unit has left, the decoder's level, the bucket's,
+            and the second bucket's where there is one. Only those before the
             violation are written.
-   values:  6 numbers written: 0 or the violation; its interval, from 1, or 0;
-            then the 4 numbers of upload_plan, each 0 where there is a
-            violation.
+   values:  5 numbers and one for each bucket written, 6 or 7: 0 or the
+            violation; its interval, from 1, or 0; then the 4 or 5 numbers of
+            upload_plan, each 0 where there is a violation.
 
    Refusals in order: 1 to 5 for the job; 2 for a call of another kind, then 1
    where the last call is cut; 14; 12 where `levels` or `values` is too short. A
@@ -195,19 +227,22 @@ uint32_t upload_report(const uint8_t *job, size_t job_len,
    fields:      exactly UPLOAD_FIELDS numbers, the header's in their order: N
                 (1 to 512), d (0 to 64), decoder size and bucket size (0 to 255
                 each), drain (0 to 4,095), the starting levels of decoder and
-                bucket (each from 0 to its size), P (1 to 16), M (1 to 31).
+                bucket (each from 0 to its size), P (1 to 16), M (1 to 31). For
+                two buckets exactly UPLOAD_FIELDS_MOST numbers: these nine, then
+                the second bucket's size (0 to 63), drain (0 to 4,095) and
+                starting level (0 to its size).
    rates:       exactly P numbers, each at most 4,095, strictly rising.
    sizes:       exactly N x M numbers by unit and choice, unit after unit: the
                 grains that the unit takes, each at most 4,095.
    distortions: exactly N x M numbers in the order of `sizes`, each at most
                 1,000,000.
-   job:         26 + 2 x P + N x (4 + 6 x M) bytes written, never more than
-                97,338.
+   job:         26 + 2 x P + N x (4 + 6 x M) bytes written, 6 more with two
+                buckets; never more than 97,344.
    values:      1 number written: how many bytes the job took.
 
-   Refusals in order: 3 where `fields` is not nine numbers or one of them is out
-   of range; 16 where `rates`, `sizes` or `distortions` has another length; 4; 5;
-   12 where `job` or `values` is too short. */
+   Refusals in order: 3 where `fields` is not nine or twelve numbers or one of
+   them is out of range; 16 where `rates`, `sizes` or `distortions` has another
+   length; 4; 5; 12 where `job` or `values` is too short. */
 uint32_t upload_write(const uint16_t *fields, size_t fields_len,
                       const uint16_t *rates, size_t rates_len,
                       const uint16_t *sizes, size_t sizes_len,

@@ -1,8 +1,8 @@
 //! Checks the library through the crate `upload_planner`: what each function
 //! answers, every number it writes, and that it writes no other. What is due is
 //! worked out here and in `reference.rs`, straight from the product's paper. Of
-//! every clean replay the bucket's balance is asked besides, and of the report
-//! that a long delay takes little more time than a short one.
+//! every clean replay the balance of each bucket is asked besides, and of the
+//! report that a long delay takes little more time than a short one.
 //!
 //! Build and run, where DIR holds libupload.a:
 //!
@@ -21,14 +21,14 @@
 //! memory. `--examples` adds a group: the job of each X.bin in DIR is written
 //! again, and planned with one distortion changed.
 
-use std::collections::BTreeMap;
+use std::collections::{BTreeMap, BTreeSet};
 use std::fmt::Debug;
 use std::path::{Path, PathBuf};
 use std::process::ExitCode;
 use std::sync::atomic::{AtomicBool, Ordering};
 use std::time::{Duration, Instant};
 
-use upload_planner::{numbers, Call, Header, PinTotals, Replayed, Totals, Violation};
+use upload_planner::{numbers, Call, Header, PinTotals, Replayed, Violation};
 
 #[allow(dead_code)]
 mod reference;
@@ -39,10 +39,29 @@ const NEVER: u32 = 4_294_967_295;
 
 /// How many values calls alone write: the pins held, their grains and distortions.
 const CALLS_VALUES: usize = 3;
-/// How many values planning writes: distortion, source, channel and unused grains.
-const PLAN_VALUES: usize = 4;
-/// How many replay writes: the violation and its interval, then the same four.
-const REPLAY_VALUES: usize = 6;
+
+/// How many values planning writes: distortion, source and channel grains, then the
+/// unused grains of each bucket.
+fn plan_values(job: &Job) -> usize {
+    3 + job.buckets.len()
+}
+
+/// How many replay writes: the violation and its interval, then the same.
+fn replay_values(job: &Job) -> usize {
+    2 + plan_values(job)
+}
+
+/// How many levels replay writes: in each interval the decoder's and each bucket's.
+fn level_numbers(job: &Job) -> usize {
+    (1 + job.buckets.len()) * job.intervals()
+}
+
+/// How many bytes a job takes.
+fn job_bytes(job: &Job) -> usize {
+    let header = 4 + 2 * FIELDS[job.buckets.len() - 1];
+    let rates = 4 + 2 * job.rates.len();
+    header + rates + job.units.len() * (4 + 6 * job.choices())
+}
 
 /// Set once, before the first group.
 static SMALL: AtomicBool = AtomicBool::new(false);
@@ -180,6 +199,12 @@ impl Asked {
         self.job.intervals()
     }
 
+    /// The lengths that planning needs: answers, table, entries, values.
+    fn needs(&self) -> [usize; 4] {
+        let job = &self.job;
+        [self.answers.len(), job.words(), 2 * job.intervals(), plan_values(job)]
+    }
+
     fn typed_calls(&self) -> Vec<Call> {
         self.calls.chunks(3).map(typed_call).collect()
     }
@@ -221,9 +246,9 @@ fn plan_bytes(plan: &Plan) -> Vec<u8> {
 }
 
 /// The totals of an admissible plan, step by step.
-fn totals_of(asked: &Asked, plan: &Plan) -> Option<[u64; PLAN_VALUES]> {
+fn totals_of(asked: &Asked, plan: &Plan) -> Option<Vec<u64>> {
     let totals = replay(&asked.job, &asked.pins, plan, |_, _| ())?;
-    Some(totals.numbers().map(|total| total as u64))
+    Some(totals.numbers().into_iter().map(|total| total as u64).collect())
 }
 
 // ---------------------------------------------------------------------------
@@ -318,19 +343,16 @@ fn all_options(job: &Job, pins: &Pins) -> Options {
 }
 
 /// Tries every completion of the levels after interval t.
-fn least(job: &Job, options: &Options, t: usize, decoder: i64, bucket: i64) -> Option<i64> {
+fn least(job: &Job, options: &Options, t: usize, decoder: i64, levels: &Levels) -> Option<i64> {
     if t == job.intervals() {
         return Some(0);
     }
     let mut found: Option<i64> = None;
     for sent in &job.rates {
-        let (filled, _) = bucket_step(job, bucket, *sent);
+        let Some(after) = filled(job, levels, *sent) else { continue };
         for (_, grains, distortion) in &options[t] {
             let Some(level) = by_peak(job, decoder, *sent, *grains) else { continue };
-            if filled > job.bucket_size {
-                continue;
-            }
-            if let Some(rest) = least(job, options, t + 1, level, filled) {
+            if let Some(rest) = least(job, options, t + 1, level, &after) {
                 found = Some(found.map_or(i64::MAX, |held| held).min(distortion + rest));
             }
         }
@@ -343,8 +365,8 @@ fn brute_table(job: &Job, pins: &Pins) -> Vec<u32> {
     let mut table = Vec::new();
     for t in 0..=job.intervals() {
         for decoder in 0..=job.decoder_size {
-            for bucket in 0..=job.bucket_size {
-                let value = least(job, &options, t, decoder, bucket);
+            for levels in job.all_levels() {
+                let value = least(job, &options, t, decoder, &levels);
                 table.push(value.map_or(NEVER, |value| value as u32));
             }
         }
@@ -362,7 +384,7 @@ const FAR: u32 = 1 << 30;
 /// limits of the decoder lie in the rows: no peak past its size has one, and a
 /// unit is taken from no row below its own size.
 fn fast_table(job: &Job, pins: &Pins) -> Vec<u32> {
-    let (rows, width) = (job.decoder_size as usize + 1, job.bucket_size as usize + 1);
+    let (rows, width) = (job.decoder_size as usize + 1, job.width());
     let layer = rows * width;
     let mut table = vec![0; (job.intervals() + 1) * layer];
     let mut next = vec![0; layer];
@@ -399,15 +421,31 @@ fn send_layer(job: &Job, decoded: &[u32], rows: usize, width: usize) -> Vec<u32>
             if at >= decoded.len() {
                 break;
             }
-            send_row(best, &decoded[at..at + width], sent - job.drain);
+            send_row(best, &decoded[at..at + width], &job.buckets, sent);
         }
     }
     layer.iter_mut().for_each(|value| *value = (*value).min(FAR));
     layer
 }
 
+/// From each level of the first of these buckets to the one that it comes to, with
+/// the parts that the other buckets have there.
+fn send_row(best: &mut [u32], from: &[u32], buckets: &[Bucket], sent: i64) {
+    let (bucket, inner) = buckets.split_first().expect("a bucket");
+    if inner.is_empty() {
+        return send_last(best, from, sent - bucket.drain);
+    }
+    let width = best.len() / (bucket.size as usize + 1);
+    for (level, best) in best.chunks_mut(width).enumerate() {
+        let after = (level as i64 + sent - bucket.drain).max(0) as usize;
+        if let Some(from) = from.chunks(width).nth(after) {
+            send_row(best, from, inner, sent);
+        }
+    }
+}
+
 /// The bucket rises by `rise`, and not below 0 where that is negative.
-fn send_row(best: &mut [u32], from: &[u32], rise: i64) {
+fn send_last(best: &mut [u32], from: &[u32], rise: i64) {
     let width = best.len();
     let step = (rise.unsigned_abs() as usize).min(width);
     let keep = |held: &mut u32, value: u32| *held = (*held).min(value);
@@ -421,33 +459,28 @@ fn send_row(best: &mut [u32], from: &[u32], rise: i64) {
 
 /// The first plan in order whose every entry attains the table's word.
 fn read_off(job: &Job, pins: &Pins, table: &[u32]) -> Option<Plan> {
-    let word = |t: usize, decoder: i64, bucket: i64| {
-        let row = t as i64 * (job.decoder_size + 1) + decoder;
-        table[(row * (job.bucket_size + 1) + bucket) as usize]
-    };
-    let (mut decoder, mut bucket) = (job.start_decoder, job.start_bucket);
-    if word(0, decoder, bucket) == NEVER {
+    let word = |t: usize, decoder: i64, levels: &Levels| table[job.word(t, decoder, levels)];
+    let (mut decoder, mut levels) = (job.start_decoder, job.start_levels());
+    if word(0, decoder, &levels) == NEVER {
         return None;
     }
     let mut plan = Vec::new();
     for t in 1..=job.intervals() {
-        let due = word(t - 1, decoder, bucket);
+        let due = word(t - 1, decoder, &levels);
         let mut taken = None;
         for (rate, &sent) in job.rates.iter().enumerate() {
             for (choice, grains, distortion) in options(job, pins, t) {
                 let Some(level) = by_peak(job, decoder, sent, grains) else { continue };
-                let (filled, _) = bucket_step(job, bucket, sent);
-                if taken.is_none() && filled <= job.bucket_size {
-                    let rest = word(t, level, filled);
-                    if rest != NEVER && distortion as u32 + rest == due {
-                        taken = Some(((rate, choice), level, filled));
-                    }
+                let Some(after) = filled(job, &levels, sent) else { continue };
+                let rest = word(t, level, &after);
+                if taken.is_none() && rest != NEVER && distortion as u32 + rest == due {
+                    taken = Some(((rate, choice), level, after));
                 }
             }
         }
-        let (entry, level, filled) = taken.expect("an entry that attains the word");
+        let (entry, level, after) = taken.expect("an entry that attains the word");
         plan.push(entry);
-        (decoder, bucket) = (level, filled);
+        (decoder, levels) = (level, after);
     }
     Some(plan)
 }
@@ -461,7 +494,8 @@ fn read_off(job: &Job, pins: &Pins, table: &[u32]) -> Option<Plan> {
 /// alone meet with the same, and a plan that was found replays under them.
 fn check_plan(rng: &mut Rng, asked: &Asked, table: &[u32], plan: &Option<Plan>) -> Checked {
     check_calls(rng, asked)?;
-    let needs = [asked.answers.len(), table.len(), 2 * asked.intervals(), PLAN_VALUES];
+    let needs = asked.needs();
+    same("words", table.len(), needs[1])?;
     let which = rng.from(0, 3);
     if let (Some(lengths), true) = (one_short(needs, which), table.len() < 5000) {
         let mut lent = PlanLists::new(rng, lengths);
@@ -528,12 +562,16 @@ impl PlanLists {
 
 fn check_open(rng: &mut Rng, asked: &Asked) -> Checked {
     let job = &asked.job;
-    let taken = 26 + 2 * job.rates.len() + job.units.len() * (4 + 6 * job.choices());
-    let due = [taken, job.units.len(), job.intervals(), job.words()].map(|value| value as u64);
+    let due = [job_bytes(job), job.units.len(), job.intervals(), job.words()];
     let length = 4 + rng.from(0, 3);
     let mut values = Lent::new(rng, length);
     same("open", 0, numbers::open(&asked.bytes, values.list()))?;
-    values.wrote("values of open", &due)
+    values.wrote("values of open", &due.map(|value| value as u64))?;
+    let opened = upload_planner::open(&asked.bytes).map_err(|refusal| refusal.to_string())?;
+    let found = [opened.bytes, opened.units, opened.intervals, opened.table_words];
+    same("typed open", due, found)?;
+    let found = (opened.buckets, opened.level_numbers());
+    same("buckets and levels of open", (job.buckets.len(), level_numbers(job)), found)
 }
 
 /// The typed functions give what the numbers give.
@@ -553,7 +591,8 @@ fn check_typed(asked: &Asked, table: &[u32], plan: &Option<Plan>) -> Checked {
     };
     let found = found.map_err(|refusal| refusal.to_string())?;
     let owned = owned.map_err(|refusal| refusal.to_string())?;
-    same("typed totals", totals_of(asked, plan).map(typed_totals), Some(found))?;
+    let totals = totals_of(asked, plan).map(|totals| typed_totals(&totals));
+    same("typed totals", totals, Some(found))?;
     same("typed answers", &asked.answers, &answers)?;
     same("typed entries", plan_bytes(plan), entries)?;
     same("owned totals", found, owned.totals)?;
@@ -565,11 +604,19 @@ fn check_typed(asked: &Asked, table: &[u32], plan: &Option<Plan>) -> Checked {
 /// Each job's table by trying all completions, its plan by trying all plans;
 /// and both other searches against them.
 fn tiny_group(seed: u64, asks: bool) -> Result<String, String> {
+    tiny_jobs(seed, asks, |rng| random_job(rng, &TINY))
+}
+
+fn tiny_double_group(seed: u64, asks: bool) -> Result<String, String> {
+    tiny_jobs(seed, asks, random_tiny_double)
+}
+
+fn tiny_jobs(seed: u64, asks: bool, make: impl Fn(&mut Rng) -> Draft) -> Result<String, String> {
     let mut rng = Rng(seed);
     let (mut plans, mut ties, mut refused, mut words) = (0, 0, 0, 0);
     let jobs = scaled(1500);
     for index in 1..=jobs {
-        let draft = random_job(&mut rng, &TINY);
+        let draft = make(&mut rng);
         let asked = Asked::new(&mut rng, &draft);
         let table = brute_table(&asked.job, &asked.pins);
         let all = enumerate(&asked.job, &asked.pins);
@@ -603,12 +650,24 @@ fn failed(seed: u64, index: usize, trouble: &str, asked: &Asked) -> String {
 /// Jobs too large to try everything, against the dynamic program that carries
 /// whole paths and the table made for speed.
 fn larger_group(seed: u64, asks: bool) -> Result<String, String> {
+    larger_jobs(seed, asks, |rng| random_job(rng, &MEDIUM), random_long_job)
+}
+
+fn larger_double_group(seed: u64, asks: bool) -> Result<String, String> {
+    larger_jobs(seed, asks, random_medium_double, random_long_double)
+}
+
+fn larger_jobs(
+    seed: u64,
+    asks: bool,
+    make_medium: impl Fn(&mut Rng) -> Draft,
+    make_long: impl Fn(&mut Rng) -> Draft,
+) -> Result<String, String> {
     let mut rng = Rng(seed);
     let (mut plans, mut words) = (0, 0);
     let (medium, long) = (scaled(250), scaled(40));
     for index in 1..=medium + long {
-        let draft =
-            if index <= medium { random_job(&mut rng, &MEDIUM) } else { random_long_job(&mut rng) };
+        let draft = if index <= medium { make_medium(&mut rng) } else { make_long(&mut rng) };
         let asked = Asked::new(&mut rng, &draft);
         let table = fast_table(&asked.job, &asked.pins);
         let plan = dynamic(&asked.job, &asked.pins);
@@ -633,12 +692,14 @@ fn larger_group(seed: u64, asks: bool) -> Result<String, String> {
 /// Levels up to the first violation, and the values due.
 struct Followed {
     levels: Vec<u16>,
-    values: [u64; REPLAY_VALUES],
+    values: Vec<u64>,
     /// What the decoder holds just before and just after the unit leaves, up to
     /// the first violation and in its interval too.
     decoder: Vec<(i64, i64)>,
-    /// The unused drain before the first violation.
-    unused: i64,
+    /// Whether each bucket is over in the violation's interval.
+    over: Vec<bool>,
+    /// The unused drain of each bucket before the first violation.
+    unused: Vec<i64>,
 }
 
 /// The numbers of violations. They are names, and the order of testing is
@@ -647,10 +708,11 @@ const SHORT: u64 = 1;
 const OVER: u64 = 2;
 const BUCKET_OVER: u64 = 3;
 const NOT_HELD: u64 = 4;
+const SECOND_OVER: u64 = 5;
 
 /// The levels of each interval from sums over all intervals up to it. The
 /// decoder has its start and all that was sent, less all that was taken, where
-/// the interval's own unit is still there at the peak. The bucket's level, cut at
+/// the interval's own unit is still there at the peak. A bucket's level, cut at
 /// 0 after each interval, is the larger of its start and all rises, and all rises
 /// since some interval. Its unused drain is the most by which its start and all
 /// rises up to some interval have fallen below 0: so much was never there.
@@ -659,41 +721,61 @@ fn follow(job: &Job, pins: &Pins, plan: &Plan) -> Followed {
     let unit = |t: usize| t.checked_sub(job.delay + 1);
     let choice = |t: usize| unit(t).map(|unit| &job.units[unit][plan[t - 1].1]);
     let taken = |t: usize| choice(t).map_or(0, |choice| choice.grains);
-    let (mut levels, mut decoder, mut unused) = (Vec::new(), Vec::new(), 0);
+    let (mut levels, mut decoder) = (Vec::new(), Vec::new());
+    let mut unused = vec![0; job.buckets.len()];
     for t in 1..=job.intervals() {
         let come = job.start_decoder + (1..=t).map(sent).sum::<i64>();
         let gone = |upto: usize| (1..=upto).map(taken).sum::<i64>();
         let (peak, level) = (come - gone(t - 1), come - gone(t));
         decoder.push((peak, level));
-        let since = |s: usize| (s + 1..=t).map(|r| sent(r) - job.drain).sum::<i64>();
-        let risen = (1..=t).map(since).max().expect("an interval");
-        let uncut = job.start_bucket + since(0);
-        let bucket = risen.max(uncut);
+        // Of each bucket its level, and what that would be if it had never been cut.
+        let followed = |bucket: &Bucket| {
+            let since = |s: usize| (s + 1..=t).map(|r| sent(r) - bucket.drain).sum::<i64>();
+            let risen = (1..=t).map(since).max().expect("an interval");
+            let uncut = bucket.start + since(0);
+            (risen.max(uncut), uncut)
+        };
+        let after: Vec<(i64, i64)> = job.buckets.iter().map(followed).collect();
+        let over: Vec<bool> =
+            job.buckets.iter().zip(&after).map(|(bucket, after)| after.0 > bucket.size).collect();
         let pinned = unit(t).and_then(|unit| pins[unit]);
         let violations = [
             (OVER, peak > job.decoder_size),
             (SHORT, level < 0),
-            (BUCKET_OVER, bucket > job.bucket_size),
+            (BUCKET_OVER, over[0]),
+            (SECOND_OVER, over.get(1) == Some(&true)),
             (NOT_HELD, pinned.is_some_and(|pinned| pinned != plan[t - 1].1)),
         ];
         if let Some((first, _)) = violations.into_iter().find(|(_, found)| *found) {
-            return Followed { levels, values: [first, t as u64, 0, 0, 0, 0], decoder, unused };
+            let values = violated(job, first, t);
+            return Followed { levels, values, decoder, over, unused };
         }
-        levels.extend([level as u16, bucket as u16]);
-        unused = unused.max(-uncut);
+        levels.push(level as u16);
+        levels.extend(after.iter().map(|after| after.0 as u16));
+        for (most, (_, uncut)) in unused.iter_mut().zip(&after) {
+            *most = (*most).max(-uncut);
+        }
     }
     let distortion = |t: usize| choice(t).map_or(0, |choice| choice.distortion);
     let all = |of: &dyn Fn(usize) -> i64| (1..=job.intervals()).map(of).sum::<i64>() as u64;
-    let values = [0, 0, all(&distortion), all(&taken), all(&sent), unused as u64];
-    Followed { levels, values, decoder, unused }
+    let mut values = vec![0, 0, all(&distortion), all(&taken), all(&sent)];
+    values.extend(unused.iter().map(|sum| *sum as u64));
+    Followed { levels, values, decoder, over: vec![false; job.buckets.len()], unused }
+}
+
+/// The values of a replay that stops at a violation.
+fn violated(job: &Job, violation: u64, interval: usize) -> Vec<u64> {
+    let mut values = vec![0; replay_values(job)];
+    (values[0], values[1]) = (violation, interval as u64);
+    values
 }
 
 fn check_replay(rng: &mut Rng, asked: &Asked, plan: &Plan) -> Checked {
     let due = follow(&asked.job, &asked.pins, plan);
-    let [violation, _, totals @ ..] = due.values;
-    same("step by step", (violation == 0).then_some(totals), totals_of(asked, plan))?;
+    let totals = (due.values[0] == 0).then_some(due.values[2..].to_vec());
+    same("step by step", totals, totals_of(asked, plan))?;
     let entries = plan_bytes(plan);
-    let needs = [2 * asked.intervals(), REPLAY_VALUES];
+    let needs = [level_numbers(&asked.job), replay_values(&asked.job)];
     let [room, more] = one_short(needs, rng.from(0, 1)).expect("needed");
     let mut levels: Lent<u16> = Lent::new(rng, room);
     let mut values: Lent<u64> = Lent::new(rng, more);
@@ -710,35 +792,57 @@ fn check_replay(rng: &mut Rng, asked: &Asked, plan: &Plan) -> Checked {
     values.wrote("values of replay", &due.values)?;
     levels.wrote("levels", &due.levels)?;
     check_balance(&asked.job, values.list(), levels.list())?;
-    let mut levels = vec![0; 2 * asked.intervals()];
-    let typed = upload_planner::replay(&asked.bytes, &asked.typed_calls(), &entries, &mut levels);
-    same("typed replay", Ok(typed_replay(due.values)), typed)
+    let mut levels = vec![0; needs[0]];
+    let calls = asked.typed_calls();
+    let typed = upload_planner::replay(&asked.bytes, &calls, &entries, &mut levels);
+    same("typed replay", Ok(typed_replay(&due.values)), typed)?;
+    let owned = upload_planner::replayed(&asked.bytes, &calls, &entries);
+    let levels = typed_levels(&asked.job, &due.levels);
+    same("owned replay", Ok((levels, typed_replay(&due.values))), owned)
 }
 
-/// Where there is no violation, what the bucket had and what was sent has left
-/// by the drain or is there still, and the rest of the drain is unused. From what
+/// Where there is no violation, what a bucket had and what was sent has left
+/// by its drain or is there still, and the rest of the drain is unused. From what
 /// the library answers and writes alone.
 fn check_balance(job: &Job, values: &[u64], levels: &[u16]) -> Checked {
-    let [0, 0, _, _, channel, unused] = values[..REPLAY_VALUES] else { return Ok(()) };
-    let last = levels[2 * job.intervals() - 1] as u64;
-    let drained = job.intervals() as u64 * job.drain as u64;
-    same("balance", drained + last, job.start_bucket as u64 + channel + unused)
+    let [0, 0, _, _, channel, unused @ ..] = values else { return Ok(()) };
+    let last = &levels[..level_numbers(job)][level_numbers(job) - job.buckets.len()..];
+    for ((bucket, unused), last) in job.buckets.iter().zip(unused).zip(last) {
+        let drained = job.intervals() as u64 * bucket.drain as u64;
+        same("balance", drained + *last as u64, bucket.start as u64 + channel + unused)?;
+    }
+    Ok(())
 }
 
-fn typed_totals(totals: [u64; PLAN_VALUES]) -> Totals {
-    let [distortion, source_grains, channel_grains, unused_grains] = totals;
-    Totals { distortion, source_grains, channel_grains, unused_grains }
+fn typed_totals(totals: &[u64]) -> upload_planner::Totals {
+    upload_planner::Totals {
+        distortion: totals[0],
+        source_grains: totals[1],
+        channel_grains: totals[2],
+        unused_grains: totals[3],
+        second_unused: totals.get(4).copied(),
+    }
 }
 
-fn typed_replay([kind, interval, totals @ ..]: [u64; REPLAY_VALUES]) -> Replayed {
-    let violation = match kind {
-        0 => return Replayed::Clean(typed_totals(totals)),
+fn typed_replay(values: &[u64]) -> Replayed {
+    let violation = match values[0] {
+        0 => return Replayed::Clean(typed_totals(&values[2..])),
         SHORT => Violation::DecoderShort,
         OVER => Violation::DecoderOver,
         BUCKET_OVER => Violation::BucketOver,
+        SECOND_OVER => Violation::SecondBucketOver,
         _ => Violation::PinNotHeld,
     };
-    Replayed::Violated { violation, interval: interval as usize }
+    Replayed::Violated { violation, interval: values[1] as usize }
+}
+
+fn typed_levels(job: &Job, levels: &[u16]) -> Vec<upload_planner::Levels> {
+    let typed = |levels: &[u16]| upload_planner::Levels {
+        decoder: levels[0],
+        bucket: levels[1],
+        second: levels.get(2).copied(),
+    };
+    levels.chunks(1 + job.buckets.len()).map(typed).collect()
 }
 
 /// For i from 0 to N what intervals i + 1 to i + d send, each sum added anew.
@@ -766,7 +870,7 @@ fn random_plan(rng: &mut Rng, job: &Job, pins: &Pins) -> Plan {
     let tries = rng.pick(&[1, 3, 30, 30, 300]);
     let careless = rng.pick(&[2, 10, 1000]);
     let regards_pins = !rng.one_in(3);
-    let (mut decoder, mut bucket) = (job.start_decoder, job.start_bucket);
+    let (mut decoder, mut levels) = (job.start_decoder, job.start_levels());
     let mut plan = Vec::new();
     for t in 1..=job.intervals() {
         let mut entry = random_entry(rng, job, t);
@@ -775,11 +879,11 @@ fn random_plan(rng: &mut Rng, job: &Job, pins: &Pins) -> Plan {
             let unit = t.checked_sub(job.delay + 1);
             let taken = unit.map_or(0, |unit| job.units[unit][entry.1].grains);
             let level = by_peak(job, decoder, sent, taken);
-            let (filled, _) = bucket_step(job, bucket, sent);
+            let after = filled(job, &levels, sent);
             let pinned = unit.and_then(|unit| pins[unit]).unwrap_or(entry.1);
             let held = pinned == entry.1 || !regards_pins;
-            if let (Some(level), true) = (level, held && filled <= job.bucket_size) {
-                (decoder, bucket) = (level, filled);
+            if let (Some(level), Some(after), true) = (level, after, held) {
+                (decoder, levels) = (level, after);
                 break;
             }
             entry = random_entry(rng, job, t);
@@ -790,14 +894,38 @@ fn random_plan(rng: &mut Rng, job: &Job, pins: &Pins) -> Plan {
 }
 
 fn replay_group(seed: u64, asks: bool) -> Result<String, String> {
+    replay_jobs(seed, asks, &[SHORT, OVER, BUCKET_OVER, NOT_HELD], |rng, index| {
+        let shape = if index % 4 == 0 { &MEDIUM } else { &TINY };
+        if index % 60 == 1 {
+            random_long_job(rng)
+        } else {
+            random_job(rng, shape)
+        }
+    })
+}
+
+fn replay_double_group(seed: u64, asks: bool) -> Result<String, String> {
+    let violations = [SHORT, OVER, BUCKET_OVER, SECOND_OVER, NOT_HELD];
+    replay_jobs(seed, asks, &violations, |rng, index| match index % 60 {
+        1 => random_long_double(rng),
+        _ if index % 4 == 0 => random_medium_double(rng),
+        _ => random_tiny_double(rng),
+    })
+}
+
+/// `violations` are those that can be; each must be met with.
+fn replay_jobs(
+    seed: u64,
+    asks: bool,
+    violations: &[u64],
+    make: impl Fn(&mut Rng, usize) -> Draft,
+) -> Result<String, String> {
     let mut rng = Rng(seed);
-    let mut tally = [0; 5];
+    let mut tally = [0; 6];
     let mut deep = 0;
     let jobs = scaled(1200);
     for index in 1..=jobs {
-        let shape = if index % 4 == 0 { &MEDIUM } else { &TINY };
-        let draft =
-            if index % 60 == 1 { random_long_job(&mut rng) } else { random_job(&mut rng, shape) };
+        let draft = make(&mut rng, index);
         let asked = Asked::new(&mut rng, &draft);
         for _ in 0..10 {
             let plan = random_plan(&mut rng, &asked.job, &asked.pins);
@@ -814,13 +942,14 @@ fn replay_group(seed: u64, asks: bool) -> Result<String, String> {
             deep += (due[1] > 2) as usize;
         }
     }
-    let [clean, short, over, bucket, pin] = tally;
+    let [clean, short, over, bucket, pin, second] = tally;
     let counts = format!(
         "{} plans: {clean} clean, {short} decoder short, {over} decoder over, {bucket} bucket \
-         over, {pin} pin not held; {deep} violations past interval 2",
+         over, {second} second bucket over, {pin} pin not held; {deep} violations past interval 2",
         10 * jobs
     );
-    let worthwhile = tally.iter().all(|count| count * 50 > jobs) && deep * 10 > jobs;
+    let often = |number: &u64| tally[*number as usize] * 50 > jobs;
+    let worthwhile = often(&0) && violations.iter().all(often) && deep * 10 > jobs;
     ensure!(worthwhile || !asks, "too little in it: {counts}");
     Ok(counts)
 }
@@ -828,8 +957,8 @@ fn replay_group(seed: u64, asks: bool) -> Result<String, String> {
 /// The plan with one thing wrong in its shape: 14, and nothing is written.
 fn check_misshapen(rng: &mut Rng, asked: &Asked, plan: &Plan) -> Checked {
     let (entries, how) = misshapen(rng, &asked.job, plan_bytes(plan));
-    let mut levels = Lent::new(rng, 2 * asked.intervals());
-    let mut values = Lent::new(rng, REPLAY_VALUES);
+    let mut levels = Lent::new(rng, level_numbers(&asked.job));
+    let mut values = Lent::new(rng, replay_values(&asked.job));
     let mut sums = Lent::new(rng, asked.job.units.len() + 1);
     let found = numbers::replay(&asked.bytes, &asked.calls, &entries, levels.list(), values.list());
     same(&format!("replay, {how}"), 14, found)?;
@@ -1052,7 +1181,7 @@ fn peaks_group() -> Result<String, String> {
     ] {
         let asked = Asked::new(&mut rng, &draft.with(START_DECODER, start));
         let what = format!("from {start} with {plan:?}");
-        same(&what, due, follow(&asked.job, &asked.pins, &vec![plan]).values)?;
+        same(&what, due.to_vec(), follow(&asked.job, &asked.pins, &vec![plan]).values)?;
         check_replay(&mut rng, &asked, &vec![plan])
             .map_err(|trouble| format!("{what}: {trouble}"))?;
     }
@@ -1061,7 +1190,7 @@ fn peaks_group() -> Result<String, String> {
     let units = vec![vec![(255, 1_000_000)]; 512];
     let asked = Asked::new(&mut rng, &Draft::new([0, 255, 0, 255, 0, 0], &[255], &units));
     let (table, plan) = (fast_table(&asked.job, &asked.pins), vec![(0, 0); 512]);
-    let due = Some([512_000_000, 130_560, 130_560, 0]);
+    let due = Some(vec![512_000_000, 130_560, 130_560, 0]);
     same("512 full units", due, totals_of(&asked, &plan))?;
     check_plan(&mut rng, &asked, &table, &Some(plan))?;
     Ok("by hand".to_string())
@@ -1072,17 +1201,18 @@ fn peaks_group() -> Result<String, String> {
 fn violations_group() -> Result<String, String> {
     let mut rng = Rng(1);
     let mut sets = 0;
-    for delay in 0..=2 {
+    for (delay, double) in [(0, false), (1, false), (2, false), (0, true), (1, true), (2, true)] {
         for t in 1..=delay + 2 {
-            for bits in 0..32 {
-                let has: [bool; 5] = std::array::from_fn(|bit| bits >> bit & 1 == 1);
-                let [_, short, _, unheld, far] = has;
-                if t <= delay && (short || unheld || far) {
-                    // Nothing is taken, and nothing is pinned.
+            for bits in 0..64 {
+                let has: [bool; 6] = std::array::from_fn(|bit| bits >> bit & 1 == 1);
+                let [_, short, _, unheld, far, second] = has;
+                if t <= delay && (short || unheld || far) || second && !double {
+                    // Nothing is taken, and nothing is pinned; or there is no such
+                    // bucket.
                     continue;
                 }
-                check_violations(&mut rng, delay, t, has).map_err(|trouble| {
-                    format!("delay {delay}, interval {t}, {has:?}: {trouble}")
+                check_violations(&mut rng, delay, t, double, has).map_err(|trouble| {
+                    format!("delay {delay}, interval {t}, second {double}, {has:?}: {trouble}")
                 })?;
                 sets += 1;
             }
@@ -1093,14 +1223,15 @@ fn violations_group() -> Result<String, String> {
 
 /// Two units and a decoder of 9 that holds 3 up to interval t, which sends the
 /// first grains: 6, or 7 for a peak of 10. Its unit takes just the peak, or one
-/// grain more to be short; far from that, a single grain, or 4,095. The bucket
-/// just holds or is over by one; until then it is empty, and its drain of 1 goes
-/// by, which no violation shows.
+/// grain more to be short; far from that, a single grain, or 4,095. Each bucket
+/// just holds or is over by one; until then they are empty, and their drain of 1
+/// goes by, which no violation shows. The second has a grain for the first drain.
 fn check_violations(
     rng: &mut Rng,
     delay: usize,
     t: usize,
-    [over, short, bucket, unheld, far]: [bool; 5],
+    double: bool,
+    [over, short, bucket, unheld, far, second]: [bool; 6],
 ) -> Checked {
     let sent: u16 = if over { 7 } else { 6 };
     let taken = match (short, far) {
@@ -1112,6 +1243,10 @@ fn check_violations(
     let size = sent - 1 - bucket as u16;
     let units = vec![vec![(0, 5), (taken, 6)]; 2];
     let mut draft = Draft::new([delay as u16, 9, size, 1, 3, 0], &[0, sent], &units);
+    if double {
+        let level = sent - 1 + (t == 1) as u16;
+        draft = draft.doubled([level - second as u16, 1, 1]);
+    }
     if unheld {
         draft.commands.push(Pin((t - delay) as u16, 0));
     }
@@ -1122,13 +1257,18 @@ fn check_violations(
     };
     let plan: Plan = (1..=delay + 2).map(entry).collect();
 
-    let first = first_of(&[(over, 2), (short, 1), (bucket, 3), (unheld, 4)]);
-    // After interval t the bucket has 5 or 6, more than the last intervals drain.
-    let unused = t as u64 - 1;
+    let tested = [(over, 2), (short, 1), (bucket, 3), (second, 5), (unheld, 4)];
+    let first = first_of(&tested) as u64;
+    // After interval t the buckets have 5 or more, more than the last intervals
+    // drain.
+    let unused = [t as u64 - 1, (t as u64 - 1).saturating_sub(1)];
     let due = match first {
-        0 if t > delay => [0, 0, 5 + 6, taken as u64, sent as u64, unused],
-        0 => [0, 0, 5 + 5, 0, sent as u64, unused],
-        _ => [first as u64, t as u64, 0, 0, 0, 0],
+        0 => {
+            let (distortion, taken) = if t > delay { (5 + 6, taken) } else { (5 + 5, 0) };
+            let totals = [0, 0, distortion, taken as u64, sent as u64];
+            [&totals[..], &unused[..1 + double as usize]].concat()
+        }
+        _ => violated(&asked.job, first, t),
     };
     same("followed", due, follow(&asked.job, &asked.pins, &plan).values)?;
     check_replay(rng, &asked, &plan)
@@ -1138,7 +1278,7 @@ fn check_violations(
 fn tight_group(seed: u64, asks: bool) -> Result<String, String> {
     let mut sharp = Sharp::default();
     let see = |asked: &Asked, plan: &Plan| sharp.count(asked, plan);
-    let telling = telling_jobs(seed, decoder_mistakes, &TIGHT, see)?;
+    let telling = telling_jobs(seed, &TIGHT_JOBS, see)?;
     let Sharp { full, within, both, waiting } = sharp;
     let text = format!(
         "{}: {full} units leave a full decoder, {within} over with a level within the size, \
@@ -1151,6 +1291,24 @@ fn tight_group(seed: u64, asks: bool) -> Result<String, String> {
 }
 
 /// Jobs of three sizes that tell a rule from mistaken ones.
+struct TellingJobs {
+    shapes: &'static [Shape; 3],
+    make: fn(&mut Rng, &Shape) -> Draft,
+    /// For each size.
+    mistakes: [&'static [Mistakes]; 3],
+    /// In one of so many intervals a plan has no regard for the buckets; 0 where it
+    /// always has.
+    bold: usize,
+}
+
+const TIGHT_JOBS: TellingJobs = TellingJobs {
+    shapes: &TIGHT,
+    make: random_tight_job,
+    mistakes: [&[decoder_mistakes]; 3],
+    bold: 0,
+};
+
+/// What came of them.
 struct Telling {
     jobs: usize,
     plans: usize,
@@ -1167,7 +1325,7 @@ impl Telling {
     /// the counts over plans is not small.
     fn worthwhile(&self, counts: &[usize]) -> bool {
         self.plans * 2 > self.jobs
-            && self.told.each(self.jobs.div_ceil(4))
+            && self.told.each(4)
             && counts.iter().all(|count| count * 10 > self.jobs)
     }
 }
@@ -1178,17 +1336,16 @@ const PLANS_A_JOB: usize = 8;
 /// `see` is told.
 fn telling_jobs(
     seed: u64,
-    mistakes: Mistakes,
-    shapes: &[Shape; 3],
+    of: &TellingJobs,
     mut see: impl FnMut(&Asked, &Plan),
 ) -> Result<Telling, String> {
     let mut rng = Rng(seed);
-    let (mut plans, mut told) = (0, Told::new(mistakes));
+    let (mut plans, mut told) = (0, Told::default());
     let counts = [scaled(600), scaled(120), scaled(20)];
     let jobs: usize = counts.iter().sum();
     for index in 1..=jobs {
         let shape = (index > counts[0]) as usize + (index > counts[0] + counts[1]) as usize;
-        let draft = random_tight_job(&mut rng, &shapes[shape]);
+        let draft = (of.make)(&mut rng, &of.shapes[shape]);
         let asked = Asked::new(&mut rng, &draft);
         let plan = dynamic(&asked.job, &asked.pins);
         let mut check = || -> Checked {
@@ -1200,7 +1357,7 @@ fn telling_jobs(
             same("plan read off", &plan, &read_off(&asked.job, &asked.pins, &table))?;
             check_plan(&mut rng, &asked, &table, &plan)?;
             for _ in 0..PLANS_A_JOB {
-                let tight = tight_plan(&mut rng, &asked.job, &asked.pins);
+                let tight = tight_plan(&mut rng, &asked.job, &asked.pins, of.bold);
                 check_replay(&mut rng, &asked, &tight)
                     .map_err(|trouble| format!("{trouble}\n  plan {tight:?}"))?;
                 see(&asked, &tight);
@@ -1209,7 +1366,9 @@ fn telling_jobs(
         };
         check().map_err(|trouble| failed(seed, index, &trouble, &asked))?;
         plans += plan.is_some() as usize;
-        told.count(&asked.job, &asked.pins, plan.as_ref());
+        for &mistakes in of.mistakes[shape] {
+            told.count(mistakes, &asked.job, &asked.pins, plan.as_ref());
+        }
     }
     Ok(Telling { jobs, plans, told })
 }
@@ -1243,19 +1402,21 @@ impl Sharp {
 }
 
 /// Goes on without a violation where that is possible, half of the time with the
-/// highest peak; now and then any entry.
-fn tight_plan(rng: &mut Rng, job: &Job, pins: &Pins) -> Plan {
+/// highest peak; now and then any entry. In one of `bold` intervals, if that is not
+/// 0, the buckets are left out of account.
+fn tight_plan(rng: &mut Rng, job: &Job, pins: &Pins, bold: usize) -> Plan {
     let slip = rng.pick(&[2, 8, 1000]);
-    let (mut decoder, mut bucket) = (job.start_decoder, job.start_bucket);
+    let (mut decoder, mut levels) = (job.start_decoder, job.start_levels());
     let mut plan = Vec::new();
     for t in 1..=job.intervals() {
+        let heedless = bold > 0 && rng.one_in(bold);
         let mut going = Vec::new();
         for (rate, &sent) in job.rates.iter().enumerate() {
-            let (filled, _) = bucket_step(job, bucket, sent);
+            let (after, _) = by_each(job, &levels, sent);
             for (choice, grains, _) in options(job, pins, t) {
                 let level = by_peak(job, decoder, sent, grains);
-                if let (Some(level), true) = (level, filled <= job.bucket_size) {
-                    going.push((decoder + sent, (rate, choice), level, filled));
+                if let (Some(level), true) = (level, heedless || hold(job, &after)) {
+                    going.push((decoder + sent, (rate, choice), level, after));
                 }
             }
         }
@@ -1266,9 +1427,9 @@ fn tight_plan(rng: &mut Rng, job: &Job, pins: &Pins) -> Plan {
         if going.is_empty() || rng.one_in(slip) {
             plan.push(random_entry(rng, job, t));
         } else {
-            let (_, entry, level, filled) = rng.pick(&going);
+            let (_, entry, level, after) = rng.pick(&going);
             plan.push(entry);
-            (decoder, bucket) = (level, filled);
+            (decoder, levels) = (level, after);
         }
     }
     plan
@@ -1288,7 +1449,8 @@ fn unused_group() -> Result<String, String> {
         let plan = read_off(&asked.job, &asked.pins, &table);
         // Every unit has a distortion of 1, and takes what its interval sends.
         let sent: u64 = draft.units.iter().map(|unit| unit[0].0 as u64).sum();
-        let due = [asked.job.units.len() as u64, sent, sent, *unused as u64];
+        let mut due = vec![asked.job.units.len() as u64, sent, sent];
+        due.extend(unused.iter().map(|sum| *sum as u64));
         let found = plan.as_ref().and_then(|plan| totals_of(&asked, plan));
         same(what, Some(due), found)?;
         check_plan(&mut rng, &asked, &table, &plan)
@@ -1302,14 +1464,15 @@ fn idle_group(seed: u64, asks: bool) -> Result<String, String> {
     let (mut idle, mut busy, mut hidden) = (0, 0, 0);
     let see = |asked: &Asked, plan: &Plan| {
         let Followed { values, unused, .. } = follow(&asked.job, &asked.pins, plan);
-        match (values[0], unused) {
+        match (values[0], unused[0]) {
             (0, 0) => busy += 1,
             (0, _) => idle += 1,
             (_, 0) => (),
             _ => hidden += 1,
         }
     };
-    let telling = telling_jobs(seed, unused_mistakes, &IDLE, see)?;
+    let idle_jobs = TellingJobs { shapes: &IDLE, mistakes: [&[unused_mistakes]; 3], ..TIGHT_JOBS };
+    let telling = telling_jobs(seed, &idle_jobs, see)?;
     let text = format!(
         "{}: {idle} clean with unused drain, {busy} clean without, {hidden} with some before a \
          violation",
@@ -1317,6 +1480,293 @@ fn idle_group(seed: u64, asks: bool) -> Result<String, String> {
     );
     ensure!(telling.worthwhile(&[idle, busy, hidden]) || !asks, "too little in it: {text}");
     Ok(text)
+}
+
+// ---------------------------------------------------------------------------
+// Two buckets.
+// ---------------------------------------------------------------------------
+
+/// Job A's words with a second bucket of size 3 and drain 1, by hand: for each
+/// interval and decoder level a word for each level of the second bucket, whatever
+/// the first one's. A rate of 4 goes in from 0 alone, one of 2 from all but 3, and
+/// they leave 3, or one more than there was; without one there is one less.
+/// After interval 2, unit 2 needs 2 in the decoder. After interval 1, unit 1 at 0
+/// needs a peak of 4, which leaves nothing for unit 2: 2 more must be sent. Level 0
+/// has it by a rate of 4, after which none is; level 2 by one of 2, if after that
+/// another goes in; level 4 without any.
+const TABLE_SECOND: [[[u32; 4]; 5]; 4] = [
+    [[50, 70, 70, NEVER], [70, 70, 70, NEVER], [50, 50, 50, 70], [70; 4], [50; 4]],
+    [[70, 70, NEVER, NEVER], [70, 70, NEVER, NEVER], [50, 50, 70, 70], [70; 4], [50; 4]],
+    [[40, 40, 40, NEVER], [40, 40, 40, NEVER], [40; 4], [40; 4], [40; 4]],
+    [[0; 4]; 5],
+];
+
+/// Job A with a second bucket: plans, tables, levels and violations by hand.
+fn second_group() -> Result<String, String> {
+    let mut rng = Rng(1);
+    let a = job_a();
+    // Each line: the second bucket, the pins, what planning gives.
+    let (same_plan, other, coarse) = (BEST_A, [1, 255, 1, 0, 1, 1], [0, 255, 1, 1, 1, 1]);
+    let rows: [([u16; 3], &[Command], Option<([u8; 6], [u64; 5])>); 15] = [
+        // No rate is over 4, so the bucket stays empty; or it never fills.
+        ([63, 4, 0], &[], Some((same_plan, [50, 6, 6, 2, 6]))),
+        ([0, 4, 0], &[], Some((same_plan, [50, 6, 6, 2, 6]))),
+        ([63, 4, 63], &[], Some((same_plan, [50, 6, 6, 2, 0]))),
+        ([63, 0, 0], &[], Some((same_plan, [50, 6, 6, 2, 0]))),
+        ([6, 0, 0], &[], Some((same_plan, [50, 6, 6, 2, 0]))),
+        ([63, 4095, 0], &[], Some((same_plan, [50, 6, 6, 2, 3 * 4095 - 6]))),
+        // 4 does not go in, so that 2 and 2 are sent for unit 1.
+        ([1, 2, 0], &[], Some((other, [50, 6, 6, 0, 0]))),
+        ([1, 2, 0], &[Pin(1, 0)], Some((other, [50, 6, 6, 0, 0]))),
+        ([1, 2, 0], &[Pin(1, 1)], Some((coarse, [70, 4, 4, 2, 2]))),
+        ([3, 1, 0], &[], Some((other, [50, 6, 6, 0, 0]))),
+        // Only 4 grains can be sent.
+        ([5, 0, 0], &[], Some((coarse, [70, 4, 4, 2, 0]))),
+        ([3, 1, 1], &[], Some((coarse, [70, 4, 4, 2, 0]))),
+        // No plan, though there is one without the bucket.
+        ([0, 0, 0], &[], None),
+        ([3, 1, 3], &[], None),
+        ([3, 0, 0], &[], None),
+    ];
+    for (second, commands, due) in rows {
+        let asked = Asked::new(&mut rng, &a.doubled(second).commanded(commands));
+        let (table, all) =
+            (brute_table(&asked.job, &asked.pins), enumerate(&asked.job, &asked.pins));
+        let totals = all.best.as_ref().and_then(|plan| totals_of(&asked, plan));
+        let found = all.best.as_ref().map(plan_bytes).zip(totals);
+        let due = due.map(|(entries, totals)| (entries.to_vec(), totals.to_vec()));
+        let what = format!("second bucket {second:?}");
+        let check = || -> Checked {
+            same("by hand", due, found)?;
+            check_open(&mut rng, &asked)?;
+            check_plan(&mut rng, &asked, &table, &all.best)?;
+            check_typed(&asked, &table, &all.best)
+        };
+        check().map_err(|trouble| format!("{what}: {trouble}"))?;
+    }
+
+    for (second, table) in [
+        (SECOND_A, known_lines()[1].table.clone()),
+        ([3, 1, 0], TABLE_SECOND.concat().iter().flat_map(|words| words.repeat(4)).collect()),
+    ] {
+        let asked = Asked::new(&mut rng, &a.doubled(second));
+        same("table by hand", &table, &brute_table(&asked.job, &asked.pins))?;
+        let found = upload_planner::best_plan(&asked.bytes, &[]).map(|best| best.table);
+        same("table", Ok(table), found)?;
+    }
+    check_second_replays(&mut rng)?;
+    check_second_sizes(&mut rng)?;
+    Ok(format!("{} jobs by hand", rows.len()))
+}
+
+/// Each line: both buckets, a plan, the levels before its violation, what is named.
+fn check_second_replays(rng: &mut Rng) -> Checked {
+    let best = [(0, NO_CHOICE), (2, 0), (1, 1)];
+    let early = [(1, NO_CHOICE), (2, 1), (1, 1)];
+    let rows: [([[u16; 3]; 2], [Entry; 3], &[u16], &[u64]); 12] = [
+        ([[3, 2, 0], [63, 4, 0]], best, &[0, 0, 0, 0, 2, 0, 0, 2, 0], &[0, 0, 50, 6, 6, 2, 6]),
+        ([[3, 2, 0], [63, 1, 9]], best, &[0, 0, 8, 0, 2, 11, 0, 2, 12], &[0, 0, 50, 6, 6, 2, 0]),
+        // The second is over, the first is not, and just holds.
+        ([[3, 2, 0], [1, 2, 0]], best, &[0, 0, 0], &[SECOND_OVER, 2]),
+        ([[2, 2, 0], [1, 2, 0]], best, &[0, 0, 0], &[SECOND_OVER, 2]),
+        ([[3, 2, 0], [3, 1, 0]], best, &[0, 0, 0, 0, 2, 3], &[SECOND_OVER, 3]),
+        ([[3, 2, 0], [0, 0, 0]], early, &[], &[SECOND_OVER, 1]),
+        // The first is over, the second is not, and just holds.
+        ([[1, 2, 0], [2, 2, 0]], best, &[0, 0, 0], &[BUCKET_OVER, 2]),
+        ([[9, 1, 9], [2, 2, 1]], best, &[0, 8, 0], &[BUCKET_OVER, 2]),
+        // Both are over in the same interval, and the first is named.
+        ([[1, 2, 0], [1, 2, 0]], best, &[0, 0, 0], &[BUCKET_OVER, 2]),
+        ([[0, 1, 0], [0, 0, 0]], early, &[], &[BUCKET_OVER, 1]),
+        // The decoder is over before either: 2 and 4 are 6.
+        ([[1, 2, 0], [1, 2, 0]], [early[0], (2, 1), early[2]], &[2, 0, 0], &[OVER, 2]),
+        // The decoder is short before either.
+        ([[1, 2, 0], [1, 2, 0]], [best[0], (0, 0), best[2]], &[0, 0, 0], &[SHORT, 2]),
+    ];
+    for ([first, second], plan, levels, named) in rows {
+        let a = job_a().with(BUCKET, first[0]).with(DRAIN, first[1]).with(START_BUCKET, first[2]);
+        let asked = Asked::new(rng, &a.doubled(second));
+        let plan = plan.to_vec();
+        let due = follow(&asked.job, &asked.pins, &plan);
+        let what = format!("buckets {first:?} {second:?}, plan {plan:?}");
+        let mut values = named.to_vec();
+        values.resize(7, 0);
+        same(&what, (levels, &values), (&due.levels[..], &due.values))?;
+        check_replay(rng, &asked, &plan).map_err(|trouble| format!("{what}: {trouble}"))?;
+        check_report(rng, &asked, &plan).map_err(|trouble| format!("{what}: {trouble}"))?;
+    }
+    // A pin that is not held is named after the second bucket, and before the next
+    // interval's.
+    for (second, due) in [([1, 2, 0], SECOND_OVER), ([2, 2, 0], NOT_HELD)] {
+        let draft = job_a().doubled(second).commanded(&[Pin(1, 1)]);
+        let asked = Asked::new(rng, &draft);
+        let plan = best.to_vec();
+        let found = follow(&asked.job, &asked.pins, &plan).values;
+        same("a pin not held", violated(&asked.job, due, 2), found)?;
+        check_replay(rng, &asked, &plan)?;
+    }
+    Ok(())
+}
+
+/// The words and bytes of the largest jobs, which no table is made of.
+fn check_second_sizes(rng: &mut Rng) -> Checked {
+    let largest = largest_draft();
+    for (draft, due) in [
+        (job_a().doubled([63, 4, 0]), [70, 2, 3, 5120]),
+        (job_a().doubled([0, 0, 0]), [70, 2, 3, 80]),
+        (largest.clone(), [97_338, 512, 576, 37_814_272]),
+        (largest.doubled([0, 4095, 0]), [97_344, 512, 576, 37_814_272]),
+        (largest.doubled([1, 4095, 1]), [97_344, 512, 576, 75_628_544]),
+        (largest.doubled([63, 4095, 63]), [97_344, 512, 576, 2_420_113_408]),
+    ] {
+        let asked = Asked::new(rng, &draft);
+        let mut values = Lent::new(rng, 4);
+        same("open", 0, numbers::open(&asked.bytes, values.list()))?;
+        values.wrote("values of open", &due)?;
+        check_open(rng, &asked)?;
+        let mut lent = PlanLists::new(rng, [0, 79, 2 * asked.intervals(), 5]);
+        same("a table of 79", 11, lent.plan(&asked.bytes, &[]))?;
+        lent.kept()?;
+    }
+    Ok(())
+}
+
+/// The words of a table by other layouts: the second level outside the decoder's,
+/// and outside the first one's.
+fn layout_mistakes(job: &Job, pins: &Pins, _: Option<&Plan>) -> Vec<(&'static str, bool)> {
+    let table = fast_table(job, pins);
+    let (mut outermost, mut outside) = (vec![0; table.len()], vec![0; table.len()]);
+    let [width, second] = [0, 1].map(|at| job.buckets[at].size as usize + 1);
+    let rows = job.decoder_size as usize + 1;
+    for t in 0..=job.intervals() {
+        for decoder in 0..rows {
+            for levels in job.all_levels() {
+                let word = table[job.word(t, decoder as i64, &levels)];
+                let [l, m] = levels.map(|level| level as usize);
+                outermost[((t * second + m) * rows + decoder) * width + l] = word;
+                outside[((t * rows + decoder) * second + m) * width + l] = word;
+            }
+        }
+    }
+    vec![
+        ("the second level outermost", outermost != table),
+        ("the second level outside the first", outside != table),
+    ]
+}
+
+const DOUBLE_JOBS: TellingJobs = TellingJobs {
+    shapes: &DOUBLE,
+    make: random_double_job,
+    mistakes: [
+        &[second_mistakes, layout_mistakes],
+        &[meeting_mistakes, layout_mistakes],
+        &[meeting_mistakes, layout_mistakes],
+    ],
+    bold: 4,
+};
+
+/// Jobs in which both buckets decide, with plans in which one of them is over, or
+/// both are. Where both are, another order of testing has another answer.
+fn double_group(seed: u64, asks: bool) -> Result<String, String> {
+    let (mut first, mut second, mut both, mut clean) = (0, 0, BTreeSet::new(), 0);
+    let see = |asked: &Asked, plan: &Plan| {
+        let Followed { values, over, .. } = follow(&asked.job, &asked.pins, plan);
+        match (values[0], over[0], over[1]) {
+            (0, ..) => clean += 1,
+            (BUCKET_OVER, _, true) => drop(both.insert(asked.bytes.clone())),
+            (BUCKET_OVER, ..) => first += 1,
+            (SECOND_OVER, ..) => second += 1,
+            _ => (),
+        }
+    };
+    let telling = telling_jobs(seed, &DOUBLE_JOBS, see)?;
+    let text = format!(
+        "{}: {clean} clean, {first} with the first bucket over alone, {second} with the second \
+         alone; {} jobs with both",
+        telling.show(),
+        both.len()
+    );
+    let often = [first, second, both.len(), clean].iter().all(|count| count * 5 > telling.jobs);
+    ensure!(telling.worthwhile(&[]) && often || !asks, "too little in it: {text}");
+    Ok(text)
+}
+
+/// What the library plans: its number, table, entries and values.
+type PlannedNumbers = (u32, Vec<u32>, Vec<u8>, Vec<u64>);
+
+fn planned_numbers(asked: &Asked) -> PlannedNumbers {
+    let [answers, table, entries, values] = asked.needs();
+    let (mut table, mut entries, mut values) = (vec![7; table], vec![7; entries], vec![7; values]);
+    let (job, calls) = (&asked.bytes, &asked.calls);
+    let mut answers = vec![7; answers];
+    let number = numbers::plan(job, calls, &mut answers, &mut table, &mut entries, &mut values);
+    (number, table, entries, values)
+}
+
+/// What the library plans for lines of two buckets, against what it plans for others:
+/// with the buckets in the other order, with a bucket that never binds, with one that
+/// is there twice, and without the second.
+fn lines_group(seed: u64, asks: bool) -> Result<String, String> {
+    let mut rng = Rng(seed);
+    let (mut plans, mut others, mut lost) = (0, 0, 0);
+    let jobs = scaled(600);
+    for index in 1..=jobs {
+        let draft = match index % 3 {
+            0 => random_tiny_double(&mut rng),
+            _ => random_double_job(&mut rng, &DOUBLE[(index % 20 == 1) as usize]),
+        };
+        let asked = Asked::new(&mut rng, &draft);
+        let [double, alone] = check_lines(&mut rng, &draft, &asked)
+            .map_err(|trouble| failed(seed, index, &trouble, &asked))?;
+        plans += (double.0 == 0) as usize;
+        others += (double.0 == 0 && double.2 != alone.2) as usize;
+        lost += (double.0 == 13 && alone.0 == 0) as usize;
+    }
+    let counts = format!(
+        "{jobs} jobs, {plans} with a plan, {others} with another than without the second bucket, \
+         {lost} with none for it"
+    );
+    let worthwhile = plans * 2 > jobs && others * 6 > jobs && lost * 100 > jobs;
+    ensure!(worthwhile || !asks, "too little in it: {counts}");
+    Ok(counts)
+}
+
+/// Gives what is planned with the second bucket and without it.
+fn check_lines(rng: &mut Rng, draft: &Draft, asked: &Asked) -> Result<[PlannedNumbers; 2], String> {
+    let of = |draft: &Draft| planned_numbers(&Asked::new(&mut Rng(1), draft));
+    let (double, alone) = (of(draft), of(&draft.alone()));
+    let (number, table, entries, values) = of(&draft.swapped());
+    let job = &asked.job;
+    let [width, second] = [0, 1].map(|at| job.buckets[at].size as usize + 1);
+    let swapped = |at: usize| {
+        let (row, l, m) = (at / (width * second), at / second % width, at % second);
+        (row * second + m) * width + l
+    };
+    let turned: Vec<u32> = (0..table.len()).map(|at| table[swapped(at)]).collect();
+    same("in the other order", (double.0, &double.2), (number, &entries))?;
+    ensure!(double.1 == turned, "in the other order the table is another");
+    let [d, s, c, first, last] = double.3[..] else { return Err("not five values".to_string()) };
+    let turned = if number == 0 { vec![d, s, c, last, first] } else { vec![7; 5] };
+    same("values in the other order", turned, values)?;
+
+    // Its drain is the largest rate or more, so that no level rises.
+    let most = draft.rates[draft.rates.len() - 1];
+    let size = rng.from(0, 9);
+    let idle = [size as u16, most + rng.from(0, 3) as u16, rng.from(0, size) as u16];
+    let idle = of(&draft.doubled(idle.map(|number| number.min(4095))));
+    same("with an idle bucket", (alone.0, &alone.2), (idle.0, &idle.2))?;
+    let repeated: Vec<u32> = alone.1.iter().flat_map(|&word| vec![word; size + 1]).collect();
+    ensure!(repeated == idle.1, "with an idle bucket the table is another");
+    same("values with an idle bucket", &alone.3[..], &idle.3[..4])?;
+
+    let [size, drain, start] = BUCKET_FIELDS[0].map(|field| draft.header[field]);
+    let twice = of(&draft.doubled([size, drain, start]));
+    same("with a bucket twice", (alone.0, &alone.2), (twice.0, &twice.2))?;
+    let again = [&alone.3[..], &alone.3[3..]].concat();
+    same("values with a bucket twice", again, twice.3)?;
+    // No less distortion than without it.
+    let worse = alone.0 == 0 && (double.0 == 13 || double.3[0] >= alone.3[0]);
+    ensure!(worse || [alone.0, double.0] == [13, 13], "better with the second bucket");
+    Ok([double, alone])
 }
 
 // ---------------------------------------------------------------------------
@@ -1440,9 +1890,8 @@ fn check_session(rng: &mut Rng, asked: &Asked) -> Result<bool, String> {
     check_replay(rng, asked, &other)?;
 
     let calls = fresh_calls(rng, &asked.pins);
-    let lengths = [asked.answers.len(), table.len(), 2 * asked.intervals(), PLAN_VALUES];
-    let mut long = PlanLists::new(&mut Rng(1), lengths);
-    let mut fresh = PlanLists::new(&mut Rng(1), lengths);
+    let mut long = PlanLists::new(&mut Rng(1), asked.needs());
+    let mut fresh = PlanLists::new(&mut Rng(1), asked.needs());
     let numbers = (long.plan(&asked.bytes, &asked.calls), fresh.plan(&asked.bytes, &calls));
     same("a fresh session's answer", numbers.0, numbers.1)?;
     if plan.is_some() {
@@ -1628,24 +2077,34 @@ const WIDE: Shape = Shape {
     commands: 3,
 };
 
-fn harmed_job(rng: &mut Rng) -> Vec<u8> {
+/// On a line of one bucket or of two.
+fn harmed_job(rng: &mut Rng, buckets: usize) -> Vec<u8> {
     let shape = if rng.one_in(5) { &WIDE } else { &TINY };
     let mut draft = random_job(rng, shape);
     draft.commands.clear();
+    if buckets > 1 {
+        draft = random_doubled(rng, &draft, second_size(shape), shape.grains);
+    }
     let mut bytes = harmed(rng, &draft, 20, |rng, bytes| match rng.from(0, 9) {
         0 => harm_head(rng, bytes),
         1 => harm_value(rng, bytes),
+        2 if buckets > 1 && rng.one_in(4) => harm_kind(rng, bytes),
         _ => harm(rng, bytes),
     });
     bytes.shrink_to_fit();
     bytes
 }
 
+/// The largest second bucket in jobs of a shape.
+fn second_size(shape: &Shape) -> usize {
+    shape.bucket.min(63)
+}
+
 /// Puts a limit or its neighbour in a field of the header or a rate.
 fn harm_head(rng: &mut Rng, bytes: &mut [u8]) {
     let field = 4 + 2 * rng.from(0, 14);
-    let limits: [u16; 16] =
-        [0, 1, 2, 16, 17, 31, 32, 64, 65, 255, 256, 512, 513, 4095, 4096, 0xffff];
+    let limits: [u16; 17] =
+        [0, 1, 2, 16, 17, 31, 32, 63, 64, 65, 255, 256, 512, 513, 4095, 4096, 0xffff];
     if field + 2 <= bytes.len() {
         bytes[field..field + 2].copy_from_slice(&rng.pick(&limits).to_le_bytes());
     }
@@ -1661,11 +2120,19 @@ fn harm_value(rng: &mut Rng, bytes: &mut [u8]) {
 }
 
 fn harmed_group(seed: u64, asks: bool) -> Result<String, String> {
+    harmed_jobs(seed, asks, 1)
+}
+
+fn harmed_double_group(seed: u64, asks: bool) -> Result<String, String> {
+    harmed_jobs(seed, asks, 2)
+}
+
+fn harmed_jobs(seed: u64, asks: bool, buckets: usize) -> Result<String, String> {
     let mut rng = Rng(seed);
     let mut tally: BTreeMap<Refusal, usize> = BTreeMap::new();
     let inputs = scaled(60_000);
     for index in 1..=inputs {
-        let bytes = harmed_job(&mut rng);
+        let bytes = harmed_job(&mut rng, buckets);
         let due = check_bytes(&mut rng, &bytes).map_err(|trouble| {
             format!("seed {seed}, input {index}: {trouble}\n  job {}", hex(&bytes))
         })?;
@@ -1690,8 +2157,8 @@ fn check_bytes(rng: &mut Rng, bytes: &[u8]) -> Result<Refusal, String> {
     let calls = [6, 1, 0, 7, 1, 0];
     match read {
         Err(_) => {
-            check_no_job(rng, bytes, number, &calls, [4, 2, 3, 20, 12, 4, 12, 6, 4])?;
-            let any = std::array::from_fn(|_| rng.from(0, 6));
+            check_no_job(rng, bytes, number, &calls, [4, 2, 3, 20, 12, 5, 18, 7, 4])?;
+            let any = std::array::from_fn(|_| rng.from(0, 7));
             let cut = rng.from(0, calls.len());
             check_no_job(rng, bytes, number, &calls[..cut], any)?;
         }
@@ -1702,7 +2169,7 @@ fn check_bytes(rng: &mut Rng, bytes: &[u8]) -> Result<Refusal, String> {
             values.wrote("values of open", &due.map(|value| value as u64))?;
             let asked = Asked::with(bytes.to_vec(), job, calls.to_vec());
             if asked.job.words() > 20 {
-                let mut lent = PlanLists::new(rng, [2, 20, 12, PLAN_VALUES]);
+                let mut lent = PlanLists::new(rng, [2, 20, 12, plan_values(&asked.job)]);
                 same("plan", 11, lent.plan(bytes, &calls))?;
                 lent.kept()?;
             }
@@ -1766,7 +2233,8 @@ fn cuts_group() -> Result<String, String> {
     let mut inputs = 0;
     let mut wide = random_job(&mut rng, &WIDE);
     wide.commands.clear();
-    for whole in [job_a().bytes(), wide.bytes()] {
+    let doubles = [job_a(), wide.clone()].map(|draft| draft.doubled([63, 4095, 63]).bytes());
+    for whole in [vec![job_a().bytes(), wide.bytes()], doubles.to_vec()].concat() {
         for cut in 0..=whole.len() {
             let bytes = whole[..cut].to_vec();
             let due = check_bytes(&mut rng, &bytes).map_err(|t| format!("cut to {cut}: {t}"))?;
@@ -1791,21 +2259,60 @@ fn limits_group() -> Result<String, String> {
         let found = check_bytes(&mut rng, input).map_err(|trouble| format!("{what}: {trouble}"))?;
         same(&what, due, found)
     };
-    for (field, low, high) in LIMITS {
-        for value in [low, low + 1, high - 1, high] {
-            check(&sized(field, value), 0, format!("field {field} is {value}"))?;
-        }
-        for value in [low.wrapping_sub(1), high + 1, high + 256, 0x8000, 0xffff] {
-            if value < low || value > high {
-                let input = sized(field, value.min(600));
-                let input = patched(&input, 4 + 2 * field, &value.to_le_bytes());
-                check(&input, 3, format!("field {field} is {value}"))?;
+    for buckets in 1..=MOST_BUCKETS {
+        for &(field, low, high) in &LIMITS[..FIELDS[buckets - 1]] {
+            let what = |value: u16| format!("{buckets} buckets, field {field} is {value}");
+            for value in [low, low + 1, high - 1, high] {
+                check(&sized(buckets, field, value), 0, what(value))?;
+            }
+            for value in [low.wrapping_sub(1), high + 1, high + 256, 0x8000, 0xffff] {
+                if value < low || value > high {
+                    check(&sized(buckets, field, value), 3, what(value))?;
+                }
             }
         }
     }
+    for ([size, drain, start], due) in [
+        ([0, 0, 0], 0),
+        ([0, 0, 1], 3),
+        ([62, 0, 63], 3),
+        ([63, 0, 63], 0),
+        ([63, 0, 64], 3),
+        ([64, 0, 64], 3),
+        ([63, 4095, 63], 0),
+        ([63, 4096, 63], 3),
+        // In range in one byte alone.
+        ([256, 0, 0], 3),
+        ([0, 256, 0], 0),
+        ([0, 0x1000, 0], 3),
+        ([0, 0, 256], 3),
+        ([63, 0, 0x0100], 3),
+    ] {
+        let draft = job_a().doubled([size, drain, start]);
+        check(&draft.bytes(), due, format!("second size {size}, drain {drain}, start {start}"))?;
+    }
+    // The first nine fields and the last three are held to their limits together.
+    for (field, value) in [(UNITS, 0), (DELAY, 65), (START_BUCKET, 4), (CHOICES, 32)] {
+        let draft = job_a().doubled([63, 4095, 63]).with(field, value);
+        check(&draft.bytes(), 3, format!("two buckets, field {field} is {value}"))?;
+    }
+    // Either kind with the other's length, and the fields of the other.
+    let [one, two] = [job_a(), job_a().doubled(SECOND_A)].map(|draft| draft.bytes());
+    for (length, kind) in [(20, 8), (26, 1), (20, 7), (26, 9), (24, 8), (28, 8), (25, 8), (282, 8)]
+    {
+        let begun = words(&[length, kind]);
+        check(&patched(&one, 0, &begun), 2, format!("one bucket, {length}, {kind}"))?;
+        check(&patched(&two, 0, &begun), 2, format!("two buckets, {length}, {kind}"))?;
+    }
+    check(&patched(&one, 0, &words(&[26, 8])), 2, "one bucket, begun as two".to_string())?;
+    check(&patched(&two, 0, &words(&[20, 1])), 2, "two buckets, begun as one".to_string())?;
     for (rates, due) in [([0, 2, 2], 4), ([2, 2, 4], 4), ([0, 4095, 4096], 4), ([0, 2, 4095], 0)] {
         let draft = Draft { rates: rates.to_vec(), ..job_a() };
         check(&draft.bytes(), due, format!("rates {rates:?}"))?;
+    }
+    for (rates, due) in [([0, 2, 2], 4), ([0, 4095, 4096], 4), ([0, 2, 4095], 0)] {
+        let draft = Draft { rates: rates.to_vec(), ..job_a().doubled(SECOND_A) };
+        check(&draft.bytes(), due, format!("two buckets, rates {rates:?}"))?;
     }
     for (unit, choice) in [(0, 0), (0, 1), (1, 0), (1, 1)] {
         for (entry, due) in [
@@ -1816,9 +2323,10 @@ fn limits_group() -> Result<String, String> {
             ((0, 0x8000_0000), 5),
             ((0, 0x0100_0000), 5),
         ] {
-            let mut draft = job_a();
-            draft.units[unit][choice] = entry;
-            check(&draft.bytes(), due, format!("unit {} choice {choice} {entry:?}", unit + 1))?;
+            for mut draft in [job_a(), job_a().doubled(SECOND_A)] {
+                draft.units[unit][choice] = entry;
+                check(&draft.bytes(), due, format!("unit {} choice {choice} {entry:?}", unit + 1))?;
+            }
         }
     }
     Ok(format!("{inputs} inputs"))
@@ -1834,7 +2342,7 @@ fn limits_group() -> Result<String, String> {
 /// drain of 2 goes by.
 const BEST_A: [u8; 6] = [0, 255, 2, 0, 1, 1];
 const LEVELS_A: [u16; 6] = [0, 0, 0, 2, 0, 2];
-const TOTALS_A: [u64; PLAN_VALUES] = [50, 6, 6, 2];
+const TOTALS_A: [u64; 4] = [50, 6, 6, 2];
 
 /// Job A's table by hand: a row for each decoder level, a word for each bucket
 /// level. Unit 1 at choice 0 needs a peak of just 4, which levels 0, 2 and 4 can
@@ -1846,6 +2354,38 @@ const TABLE_A: [[[u32; 4]; 5]; 4] = [
     [[0; 4]; 5],
 ];
 
+/// Job A on a line of one bucket or two, and what comes of its best plan.
+struct Known {
+    draft: Draft,
+    table: Vec<u32>,
+    levels: Vec<u16>,
+    totals: Vec<u64>,
+}
+
+/// By hand. The second bucket, `SECOND_A`, holds 2 and drains 2. A rate of 4 fills it
+/// from 0, and does not go in from 1 and 2; a rate of 2 leaves it as it is, and in an
+/// interval without one it is emptied. So the best plan is the same, and the table
+/// differs from Job A's only where 4 grains must be sent: after interval 1, with
+/// nothing in the decoder.
+fn known_lines() -> [Known; 2] {
+    let one = Known {
+        draft: job_a(),
+        table: TABLE_A.concat().concat(),
+        levels: LEVELS_A.to_vec(),
+        totals: TOTALS_A.to_vec(),
+    };
+    let mut table: Vec<u32> = one.table.iter().flat_map(|&word| [word; 3]).collect();
+    // A word for each level of the second bucket, for each level of the first.
+    table[60..72].copy_from_slice(&[50, 70, 70, 50, 70, 70, 70, 70, 70, 70, 70, 70]);
+    let two = Known {
+        draft: job_a().doubled(SECOND_A),
+        table,
+        levels: vec![0, 0, 0, 0, 2, 2, 0, 2, 2],
+        totals: vec![50, 6, 6, 2, 2],
+    };
+    [one, two]
+}
+
 /// The cases that the papers write out and their neighbours, worked out by hand.
 fn job_a_group() -> Result<String, String> {
     use upload_planner::{best_plan, called, open, plan, replay, report, written, Refusal};
@@ -1853,8 +2393,8 @@ fn job_a_group() -> Result<String, String> {
     let (first, second) = (Call::Pin { unit: 1, choice: 0 }, Call::Pin { unit: 2, choice: 0 });
     let (other, lifted) = (Call::Pin { unit: 1, choice: 1 }, Call::Lift { unit: 1 });
     let best = |calls: &[Call]| best_plan(&job, calls).map(|best| (best.entries, best.totals));
-    let found = (BEST_A.to_vec(), typed_totals(TOTALS_A));
-    let coarse = (vec![0, 255, 1, 1, 1, 1], typed_totals([70, 4, 4, 2]));
+    let found = (BEST_A.to_vec(), typed_totals(&TOTALS_A));
+    let coarse = (vec![0, 255, 1, 1, 1, 1], typed_totals(&[70, 4, 4, 2]));
 
     let opened = open(&job).map_err(|refusal| refusal.to_string())?;
     let opened = (opened.bytes, opened.units, opened.intervals, opened.table_words);
@@ -1934,6 +2474,7 @@ fn job_a_group() -> Result<String, String> {
         fill: 0,
         rates: 3,
         choices: 2,
+        second: None,
     };
     let (rates, sizes) = ([0, 2, 4], [4, 2, 5, 2]);
     same("written", Ok(job), written(&header, &rates, &sizes, &[10, 30, 12, 40]))?;
@@ -1951,12 +2492,13 @@ fn job_a_group() -> Result<String, String> {
     Ok("as written".to_string())
 }
 
-/// Job A with a wrong record for each of the first five numbers, and right.
-fn job_a_wrong(number: Refusal) -> Vec<u8> {
-    let mut draft = job_a();
+/// A job with a wrong record for each of the first five numbers, and right.
+fn wrong_job(draft: &Draft, number: Refusal) -> Vec<u8> {
+    let mut draft = draft.clone();
+    let whole = draft.bytes();
     match number {
-        1 => return draft.bytes()[..63].to_vec(),
-        2 => return patched(&draft.bytes(), 2, &[2]),
+        1 => return whole[..whole.len() - 1].to_vec(),
+        2 => return patched(&whole, 2, &[2]),
         3 => draft.header[DELAY] = 65,
         4 => draft.rates[2] = 2,
         5 => draft.units[1][1].0 = 4096,
@@ -1999,14 +2541,17 @@ fn faulty_calls(pins: &[u16], kind: bool, cut: bool, longer: bool) -> Vec<u16> {
 fn order_group() -> Result<String, String> {
     let mut rng = Rng(1);
     let mut sets = 0;
-    for wrong in 0..=5 {
-        let job = job_a_wrong(wrong);
+    for (known, wrong) in known_lines().iter().flat_map(|known| (0..=5).map(move |n| (known, n))) {
+        let job = wrong_job(&known.draft, wrong);
         for bits in 0..1 << 9 {
             let has = |bit: usize| bits >> bit & 1 == 1;
-            let named = |trouble: String| format!("job {wrong}, defects {bits:b}: {trouble}");
+            let named = |trouble: String| {
+                let buckets = known.totals.len() - 3;
+                format!("{buckets} buckets, job {wrong}, defects {bits:b}: {trouble}")
+            };
             check_calls_order(&mut rng, &job, wrong, has).map_err(named)?;
-            check_plan_order(&mut rng, &job, wrong, has).map_err(named)?;
-            check_other_orders(&mut rng, &job, wrong, has).map_err(named)?;
+            check_plan_order(&mut rng, known, &job, wrong, has).map_err(named)?;
+            check_other_orders(&mut rng, known, &job, wrong, has).map_err(named)?;
             sets += 1;
         }
     }
@@ -2036,6 +2581,7 @@ fn check_calls_order(
 
 fn check_plan_order(
     rng: &mut Rng,
+    known: &Known,
     job: &[u8],
     wrong: Refusal,
     has: impl Fn(usize) -> bool,
@@ -2046,9 +2592,9 @@ fn check_plan_order(
     let calls = faulty_calls(&pins, kind, cut, has(8));
     let lengths = [
         cut_to(2, answers, by_all),
-        cut_to(80, table, by_all),
+        cut_to(known.table.len(), table, by_all),
         cut_to(6, entries, by_all),
-        cut_to(PLAN_VALUES, values, by_all),
+        cut_to(known.totals.len(), values, by_all),
     ];
     let mut lent = PlanLists::new(rng, lengths);
     let due = first_of(&[
@@ -2065,9 +2611,9 @@ fn check_plan_order(
     match due {
         0 => {
             lent.answers.wrote("answers", &[0, 0])?;
-            lent.table.wrote("table", &TABLE_A.concat().concat())?;
+            lent.table.wrote("table", &known.table)?;
             lent.entries.wrote("entries", &BEST_A)?;
-            lent.values.wrote("values", &TOTALS_A)
+            lent.values.wrote("values", &known.totals)
         }
         13 => {
             let read = read_job(&mut Reader { rest: job }).expect("Job A");
@@ -2080,6 +2626,7 @@ fn check_plan_order(
 
 fn check_other_orders(
     rng: &mut Rng,
+    known: &Known,
     job: &[u8],
     wrong: Refusal,
     has: impl Fn(usize) -> bool,
@@ -2095,15 +2642,15 @@ fn check_other_orders(
     }
     entries.shrink_to_fit();
     let calls = faulty_calls(&[6, 2, 1], kind, cut, has(8));
-    let mut values = Lent::new(rng, cut_to(REPLAY_VALUES, short, by_all));
-    let mut levels = Lent::new(rng, cut_to(6, list, by_all));
+    let mut values = Lent::new(rng, cut_to(2 + known.totals.len(), short, by_all));
+    let mut levels = Lent::new(rng, cut_to(known.levels.len(), list, by_all));
     let due =
         first_of(&[(wrong > 0, wrong), (kind, 2), (cut, 1), (shape, 14), (list, 12), (short, 12)]);
     let found = numbers::replay(job, &calls, &entries, levels.list(), values.list());
     same("replay", due, found)?;
     if due == 0 {
-        values.wrote("values of replay", &[&[0, 0], &TOTALS_A[..]].concat())?;
-        levels.wrote("levels", &LEVELS_A)?;
+        values.wrote("values of replay", &[&[0, 0], &known.totals[..]].concat())?;
+        levels.wrote("levels", &known.levels)?;
     } else {
         values.kept("values of replay")?;
         levels.kept("levels")?;
@@ -2117,21 +2664,33 @@ fn check_other_orders(
     let mut values = Lent::new(rng, cut_to(4, short, by_all));
     let due = first_of(&[(wrong > 0, wrong), (short, 12)]);
     same("open", due, numbers::open(job, values.list()))?;
-    values.wrote("values of open", if due == 0 { &[64, 2, 3, 80] } else { &[] })
+    let opened = [known.draft.bytes().len() as u64, 2, 3, known.table.len() as u64];
+    values.wrote("values of open", if due == 0 { &opened } else { &[] })
 }
 
 /// Lists of every length up to what is needed, each alone.
 fn lengths_group() -> Result<String, String> {
     let mut rng = Rng(2);
-    let job = job_a().bytes();
+    let mut lists = 0;
+    for known in &known_lines() {
+        let checked = check_lengths(&mut rng, known);
+        let buckets = known.totals.len() - 3;
+        lists += checked.map_err(|trouble| format!("{buckets} buckets, {trouble}"))?;
+    }
+    Ok(format!("{lists} lists"))
+}
+
+/// Gives the number of lists.
+fn check_lengths(rng: &mut Rng, known: &Known) -> Result<usize, String> {
+    let job = known.draft.bytes();
     let calls = [6, 1, 1, 7, 1, 0, 7, 1, 0, 6, 2, 1];
-    let needs = [4, 80, 6, PLAN_VALUES];
+    let needs = [4, known.table.len(), 6, known.totals.len()];
     let mut lists = 0;
     for (which, need) in needs.into_iter().enumerate() {
         for length in 0..=need + 2 {
             let mut lengths = needs;
             lengths[which] = length;
-            let mut lent = PlanLists::new(&mut rng, lengths);
+            let mut lent = PlanLists::new(rng, lengths);
             let number = if which == 1 { 11 } else { 12 };
             let due = if length < need { number } else { 0 };
             let found = lent.plan(&job, &calls);
@@ -2142,14 +2701,14 @@ fn lengths_group() -> Result<String, String> {
             } else {
                 lent.answers.wrote("answers", &[0, 0, 10, 0])?;
                 lent.entries.wrote("entries", &BEST_A)?;
-                lent.values.wrote("values", &TOTALS_A)?;
+                lent.values.wrote("values", &known.totals)?;
             }
             lists += 1;
         }
     }
     for length in 0..=6 {
         for lengths in [[length, CALLS_VALUES], [4, length]] {
-            let mut lent = CallLists::new(&mut rng, lengths);
+            let mut lent = CallLists::new(rng, lengths);
             let short = lengths[0] < 4 || lengths[1] < CALLS_VALUES;
             let what = format!("answers and values of {lengths:?}");
             same(&what, if short { 12 } else { 0 }, lent.make(&job, &calls))?;
@@ -2158,28 +2717,31 @@ fn lengths_group() -> Result<String, String> {
             lists += 1;
         }
     }
-    for length in 0..=8 {
-        // The second interval breaks off, yet room is asked for all of them.
-        let entries = [2, 255, 2, 1, 0, 0];
-        for [room, more] in [[length, REPLAY_VALUES], [6, length]] {
-            let mut levels = Lent::new(&mut rng, room);
-            let mut values = Lent::new(&mut rng, more);
+    let needs = [known.levels.len(), 2 + known.totals.len()];
+    // The second interval breaks off, yet room is asked for all of them. What the
+    // first sends leaves 2 in each bucket.
+    let entries = [2, 255, 2, 1, 0, 0];
+    let reached: Vec<u16> = [4, 2, 2][..needs[0] / 3].to_vec();
+    let mut named: Vec<u64> = vec![0; needs[1]];
+    (named[0], named[1]) = (OVER, 2);
+    for length in 0..=needs[0] + 2 {
+        for [room, more] in [[length, needs[1]], [needs[0], length]] {
+            let mut levels = Lent::new(rng, room);
+            let mut values = Lent::new(rng, more);
             let found = numbers::replay(&job, &[], &entries, levels.list(), values.list());
-            let short = room < 6 || more < REPLAY_VALUES;
+            let short = room < needs[0] || more < needs[1];
             let what = format!("levels of {room}, values of {more}");
             same(&what, if short { 12 } else { 0 }, found)?;
-            let violated: (&[u16], &[u64]) = (&[4, 2], &[OVER, 2, 0, 0, 0, 0]);
-            let (due, valued) = if short { (&[][..], &[][..]) } else { violated };
-            levels.wrote("levels", due)?;
-            values.wrote("values of replay", valued)?;
+            levels.wrote("levels", if short { &[] } else { &reached })?;
+            values.wrote("values of replay", if short { &[] } else { &named })?;
         }
-        let mut sums = Lent::new(&mut rng, length);
+        let mut sums = Lent::new(rng, length);
         let found = numbers::report(&job, &entries, sums.list());
         same(&format!("sums of {length}"), if length < 3 { 12 } else { 0 }, found)?;
         sums.wrote("sums", if length < 3 { &[] } else { &[4, 4, 0] })?;
         lists += 3;
     }
-    Ok(format!("{lists} lists"))
+    Ok(lists)
 }
 
 /// Calls of other kinds in every place, and last calls that are cut, whatever
@@ -2201,10 +2763,10 @@ fn kinds_group() -> Result<String, String> {
                 let due = first_of(&[(!known, 2), (!tail.is_empty(), 1)]);
                 let mut made = CallLists::new(&mut rng, [4, CALLS_VALUES]);
                 let alone = made.make(&job, &calls);
-                let mut lent = PlanLists::new(&mut rng, [4, 80, 6, PLAN_VALUES]);
+                let mut lent = PlanLists::new(&mut rng, [4, 80, 6, TOTALS_A.len()]);
                 let found = lent.plan(&job, &calls);
                 let mut levels = Lent::<u16>::new(&mut rng, 6);
-                let mut values = Lent::<u64>::new(&mut rng, REPLAY_VALUES);
+                let mut values = Lent::<u64>::new(&mut rng, 2 + TOTALS_A.len());
                 let again = numbers::replay(&job, &calls, &BEST_A, levels.list(), values.list());
                 same(&format!("calls {calls:?}"), [due; 3], [alone, found, again])?;
                 if due > 0 {
@@ -2261,16 +2823,33 @@ fn check_write(
     Ok(number)
 }
 
-/// The header of nine fields.
+/// The header of nine fields or twelve.
 fn header_of(fields: &[u16]) -> Option<Header> {
-    let fields: [u16; 9] = fields.try_into().ok()?;
-    let [units, delay, decoder, bucket, drain, level, fill, rates, choices] = fields;
-    Some(Header { units, delay, decoder, bucket, drain, level, fill, rates, choices })
+    if !FIELDS.contains(&fields.len()) {
+        return None;
+    }
+    let second = fields.get(SECOND).map(|&size| upload_planner::Bucket {
+        size,
+        drain: fields[SECOND_DRAIN],
+        level: fields[START_SECOND],
+    });
+    Some(Header {
+        units: fields[UNITS],
+        delay: fields[DELAY],
+        decoder: fields[DECODER],
+        bucket: fields[BUCKET],
+        drain: fields[DRAIN],
+        level: fields[START_DECODER],
+        fill: fields[START_BUCKET],
+        rates: fields[RATES],
+        choices: fields[CHOICES],
+        second,
+    })
 }
 
 /// What the library itself writes.
 fn written(lists: &Lists) -> Result<Vec<u8>, String> {
-    let header = header_of(&lists.fields).ok_or("not nine fields")?;
+    let header = header_of(&lists.fields).ok_or("not a header")?;
     let Lists { rates, sizes, distortions, .. } = lists;
     upload_planner::written(&header, rates, sizes, distortions)
         .map_err(|refusal| format!("refused: {refusal}"))
@@ -2302,7 +2881,8 @@ fn room_for(lists: &Lists) -> usize {
         Some(header) => {
             let [units, rates, choices] =
                 [header.units, header.rates, header.choices].map(usize::from);
-            (26 + 2 * rates + units * (4 + 6 * choices)).min(200_000)
+            let fields = lists.fields.len();
+            (8 + 2 * fields + 2 * rates + units * (4 + 6 * choices)).min(200_000)
         }
         None => 100,
     }
@@ -2396,8 +2976,15 @@ fn check_changed(rng: &mut Rng, draft: &Draft) -> Result<Option<Plan>, String> {
 /// Every field, number and length at its limits and past them, each alone.
 fn write_limits_group() -> Result<String, String> {
     let mut rng = Rng(1);
-    let parts = [field_cases(), rate_cases(), coding_cases(), length_cases(), room_cases()];
-    let cases = parts.into_iter().flatten();
+    let mut cases = largest_cases();
+    for buckets in 1..=MOST_BUCKETS {
+        let a = if buckets > 1 { job_a().doubled(SECOND_A) } else { job_a() };
+        cases.extend(field_cases(&a, buckets));
+        cases.extend(rate_cases(&a, buckets));
+        cases.extend(coding_cases(&a));
+        cases.extend(length_cases(&a));
+        cases.extend(room_cases(&a));
+    }
     let mut count = 0;
     for LimitCase { lists, room, values, due, what } in cases {
         count += 1;
@@ -2425,28 +3012,30 @@ fn limit_case(lists: Lists, due: Refusal, what: String) -> LimitCase {
     LimitCase { room: room_for(&lists) + 3, lists, values: 1, due, what }
 }
 
-/// Each field of the header.
-fn field_cases() -> Vec<LimitCase> {
+/// Each field of the header, on a line of so many buckets, of which `a` is Job A.
+fn field_cases(a: &Draft, buckets: usize) -> Vec<LimitCase> {
     let mut cases = Vec::new();
-    for (field, low, high) in LIMITS {
+    for &(field, low, high) in &LIMITS[..FIELDS[buckets - 1]] {
+        let what = |value: u16| format!("{buckets} buckets, field {field} is {value}");
         for value in [low, low + 1, high - 1, high] {
-            let lists = Lists::of_draft(&sized_draft(field, value));
-            cases.push(limit_case(lists, 0, format!("field {field} is {value}")));
+            let lists = Lists::of_draft(&sized_draft(buckets, field, value));
+            cases.push(limit_case(lists, 0, what(value)));
         }
         for value in [low.wrapping_sub(1), high + 1, high + 256, 0x8000, 0xffff] {
             if value < low || value > high {
-                let draft = sized_draft(field, value.min(600)).with(field, value);
-                let lists = Lists::of_draft(&draft);
-                cases.push(limit_case(lists, 3, format!("field {field} is {value}")));
+                let draft = sized_draft(buckets, field, value.min(600)).with(field, value);
+                cases.push(limit_case(Lists::of_draft(&draft), 3, what(value)));
             }
         }
     }
-    for (size, level) in [(DECODER, START_DECODER), (BUCKET, START_BUCKET)] {
+    let sizes =
+        [(DECODER, START_DECODER, 255), (BUCKET, START_BUCKET, 255), (SECOND, START_SECOND, 63)];
+    for &(size, level, large) in &sizes[..1 + buckets] {
         for (most, start, due) in
-            [(0, 0, 0), (0, 1, 3), (7, 7, 0), (7, 8, 3), (255, 255, 0), (255, 256, 3)]
+            [(0, 0, 0), (0, 1, 3), (7, 7, 0), (7, 8, 3), (large, large, 0), (large, large + 1, 3)]
         {
-            let draft = job_a().with(size, most).with(level, start);
-            let what = format!("size {most}, starting level {start}");
+            let draft = a.with(size, most).with(level, start);
+            let what = format!("field {size} is {most}, starting level {start}");
             cases.push(limit_case(Lists::of_draft(&draft), due, what));
         }
     }
@@ -2454,7 +3043,7 @@ fn field_cases() -> Vec<LimitCase> {
 }
 
 /// Rates over their limit or not rising.
-fn rate_cases() -> Vec<LimitCase> {
+fn rate_cases(a: &Draft, buckets: usize) -> Vec<LimitCase> {
     let mut cases = Vec::new();
     let rates: [(&[u16], Refusal); 20] = [
         (&[0], 0),
@@ -2479,14 +3068,14 @@ fn rate_cases() -> Vec<LimitCase> {
         (&[4096, 4097, 4098], 4),
     ];
     for (rates, due) in rates {
-        let mut lists = Lists::of_draft(&job_a().with(RATES, rates.len() as u16));
+        let mut lists = Lists::of_draft(&a.with(RATES, rates.len() as u16));
         lists.rates = rates.to_vec();
         cases.push(limit_case(lists, due, format!("rates {rates:?}")));
     }
     for place in 0..16 {
         // As many rates as a job may have, and one of them equal to the one
         // before it, below it, or over the limit.
-        let mut lists = Lists::of_draft(&sized_draft(RATES, 16));
+        let mut lists = Lists::of_draft(&sized_draft(buckets, RATES, 16));
         lists.rates = (0..16).map(|rate| 4095 - 3 * (15 - rate)).collect();
         let before = place > 0;
         for (rate, wrong) in [
@@ -2505,10 +3094,11 @@ fn rate_cases() -> Vec<LimitCase> {
 }
 
 /// Grains and distortions, in every place.
-fn coding_cases() -> Vec<LimitCase> {
+fn coding_cases(a: &Draft) -> Vec<LimitCase> {
     let mut cases = Vec::new();
-    let wide = Lists::of_draft(&Draft::new([0; 6], &[0], &vec![vec![(1, 2); 31]; 3]));
-    for lists in [Lists::of_draft(&job_a()), wide] {
+    let mut wide = Draft::new([0; 6], &[0], &vec![vec![(1, 2); 31]; 3]);
+    wide.header.extend(&a.header[FIELDS[0]..]);
+    for lists in [Lists::of_draft(a), Lists::of_draft(&wide)] {
         for at in 0..lists.sizes.len() {
             for (size, due) in [(0, 0), (255, 0), (256, 0), (4095, 0), (4096, 5), (0xffff, 5)] {
                 let mut lists = lists.clone();
@@ -2538,15 +3128,17 @@ fn coding_cases() -> Vec<LimitCase> {
 }
 
 /// Lists that are read, of all lengths.
-fn length_cases() -> Vec<LimitCase> {
+fn length_cases(a: &Draft) -> Vec<LimitCase> {
     let mut cases = Vec::new();
-    let good = Lists::of_draft(&job_a());
+    let good = Lists::of_draft(a);
     // Some wrong lengths are the right one in eight or sixteen bits.
     let lengths = |due: usize| [0, 1, due - 1, due, due + 1, 2 * due, due + 256, due + 65_536];
-    for length in lengths(9) {
+    // With three more fields of 1, or without its last three, a header is of the
+    // other kind.
+    for length in (0..=26).chain([256, 265, 268, 65_545, 65_548]) {
         let mut lists = good.clone();
         lists.fields.resize(length, 1);
-        let due = if length == 9 { 0 } else { 3 };
+        let due = if length == 9 || length == 12 { 0 } else { 3 };
         cases.push(limit_case(lists, due, format!("{length} fields")));
     }
     for which in 1..8 {
@@ -2581,38 +3173,47 @@ fn length_cases() -> Vec<LimitCase> {
     for (field, value) in
         [(RATES, 2), (RATES, 4), (UNITS, 1), (UNITS, 3), (CHOICES, 1), (CHOICES, 3)]
     {
-        let lists = Lists::of_draft(&job_a().with(field, value));
+        let lists = Lists::of_draft(&a.with(field, value));
         cases.push(limit_case(lists, 16, format!("field {field} is {value}, the lists as before")));
     }
     // Two units of two choices, one of four, or four of one.
     for (units, choices) in [(2, 2), (1, 4), (4, 1)] {
-        let lists = Lists::of_draft(&job_a().with(UNITS, units).with(CHOICES, choices));
+        let lists = Lists::of_draft(&a.with(UNITS, units).with(CHOICES, choices));
         cases.push(limit_case(lists, 0, format!("{units} units of {choices} choices")));
     }
     cases
 }
 
 /// Lists that are filled, of all lengths.
-fn room_cases() -> Vec<LimitCase> {
+fn room_cases(a: &Draft) -> Vec<LimitCase> {
     let mut cases = Vec::new();
-    let good = Lists::of_draft(&job_a());
-    for room in 0..=67 {
-        let due = if room < 64 { 12 } else { 0 };
+    let good = Lists::of_draft(a);
+    let taken = if good.fields.len() == 9 { 64 } else { 70 };
+    for room in 0..=taken + 3 {
+        let due = if room < taken { 12 } else { 0 };
         let lists = good.clone();
         cases.push(LimitCase { lists, room, values: 1, due, what: format!("{room} bytes") });
     }
     for values in [0, 1, 2, 9] {
         let due = if values < 1 { 12 } else { 0 };
         let lists = good.clone();
-        cases.push(LimitCase { lists, room: 64, values, due, what: format!("{values} values") });
+        cases.push(LimitCase { lists, room: taken, values, due, what: format!("{values} values") });
     }
-    // The smallest job and the largest, whose numbers are as large as they may
-    // be, in lists that are just enough and one byte short.
+    cases
+}
+
+/// The smallest job and the largest of either kind, whose numbers are as large as
+/// they may be, in lists that are just enough and one byte short.
+fn largest_cases() -> Vec<LimitCase> {
+    let mut cases = Vec::new();
     let smallest = Draft::new([0; 6], &[0], &[vec![(0, 0)]]);
-    let rates: Vec<u16> = (4080..=4095).collect();
-    let units = vec![vec![(4095, 1_000_000); 31]; 512];
-    let largest = Draft::new([64, 255, 255, 4095, 255, 255], &rates, &units);
-    for (draft, taken) in [(smallest, 38), (largest, 97_338)] {
+    let largest = largest_draft();
+    for (draft, taken) in [
+        (smallest.doubled([0; 3]), 44),
+        (largest.doubled([63, 4095, 63]), 97_344),
+        (smallest, 38),
+        (largest, 97_338),
+    ] {
         for (room, due) in [(taken - 1, 12), (taken, 0), (taken + 1, 0)] {
             let lists = Lists::of_draft(&draft);
             let what = format!("{room} bytes for {taken}");
@@ -2622,20 +3223,28 @@ fn room_cases() -> Vec<LimitCase> {
     cases
 }
 
+/// The largest job on a line of one bucket.
+fn largest_draft() -> Draft {
+    let rates: Vec<u16> = (4080..=4095).collect();
+    let units = vec![vec![(4095, 1_000_000); 31]; 512];
+    Draft::new([64, 255, 255, 4095, 255, 255], &rates, &units)
+}
+
 // ---------------------------------------------------------------------------
 // Refusals of writing in their order.
 // ---------------------------------------------------------------------------
 
 /// In how many ways `check_write_order` has a wrong header, lengths, rates and
 /// codings, and a list too short for the job.
-const WRITE_DEFECTS: [usize; 5] = [6, 10, 4, 4, 3];
+const WRITE_DEFECTS: [usize; 5] = [8, 10, 4, 4, 3];
 
 /// Every set of defects at once, each in each of its ways.
 fn write_order_group() -> Result<String, String> {
     let mut rng = Rng(1);
     let ways: usize = WRITE_DEFECTS.iter().product();
+    let lines = [job_a(), job_a().doubled(SECOND_A)];
     let mut sets = 0;
-    for bits in 0..1 << 6 {
+    for (a, bits) in lines.iter().flat_map(|a| (0..1 << 6).map(move |bits| (a, bits))) {
         for number in (0..ways).step_by(if small() { 97 } else { 1 }) {
             let mut rest = number;
             let way = WRITE_DEFECTS.map(|count| {
@@ -2644,17 +3253,25 @@ fn write_order_group() -> Result<String, String> {
                 way
             });
             let has = |bit: usize| bits >> bit & 1 == 1;
-            check_write_order(&mut rng, has, way)
-                .map_err(|trouble| format!("defects {bits:06b} in ways {way:?}: {trouble}"))?;
+            check_write_order(&mut rng, a, has, way).map_err(|trouble| {
+                let fields = a.header.len();
+                format!("{fields} fields, defects {bits:06b} in ways {way:?}: {trouble}")
+            })?;
             sets += 1;
         }
     }
     Ok(format!("{sets} sets of defects"))
 }
 
-fn check_write_order(rng: &mut Rng, has: impl Fn(usize) -> bool, way: [usize; 5]) -> Checked {
+fn check_write_order(
+    rng: &mut Rng,
+    a: &Draft,
+    has: impl Fn(usize) -> bool,
+    way: [usize; 5],
+) -> Checked {
     let [values, header, lengths, rates, codings, short] = std::array::from_fn(has);
-    let mut lists = Lists::of_draft(&job_a());
+    let mut lists = Lists::of_draft(a);
+    let double = lists.fields.len() == 12;
     // The wrong number first, then the wrong length: a length may take the last
     // number off a list, and no other.
     if codings {
@@ -2697,10 +3314,15 @@ fn check_write_order(rng: &mut Rng, has: impl Fn(usize) -> bool, way: [usize; 5]
             2 => lists.fields[CHOICES] = 32,
             3 => lists.fields[START_BUCKET] = 4,
             4 => drop(lists.fields.pop()),
-            _ => lists.fields.push(1),
+            5 => lists.fields.push(1),
+            6 if double => lists.fields[SECOND] = 64,
+            7 if double => lists.fields[START_SECOND] = 3,
+            6 => lists.fields.extend([1, 1]),
+            _ => lists.fields.extend([1, 1, 2]),
         }
     }
-    let room = if short { [63, 22, 0][way[4]] } else { 64 };
+    let taken = if double { 70 } else { 64 };
+    let room = if short { [taken - 1, 22, 0][way[4]] } else { taken };
     let due = first_of(&[
         (header, 3),
         (lengths, 16),
@@ -2720,11 +3342,26 @@ fn check_write_order(rng: &mut Rng, has: impl Fn(usize) -> bool, way: [usize; 5]
 /// Jobs of all sizes: their bytes, which open, and which are written again from
 /// what a reader finds in them.
 fn written_group(seed: u64, asks: bool) -> Result<String, String> {
+    written_jobs(seed, asks, random_mixed_job)
+}
+
+fn written_double_group(seed: u64, asks: bool) -> Result<String, String> {
+    written_jobs(seed, asks, |rng, index| {
+        let draft = random_mixed_job(rng, index);
+        random_doubled(rng, &draft, 63, 4095)
+    })
+}
+
+fn written_jobs(
+    seed: u64,
+    asks: bool,
+    make: impl Fn(&mut Rng, usize) -> Draft,
+) -> Result<String, String> {
     let mut rng = Rng(seed);
     let (mut bytes, mut long, mut wide) = (0, 0, 0);
     let jobs = scaled(4000);
     for index in 1..=jobs {
-        let mut draft = random_mixed_job(&mut rng, index);
+        let mut draft = make(&mut rng, index);
         draft.commands.clear();
         let taken = check_written(&mut rng, &draft).map_err(|trouble| {
             format!("seed {seed}, job {index}: {trouble}\n  {}", Lists::of_draft(&draft).show())
@@ -2778,11 +3415,22 @@ fn check_written(rng: &mut Rng, draft: &Draft) -> Result<usize, String> {
 // ---------------------------------------------------------------------------
 
 fn harmed_lists_group(seed: u64, asks: bool) -> Result<String, String> {
+    harmed_lists(seed, asks, 1)
+}
+
+fn harmed_double_lists_group(seed: u64, asks: bool) -> Result<String, String> {
+    harmed_lists(seed, asks, 2)
+}
+
+fn harmed_lists(seed: u64, asks: bool, buckets: usize) -> Result<String, String> {
     let mut rng = Rng(seed);
     let mut tally: BTreeMap<Refusal, usize> = BTreeMap::new();
     let inputs = scaled(40_000);
     for index in 1..=inputs {
-        let draft = random_job(&mut rng, if index % 5 == 0 { &WIDE } else { &TINY });
+        let mut draft = random_job(&mut rng, if index % 5 == 0 { &WIDE } else { &TINY });
+        if buckets > 1 {
+            draft = random_doubled(&mut rng, &draft, 63, 4095);
+        }
         let mut lists = Lists::of_draft(&draft);
         for _ in 0..rng.pick(&[0, 1, 1, 1, 1, 2, 3]) {
             harm_lists(&mut rng, &mut lists);
@@ -2820,11 +3468,14 @@ fn harmed_lists_group(seed: u64, asks: bool) -> Result<String, String> {
 
 /// Changes one number or one length, mostly near a limit.
 fn harm_lists(rng: &mut Rng, lists: &mut Lists) {
-    let limits: [u16; 16] =
-        [0, 1, 2, 16, 17, 31, 32, 64, 65, 255, 256, 512, 513, 4095, 4096, 0xffff];
+    let limits: [u16; 17] =
+        [0, 1, 2, 16, 17, 31, 32, 63, 64, 65, 255, 256, 512, 513, 4095, 4096, 0xffff];
     match rng.from(0, 9) {
         0 => change_one(rng, &mut lists.fields, |rng, _| rng.pick(&limits)),
         1 => change_one(rng, &mut lists.fields, near),
+        // The fields of the other kind, or one more or fewer.
+        2 if rng.one_in(8) => lists.fields.truncate(FIELDS[0]),
+        2 if rng.one_in(8) => lists.fields.extend([2, 9, 1]),
         2 => change_length(rng, &mut lists.fields),
         3 if lists.fields.len() > CHOICES => {
             // Other units and choices may have the same product.
@@ -2877,7 +3528,7 @@ fn change_length<T: Copy>(rng: &mut Rng, list: &mut Vec<T>) {
 
 /// A job with a plan: units of fine and coarse codings around what the line
 /// carries in an interval.
-fn large_job(rng: &mut Rng, size: &Size) -> Draft {
+fn large_job(rng: &mut Rng, size: &Size, second: Option<[u16; 3]>) -> Draft {
     let drain = 20;
     let rates: Vec<u16> = (0..size.rates).map(|i| (i * 40 / size.rates.max(2)) as u16).collect();
     let mut unit = || {
@@ -2893,6 +3544,9 @@ fn large_job(rng: &mut Rng, size: &Size) -> Draft {
     let starts = [size.decoder / 3, size.bucket / 2];
     let levels = [size.delay, size.decoder, size.bucket, drain, starts[0], starts[1]];
     let mut draft = Draft::new(levels.map(|level| level as u16), &rates, &units);
+    if let Some(second) = second {
+        draft = draft.doubled(second);
+    }
     for _ in 0..size.units / 16 {
         let unit = rng.from(1, size.units);
         // Of the coarsest, so that a small decoder can hold them.
@@ -2904,35 +3558,38 @@ fn large_job(rng: &mut Rng, size: &Size) -> Draft {
 
 /// Parts of the largest work, cut down in one way or another.
 fn large_group() -> Result<String, String> {
+    let few = Size { units: 48, delay: 8, decoder: 63, bucket: 15, rates: 8, choices: 8 };
     let sizes = [
-        ("few rates and choices", Size { rates: 4, choices: 4, ..FULL }),
-        ("few units", Size { units: 32, delay: 4, ..FULL }),
-        ("a small decoder", Size { decoder: 15, ..FULL }),
-        ("small buffers", Size { decoder: 127, bucket: 63, ..FULL }),
+        ("few rates and choices", Size { rates: 4, choices: 4, ..FULL }, None),
+        ("few units", Size { units: 32, delay: 4, ..FULL }, None),
+        ("a small decoder", Size { decoder: 15, ..FULL }, None),
+        ("small buffers", Size { decoder: 127, bucket: 63, ..FULL }, None),
+        ("two buckets", few, Some([63, 18, 20])),
+        ("two large buckets", Size { units: 12, bucket: 255, ..few }, Some([63, 21, 63])),
+        ("many units, two buckets", Size { decoder: 31, bucket: 7, ..FULL }, Some([7, 20, 0])),
     ];
     let mut rng = Rng(5);
     let mut words = 0;
-    for (name, size) in &sizes {
+    for (name, size, second) in &sizes {
         // Such a job is too long to print; its name tells.
-        let checked = check_large(&mut rng, size);
+        let checked = check_large(&mut rng, size, *second);
         words += checked.map_err(|trouble| format!("{name}: {trouble}"))?;
     }
     Ok(format!("{} jobs, {words} words", sizes.len()))
 }
 
 fn full_group() -> Result<String, String> {
-    let words = check_large(&mut Rng(6), &FULL)?;
+    let words = check_large(&mut Rng(6), &FULL, None)?;
     Ok(format!("1 job, {words} words"))
 }
 
 /// Gives the number of words compared.
-fn check_large(rng: &mut Rng, size: &Size) -> Result<usize, String> {
-    let draft = large_job(rng, size);
+fn check_large(rng: &mut Rng, size: &Size, second: Option<[u16; 3]>) -> Result<usize, String> {
+    let draft = large_job(rng, size, second);
     let asked = Asked::new(rng, &draft);
     let table = fast_table(&asked.job, &asked.pins);
     let plan = read_off(&asked.job, &asked.pins, &table).ok_or("no plan".to_string())?;
-    let start = asked.job.start_decoder * (asked.job.bucket_size + 1) + asked.job.start_bucket;
-    let word = table[start as usize];
+    let word = table[asked.job.word(0, asked.job.start_decoder, &asked.job.start_levels())];
     let distortion = totals_of(&asked, &plan).map(|totals| totals[0]);
     same("the table's word of the start", Some(word as u64), distortion)?;
     check_open(rng, &asked)?;
@@ -2965,6 +3622,7 @@ fn run_all(new_seed: u64, with_full: bool, examples: Option<&Path>) -> bool {
         print_group("decoder peaks", peaks_group()),
         print_group("every set of violations", violations_group()),
         print_group("unused drain", unused_group()),
+        print_group("a second bucket", second_group()),
         print_group("report by hand", report_group()),
         print_group("every delay in the report", delays_group()),
         print_group("long delays in the report", long_delays_group()),
@@ -2994,6 +3652,14 @@ fn run_all(new_seed: u64, with_full: bool, examples: Option<&Path>) -> bool {
     seeded("calls", &[1, 2], calls_group);
     seeded("long sessions", &[1, 2], sessions_group);
     seeded("larger jobs", &[4], larger_group);
+    seeded("jobs of two buckets written", &[1, 2], written_double_group);
+    seeded("harmed lists of two buckets", &[1], harmed_double_lists_group);
+    seeded("harmed bytes of two buckets", &[1], harmed_double_group);
+    seeded("replay and report of two buckets", &[1, 2], replay_double_group);
+    seeded("tiny jobs of two buckets", &[1, 2, 3], tiny_double_group);
+    seeded("two-bucket jobs", &[1, 2], double_group);
+    seeded("lines of two buckets", &[1, 2], lines_group);
+    seeded("larger jobs of two buckets", &[4], larger_double_group);
     if !small() {
         results.push(print_group("large jobs", large_group()));
     }

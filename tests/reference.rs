@@ -7,6 +7,7 @@
 //! job's bytes or the first refusal due. Each program uses a part of what stands
 //! here.
 
+use std::collections::btree_map::Entry as MapEntry;
 use std::collections::BTreeMap;
 use std::path::{Path, PathBuf};
 use std::time::{SystemTime, UNIX_EPOCH};
@@ -17,6 +18,8 @@ pub const WORKSPACE_WORDS: usize = 16_384;
 pub const NO_CHOICE: usize = 255;
 /// Jobs with more plans than this are left to the dynamic program.
 pub const ENUMERATION_LIMIT: u64 = 10_000;
+/// How many buckets a line may have.
+pub const MOST_BUCKETS: usize = 2;
 
 // ---------------------------------------------------------------------------
 // The reader: bytes to a job and the pins held, or the first refusal due.
@@ -24,20 +27,30 @@ pub const ENUMERATION_LIMIT: u64 = 10_000;
 
 pub type Refusal = u8;
 
-#[derive(Debug)]
+#[derive(Clone, Debug)]
 pub struct Choice {
     pub grains: i64,
     pub distortion: i64,
 }
 
-#[derive(Debug)]
+#[derive(Clone, Copy, Debug)]
+pub struct Bucket {
+    pub size: i64,
+    pub drain: i64,
+    pub start: i64,
+}
+
+/// A level of each bucket, or another number of each, in their order. Where a line
+/// has fewer buckets, the places past them stay at 0.
+pub type Levels = [i64; MOST_BUCKETS];
+
+#[derive(Clone, Debug)]
 pub struct Job {
     pub delay: usize,
     pub decoder_size: i64,
-    pub bucket_size: i64,
-    pub drain: i64,
     pub start_decoder: i64,
-    pub start_bucket: i64,
+    /// One, or two where the header says so. Each takes all that is sent.
+    pub buckets: Vec<Bucket>,
     pub rates: Vec<i64>,
     pub units: Vec<Vec<Choice>>,
 }
@@ -51,8 +64,52 @@ impl Job {
         self.units[0].len()
     }
 
+    /// How many sets of levels the buckets can have.
+    pub fn width(&self) -> usize {
+        self.buckets.iter().map(|bucket| bucket.size as usize + 1).product()
+    }
+
     pub fn words(&self) -> usize {
-        (self.intervals() + 1) * (self.decoder_size as usize + 1) * (self.bucket_size as usize + 1)
+        (self.intervals() + 1) * (self.decoder_size as usize + 1) * self.width()
+    }
+
+    /// The word of the levels after interval t, the last bucket's innermost.
+    pub fn word(&self, t: usize, decoder: i64, levels: &Levels) -> usize {
+        let row = t as i64 * (self.decoder_size + 1) + decoder;
+        let inner = |word, (bucket, level): (&Bucket, &i64)| word * (bucket.size + 1) + level;
+        self.buckets.iter().zip(levels).fold(row, inner) as usize
+    }
+
+    pub fn start_levels(&self) -> Levels {
+        let mut levels = [0; MOST_BUCKETS];
+        for (level, bucket) in levels.iter_mut().zip(&self.buckets) {
+            *level = bucket.start;
+        }
+        levels
+    }
+
+    /// Every set of levels of the buckets, in the order of words.
+    pub fn all_levels(&self) -> Vec<Levels> {
+        let mut sets = vec![[0; MOST_BUCKETS]];
+        for (at, bucket) in self.buckets.iter().enumerate() {
+            let filled = |set: &Levels, level| {
+                let mut set = *set;
+                set[at] = level;
+                set
+            };
+            let each = |set: &Levels| -> Vec<Levels> {
+                (0..=bucket.size).map(|level| filled(set, level)).collect()
+            };
+            sets = sets.iter().flat_map(each).collect();
+        }
+        sets
+    }
+
+    /// The job with another bucket in the place of one that it has.
+    pub fn with_bucket(&self, at: usize, change: impl Fn(&mut Bucket)) -> Job {
+        let mut job = self.clone();
+        job.buckets.get_mut(at).map(change);
+        job
     }
 
     /// How many plans have T entries in range, or `None` beyond 64 bits.
@@ -104,16 +161,54 @@ pub fn u32_at(bytes: &[u8], at: usize) -> u32 {
     u32::from_le_bytes([bytes[at], bytes[at + 1], bytes[at + 2], bytes[at + 3]])
 }
 
-pub fn read_header(body: &[u8]) -> Result<[i64; 9], Refusal> {
-    let f: [i64; 9] = std::array::from_fn(|i| u16_at(body, 2 * i) as i64);
-    let ranges =
-        [(1, 512), (0, 64), (0, 255), (0, 255), (0, 4095), (0, f[2]), (0, f[3]), (1, 16), (1, 31)];
+/// How many fields a header has, with one bucket and with two.
+pub const FIELDS: [usize; MOST_BUCKETS] = [9, 12];
+
+/// The length due for a kind where a header is due.
+pub fn header_length(kind: u16) -> Option<usize> {
+    match kind {
+        1 => Some(20),
+        8 => Some(26),
+        _ => None,
+    }
+}
+
+/// The fields of a header of either kind.
+pub fn read_header(body: &[u8]) -> Result<Vec<i64>, Refusal> {
+    let f: Vec<i64> = body.chunks(2).map(|two| u16_at(two, 0) as i64).collect();
+    let mut ranges = vec![
+        (1, 512),
+        (0, 64),
+        (0, 255),
+        (0, 255),
+        (0, 4095),
+        (0, f[DECODER]),
+        (0, f[BUCKET]),
+        (1, 16),
+        (1, 31),
+    ];
+    if let Some(&second) = f.get(SECOND) {
+        ranges.extend([(0, 63), (0, 4095), (0, second)]);
+    }
     for (value, (low, high)) in f.iter().zip(ranges) {
         if *value < low || *value > high {
             return Err(3);
         }
     }
     Ok(f)
+}
+
+/// Where the header has size, drain and starting level of each bucket.
+pub const BUCKET_FIELDS: [[usize; 3]; MOST_BUCKETS] =
+    [[BUCKET, DRAIN, START_BUCKET], [SECOND, SECOND_DRAIN, START_SECOND]];
+
+/// The buckets of a header of either kind.
+pub fn buckets_of(fields: &[i64]) -> Vec<Bucket> {
+    let bucket = |places: &[usize; 3]| {
+        let [size, drain, start] = places.map(|place| fields.get(place).copied());
+        Some(Bucket { size: size?, drain: drain?, start: start? })
+    };
+    BUCKET_FIELDS.iter().filter_map(bucket).collect()
 }
 
 pub fn read_rates(body: &[u8]) -> Result<Vec<i64>, Refusal> {
@@ -136,19 +231,18 @@ pub fn read_unit(body: &[u8]) -> Result<Vec<Choice>, Refusal> {
 }
 
 pub fn read_job(reader: &mut Reader) -> Result<Job, Refusal> {
-    let f = read_header(reader.record_of(1, 20)?)?;
-    let rates = read_rates(reader.record_of(2, 2 + 2 * f[7] as usize)?)?;
+    let (_, header) = reader.record(header_length)?;
+    let f = read_header(header)?;
+    let rates = read_rates(reader.record_of(2, 2 + 2 * f[RATES] as usize)?)?;
     let mut units = Vec::new();
-    for _ in 0..f[0] {
-        units.push(read_unit(reader.record_of(3, 2 + 6 * f[8] as usize)?)?);
+    for _ in 0..f[UNITS] {
+        units.push(read_unit(reader.record_of(3, 2 + 6 * f[CHOICES] as usize)?)?);
     }
     Ok(Job {
-        delay: f[1] as usize,
-        decoder_size: f[2],
-        bucket_size: f[3],
-        drain: f[4],
-        start_decoder: f[5],
-        start_bucket: f[6],
+        delay: f[DELAY] as usize,
+        decoder_size: f[DECODER],
+        start_decoder: f[START_DECODER],
+        buckets: buckets_of(&f),
         rates,
         units,
     })
@@ -246,16 +340,56 @@ pub fn by_peak(job: &Job, before: i64, sent: i64, taken: i64) -> Option<i64> {
 }
 
 // ---------------------------------------------------------------------------
-// The bucket's step.
+// The buckets' step.
 // ---------------------------------------------------------------------------
 
-/// The bucket's level after an interval and what this leaves unused of the drain,
+/// A bucket's level after an interval and what this leaves unused of the drain,
 /// from the level before and what is sent. Its size is left to the caller.
-pub fn bucket_step(job: &Job, before: i64, sent: i64) -> (i64, i64) {
-    let level = (before + sent - job.drain).max(0);
-    let unused = (job.drain - before - sent).max(0);
+pub fn bucket_step(bucket: &Bucket, before: i64, sent: i64) -> (i64, i64) {
+    let level = (before + sent - bucket.drain).max(0);
+    let unused = (bucket.drain - before - sent).max(0);
     (level, unused)
 }
+
+/// What the buckets make of an interval: from their levels before and what is sent
+/// to their levels after and what goes by unused. Their sizes are left to the
+/// caller.
+pub type Fill = fn(&Job, &Levels, i64) -> (Levels, Levels);
+
+/// The rule. Each takes all that is sent.
+pub fn by_each(job: &Job, before: &Levels, sent: i64) -> (Levels, Levels) {
+    let (mut levels, mut unused) = ([0; MOST_BUCKETS], [0; MOST_BUCKETS]);
+    for (at, bucket) in job.buckets.iter().enumerate() {
+        (levels[at], unused[at]) = bucket_step(bucket, before[at], sent);
+    }
+    (levels, unused)
+}
+
+/// Whether no bucket is over.
+pub fn hold(job: &Job, levels: &Levels) -> bool {
+    job.buckets.iter().zip(levels).all(|(bucket, level)| *level <= bucket.size)
+}
+
+/// The levels after an interval, or `None` where a bucket is over.
+pub fn filled(job: &Job, before: &Levels, sent: i64) -> Option<Levels> {
+    let (levels, _) = by_each(job, before, sent);
+    hold(job, &levels).then_some(levels)
+}
+
+// ---------------------------------------------------------------------------
+// The rules of a search.
+// ---------------------------------------------------------------------------
+
+/// What a search goes by.
+#[derive(Clone, Copy)]
+pub struct Rules {
+    pub decoder: Decoder,
+    pub fill: Fill,
+    /// Two paths may stand for each other where these are the same of their levels.
+    pub meet: fn(&Levels) -> Levels,
+}
+
+pub const RULES: Rules = Rules { decoder: by_peak, fill: by_each, meet: |levels| *levels };
 
 // ---------------------------------------------------------------------------
 // The best plan: every plan replayed, and a dynamic program.
@@ -266,31 +400,38 @@ pub fn bucket_step(job: &Job, before: i64, sent: i64) -> (i64, i64) {
 pub type Entry = (usize, usize);
 pub type Plan = Vec<Entry>;
 
-#[derive(Clone, Copy, Default)]
+#[derive(Clone, Debug, Default, PartialEq)]
 pub struct Totals {
     pub distortion: i64,
     pub source: i64,
     pub channel: i64,
-    pub unused: i64,
+    /// A number for each bucket.
+    pub unused: Vec<i64>,
 }
 
 impl Totals {
     /// In the order in which they are answered and printed.
-    pub fn numbers(&self) -> [i64; 4] {
-        [self.distortion, self.source, self.channel, self.unused]
+    pub fn numbers(&self) -> Vec<i64> {
+        [&[self.distortion, self.source, self.channel], &self.unused[..]].concat()
     }
 }
 
-/// Replays a plan; `None` at a violation. `see` is told both levels after each
-/// interval that holds.
-pub fn replay(
+/// Replays a plan; `None` at a violation. `see` is told the levels after each
+/// interval that holds: the decoder's, and those of the buckets.
+pub fn replay(job: &Job, pins: &Pins, plan: &Plan, see: impl FnMut(i64, &[i64])) -> Option<Totals> {
+    replay_by(&RULES, job, pins, plan, see)
+}
+
+pub fn replay_by(
+    rules: &Rules,
     job: &Job,
     pins: &Pins,
     plan: &Plan,
-    mut see: impl FnMut(i64, i64),
+    mut see: impl FnMut(i64, &[i64]),
 ) -> Option<Totals> {
-    let (mut decoder, mut bucket) = (job.start_decoder, job.start_bucket);
-    let mut totals = Totals::default();
+    let count = job.buckets.len();
+    let (mut decoder, mut levels) = (job.start_decoder, job.start_levels());
+    let mut totals = Totals { unused: vec![0; count], ..Totals::default() };
     for t in 1..=job.intervals() {
         let (rate, choice) = plan[t - 1];
         let sent = job.rates[rate];
@@ -303,16 +444,16 @@ pub fn replay(
             taken = job.units[unit - 1][choice].grains;
             totals.distortion += job.units[unit - 1][choice].distortion;
         }
-        decoder = by_peak(job, decoder, sent, taken)?;
-        let (filled, unused) = bucket_step(job, bucket, sent);
-        if filled > job.bucket_size {
+        decoder = (rules.decoder)(job, decoder, sent, taken)?;
+        let (after, unused) = (rules.fill)(job, &levels, sent);
+        if !hold(job, &after) {
             return None;
         }
-        bucket = filled;
+        levels = after;
         totals.source += taken;
         totals.channel += sent;
-        totals.unused += unused;
-        see(decoder, bucket);
+        totals.unused.iter_mut().zip(unused).for_each(|(sum, grains)| *sum += grains);
+        see(decoder, &levels[..count]);
     }
     Some(totals)
 }
@@ -366,42 +507,46 @@ pub fn enumerate(job: &Job, pins: &Pins) -> Enumerated {
     }
 }
 
+/// A path: where it has come to, at what distortion and by which entries.
 pub struct Branch {
+    pub decoder: i64,
+    pub levels: Levels,
     pub distortion: i64,
     pub entries: Plan,
 }
 
 pub fn dynamic(job: &Job, pins: &Pins) -> Option<Plan> {
-    dynamic_by(by_peak, job, pins)
+    dynamic_by(&RULES, job, pins)
 }
 
-/// Carries the best path to each pair of levels forward, interval by interval.
-/// Paths that meet in both levels have the same continuations, so the better
+/// Carries the best path to each set of levels forward, interval by interval.
+/// Paths that meet in all levels have the same continuations, so the better
 /// of the two (then the earlier in order) may stand for both.
-pub fn dynamic_by(decoder_rule: Decoder, job: &Job, pins: &Pins) -> Option<Plan> {
-    let start = Branch { distortion: 0, entries: Vec::new() };
-    let mut layer = BTreeMap::from([((job.start_decoder, job.start_bucket), start)]);
+pub fn dynamic_by(rules: &Rules, job: &Job, pins: &Pins) -> Option<Plan> {
+    let (decoder, levels) = (job.start_decoder, job.start_levels());
+    let mut layer = vec![Branch { decoder, levels, distortion: 0, entries: Vec::new() }];
     for t in 1..=job.intervals() {
         let options = options(job, pins, t);
-        let mut next: BTreeMap<(i64, i64), Branch> = BTreeMap::new();
-        for ((decoder, bucket), branch) in &layer {
+        let mut next: BTreeMap<(i64, Levels), Branch> = BTreeMap::new();
+        for branch in &layer {
             for (rate, sent) in job.rates.iter().enumerate() {
-                let (filled, _) = bucket_step(job, *bucket, *sent);
-                if filled > job.bucket_size {
+                let (levels, _) = (rules.fill)(job, &branch.levels, *sent);
+                if !hold(job, &levels) {
                     continue;
                 }
                 for &(choice, grains, distortion) in &options {
-                    if let Some(level) = decoder_rule(job, *decoder, *sent, grains) {
-                        let total = branch.distortion + distortion;
-                        offer(&mut next, (level, filled), branch, total, (rate, choice));
-                    }
+                    let decoder = (rules.decoder)(job, branch.decoder, *sent, grains);
+                    let Some(decoder) = decoder else { continue };
+                    let place = next.entry((decoder, (rules.meet)(&levels)));
+                    let distortion = branch.distortion + distortion;
+                    offer(place, branch, decoder, levels, distortion, (rate, choice));
                 }
             }
         }
-        layer = next;
+        layer = next.into_values().collect();
     }
     let best = layer
-        .into_values()
+        .into_iter()
         .min_by(|a, b| (a.distortion, &a.entries).cmp(&(b.distortion, &b.entries)))?;
     Some(best.entries)
 }
@@ -417,15 +562,17 @@ pub fn options(job: &Job, pins: &Pins, t: usize) -> Vec<(usize, i64, i64)> {
     held.map(|(index, choice)| (index, choice.grains, choice.distortion)).collect()
 }
 
-/// Keeps `branch` extended by `entry` at `state` if it is the better one there.
+/// Keeps `branch` extended by `entry` in a place if it is the better one there.
 pub fn offer(
-    next: &mut BTreeMap<(i64, i64), Branch>,
-    state: (i64, i64),
+    place: MapEntry<(i64, Levels), Branch>,
     branch: &Branch,
+    decoder: i64,
+    levels: Levels,
     distortion: i64,
     entry: Entry,
 ) {
-    if let Some(held) = next.get(&state) {
+    if let MapEntry::Occupied(held) = &place {
+        let held = held.get();
         let order = branch.entries.iter().chain([&entry]).cmp(held.entries.iter());
         if distortion.cmp(&held.distortion).then(order).is_ge() {
             return;
@@ -433,7 +580,11 @@ pub fn offer(
     }
     let mut entries = branch.entries.clone();
     entries.push(entry);
-    next.insert(state, Branch { distortion, entries });
+    let better = Branch { decoder, levels, distortion, entries };
+    match place {
+        MapEntry::Occupied(mut held) => drop(held.insert(better)),
+        MapEntry::Vacant(free) => drop(free.insert(better)),
+    }
 }
 
 pub fn best_plan(job: &Job, pins: &Pins) -> Option<Plan> {
@@ -459,7 +610,8 @@ pub fn decoder_mistakes(job: &Job, pins: &Pins, plan: Option<&Plan>) -> Vec<(&'s
         ("the size asked of the level alone", by_level),
         ("the peak cut down to the size", by_cut),
     ];
-    rules.map(|(name, rule)| (name, dynamic_by(rule, job, pins).as_ref() != plan)).to_vec()
+    let told = |decoder| dynamic_by(&Rules { decoder, ..RULES }, job, pins).as_ref() != plan;
+    rules.map(|(name, rule)| (name, told(rule))).to_vec()
 }
 
 fn by_level(job: &Job, before: i64, sent: i64, taken: i64) -> Option<i64> {
@@ -472,18 +624,19 @@ fn by_cut(job: &Job, before: i64, sent: i64, taken: i64) -> Option<i64> {
     (level >= 0).then_some(level)
 }
 
-/// The bucket's: the best plan has another sum of unused drain.
+/// The first bucket's: the best plan has another sum of unused drain.
 pub fn unused_mistakes(job: &Job, pins: &Pins, plan: Option<&Plan>) -> Vec<(&'static str, bool)> {
     // Of each interval the level before, what is sent, and the level after.
     let mut steps = Vec::new();
-    let mut before = job.start_bucket;
+    let bucket = job.buckets[0];
+    let mut before = bucket.start;
     let totals = plan.and_then(|plan| {
         replay(job, pins, plan, |_, after| {
-            steps.push((before, job.rates[plan[steps.len()].0], after));
-            before = after;
+            steps.push((before, job.rates[plan[steps.len()].0], after[0]));
+            before = after[0];
         })
     });
-    let unused = |before: i64, sent: i64| bucket_step(job, before, sent).1;
+    let unused = |before: i64, sent: i64| bucket_step(&bucket, before, sent).1;
     let due = || steps.iter().map(|&(before, sent, _)| unused(before, sent));
     let but_last = steps.len().saturating_sub(1);
     let sums: [(&str, i64); 6] = [
@@ -494,34 +647,109 @@ pub fn unused_mistakes(job: &Job, pins: &Pins, plan: Option<&Plan>) -> Vec<(&'st
         ("the level left out", steps.iter().map(|step| unused(0, step.1)).sum()),
         ("the level after the interval", steps.iter().map(|step| unused(step.2, step.1)).sum()),
     ];
-    sums.map(|(name, sum)| (name, totals.is_some_and(|totals| totals.unused != sum))).to_vec()
+    let told = |sum| totals.as_ref().is_some_and(|totals| totals.unused[0] != sum);
+    sums.map(|(name, sum)| (name, told(sum))).to_vec()
 }
 
-/// How many jobs tell the rule from each of the mistaken ones.
+/// The second bucket's: something else is printed, be it the plan, a level or a
+/// total.
+pub fn second_mistakes(job: &Job, pins: &Pins, plan: Option<&Plan>) -> Vec<(&'static str, bool)> {
+    let first = job.buckets[0];
+    let second = |change: &dyn Fn(&mut Bucket)| job.with_bucket(1, change);
+    let fill = |fill| Rules { fill, ..RULES };
+    let rows: [(&str, Job, Rules); 7] = [
+        ("no limit", second(&|bucket| bucket.size = i64::MAX), RULES),
+        ("the first's size", second(&|bucket| bucket.size = first.size), RULES),
+        ("the first's drain", second(&|bucket| bucket.drain = first.drain), RULES),
+        ("the first's start", second(&|bucket| bucket.start = first.start), RULES),
+        ("given what the first lets through", job.clone(), fill(in_series)),
+        ("drained before adding", job.clone(), fill(drained_before)),
+        ("the sums of unused drain swapped", job.clone(), fill(swapped_unused)),
+    ];
+    let due = plan.and_then(|plan| followed_by(&RULES, job, pins, plan));
+    let told = |job: &Job, rules: &Rules| {
+        let other = dynamic_by(rules, job, pins);
+        let found = other.as_ref().and_then(|plan| followed_by(rules, job, pins, plan));
+        other.as_ref() != plan || found != due
+    };
+    rows.map(|(name, job, rules)| (name, told(&job, &rules))).to_vec()
+}
+
+/// The same, and those of a search that takes paths for each other which differ in
+/// one bucket. Plans of few intervals seldom tell these.
+pub fn meeting_mistakes(job: &Job, pins: &Pins, plan: Option<&Plan>) -> Vec<(&'static str, bool)> {
+    let meet = |meet| Rules { meet, ..RULES };
+    let rows: [(&str, Rules); 2] = [
+        ("paths met without the second level", meet(|levels| [levels[0], 0])),
+        ("paths met without the first level", meet(|levels| [0, levels[1]])),
+    ];
+    let told = rows.map(|(name, rules)| (name, dynamic_by(&rules, job, pins).as_ref() != plan));
+    [&second_mistakes(job, pins, plan)[..], &told].concat()
+}
+
+/// For jobs to enumerate, for the dynamic program, and long.
+pub const DOUBLE_MISTAKES: [Mistakes; 3] = [second_mistakes, meeting_mistakes, meeting_mistakes];
+
+/// The levels of a plan, interval after interval, and its totals.
+pub fn followed_by(
+    rules: &Rules,
+    job: &Job,
+    pins: &Pins,
+    plan: &Plan,
+) -> Option<(Vec<i64>, Totals)> {
+    let mut levels = Vec::new();
+    let totals = replay_by(rules, job, pins, plan, |decoder, buckets| {
+        levels.push(decoder);
+        levels.extend_from_slice(buckets);
+    })?;
+    Some((levels, totals))
+}
+
+/// What leaves the first bucket comes to the second.
+fn in_series(job: &Job, before: &Levels, sent: i64) -> (Levels, Levels) {
+    let (mut levels, mut unused) = by_each(job, before, sent);
+    let through = before[0] + sent - levels[0];
+    (levels[1], unused[1]) = bucket_step(&job.buckets[1], before[1], through);
+    (levels, unused)
+}
+
+fn drained_before(job: &Job, before: &Levels, sent: i64) -> (Levels, Levels) {
+    let (mut levels, mut unused) = by_each(job, before, sent);
+    (levels[1], unused[1]) = bucket_step(&job.buckets[1], before[1], 0);
+    levels[1] += sent;
+    (levels, unused)
+}
+
+fn swapped_unused(job: &Job, before: &Levels, sent: i64) -> (Levels, Levels) {
+    let (levels, [first, second]) = by_each(job, before, sent);
+    (levels, [second, first])
+}
+
+/// How many jobs tell the rule from each of the mistaken ones, and of how many that
+/// was asked.
+#[derive(Default)]
 pub struct Told {
-    mistakes: Mistakes,
-    counts: BTreeMap<&'static str, usize>,
+    counts: BTreeMap<&'static str, [usize; 2]>,
 }
 
 impl Told {
-    pub fn new(mistakes: Mistakes) -> Told {
-        Told { mistakes, counts: BTreeMap::new() }
-    }
-
-    pub fn count(&mut self, job: &Job, pins: &Pins, plan: Option<&Plan>) {
-        for (name, told) in (self.mistakes)(job, pins, plan) {
-            *self.counts.entry(name).or_default() += told as usize;
+    pub fn count(&mut self, mistakes: Mistakes, job: &Job, pins: &Pins, plan: Option<&Plan>) {
+        for (name, told) in mistakes(job, pins, plan) {
+            let count = self.counts.entry(name).or_default();
+            count[0] += told as usize;
+            count[1] += 1;
         }
     }
 
-    /// Whether each mistaken rule shows `times` times or more.
-    pub fn each(&self, times: usize) -> bool {
-        self.counts.values().all(|count| *count >= times)
+    /// Whether each mistaken rule shows in one of `jobs` jobs or more often.
+    pub fn each(&self, jobs: usize) -> bool {
+        self.counts.values().all(|[told, asked]| told * jobs >= *asked)
     }
 
     pub fn show(&self) -> String {
-        let each = self.counts.iter().map(|(name, count)| format!("{name} {count}"));
-        format!("; told from {}", each.collect::<Vec<_>>().join(", "))
+        let show = |(name, [told, asked]): (&&str, &[usize; 2])| format!("{name} {told}/{asked}");
+        let each: Vec<String> = self.counts.iter().map(show).collect();
+        format!("; told from {}", each.join(", "))
     }
 }
 
@@ -539,10 +767,14 @@ pub const START_DECODER: usize = 5;
 pub const START_BUCKET: usize = 6;
 pub const RATES: usize = 7;
 pub const CHOICES: usize = 8;
+pub const SECOND: usize = 9;
+pub const SECOND_DRAIN: usize = 10;
+pub const START_SECOND: usize = 11;
 
 /// Each header field with its least and its greatest value; the starting
-/// levels' greatest are the sizes of Job A.
-pub const LIMITS: [(usize, u16, u16); 9] = [
+/// levels' greatest are the sizes of Job A, and that of `SECOND_A`. The first nine
+/// are those of a header with one bucket.
+pub const LIMITS: [(usize, u16, u16); 12] = [
     (UNITS, 1, 512),
     (DELAY, 0, 64),
     (DECODER, 0, 255),
@@ -552,7 +784,14 @@ pub const LIMITS: [(usize, u16, u16); 9] = [
     (START_BUCKET, 0, 3),
     (RATES, 1, 16),
     (CHOICES, 1, 31),
+    (SECOND, 0, 63),
+    (SECOND_DRAIN, 0, 4095),
+    (START_SECOND, 0, 2),
 ];
+
+/// A second bucket for Job A that a rate of 2 passes through: size, drain and
+/// starting level.
+pub const SECOND_A: [u16; 3] = [2, 2, 0];
 
 /// How large a job is.
 #[derive(Clone, Copy)]
@@ -577,10 +816,10 @@ pub enum Command {
 pub use self::Command::{Lift, Pin};
 
 /// A job in the making. The header is kept as written, so that a field may be
-/// wrong or disagree with what follows.
+/// wrong or disagree with what follows; it is of kind 8 where it has twelve fields.
 #[derive(Clone)]
 pub struct Draft {
-    pub header: [u16; 9],
+    pub header: Vec<u16>,
     pub rates: Vec<u16>,
     pub units: Vec<Vec<(u16, u32)>>,
     pub commands: Vec<Command>,
@@ -589,7 +828,7 @@ pub struct Draft {
 impl Draft {
     /// `levels`: delay, decoder size, bucket size, drain, both starting levels.
     pub fn new(levels: [u16; 6], rates: &[u16], units: &[Vec<(u16, u32)>]) -> Draft {
-        let mut header = [0; 9];
+        let mut header = vec![0; FIELDS[0]];
         header[UNITS] = units.len() as u16;
         header[DELAY..=START_BUCKET].copy_from_slice(&levels);
         header[RATES] = rates.len() as u16;
@@ -603,6 +842,29 @@ impl Draft {
         draft
     }
 
+    /// The job with a second bucket: its size, drain and starting level.
+    pub fn doubled(&self, second: [u16; 3]) -> Draft {
+        let mut draft = self.alone();
+        draft.header.extend(second);
+        draft
+    }
+
+    /// The job without its second bucket.
+    pub fn alone(&self) -> Draft {
+        let mut draft = self.clone();
+        draft.header.truncate(FIELDS[0]);
+        draft
+    }
+
+    /// The job with its two buckets in the other order.
+    pub fn swapped(&self) -> Draft {
+        let mut draft = self.clone();
+        for (first, second) in BUCKET_FIELDS[0].iter().zip(&BUCKET_FIELDS[1]) {
+            draft.header.swap(*first, *second);
+        }
+        draft
+    }
+
     pub fn commanded(&self, commands: &[Command]) -> Draft {
         let mut draft = self.clone();
         draft.commands.extend_from_slice(commands);
@@ -610,7 +872,8 @@ impl Draft {
     }
 
     pub fn records(&self) -> Vec<Vec<u8>> {
-        let mut records = vec![record(1, &words(&self.header)), record(2, &words(&self.rates))];
+        let kind = if self.header.len() > FIELDS[0] { 8 } else { 1 };
+        let mut records = vec![record(kind, &words(&self.header)), record(2, &words(&self.rates))];
         records.extend(self.units.iter().map(|unit| record(3, &unit_body(unit))));
         records.extend(self.commands.iter().map(|&command| command_record(command)));
         records
@@ -694,7 +957,7 @@ impl Lists {
     pub fn of_draft(draft: &Draft) -> Lists {
         let codings = || draft.units.iter().flatten();
         Lists {
-            fields: draft.header.to_vec(),
+            fields: draft.header.clone(),
             rates: draft.rates.clone(),
             sizes: codings().map(|coding| coding.0).collect(),
             distortions: codings().map(|coding| coding.1).collect(),
@@ -703,36 +966,40 @@ impl Lists {
 
     /// What the reader found in a job.
     pub fn of_job(job: &Job) -> Lists {
-        let fields = [
-            job.units.len() as i64,
-            job.delay as i64,
-            job.decoder_size,
-            job.bucket_size,
-            job.drain,
-            job.start_decoder,
-            job.start_bucket,
-            job.rates.len() as i64,
-            job.choices() as i64,
-        ];
+        let mut fields = vec![0; FIELDS[job.buckets.len() - 1]];
+        for (field, value) in [
+            (UNITS, job.units.len() as i64),
+            (DELAY, job.delay as i64),
+            (DECODER, job.decoder_size),
+            (START_DECODER, job.start_decoder),
+            (RATES, job.rates.len() as i64),
+            (CHOICES, job.choices() as i64),
+        ] {
+            fields[field] = value as u16;
+        }
+        for (bucket, [size, drain, start]) in job.buckets.iter().zip(BUCKET_FIELDS) {
+            fields[size] = bucket.size as u16;
+            fields[drain] = bucket.drain as u16;
+            fields[start] = bucket.start as u16;
+        }
         let codings = || job.units.iter().flatten();
         Lists {
-            fields: fields.map(|field| field as u16).to_vec(),
+            fields,
             rates: job.rates.iter().map(|&rate| rate as u16).collect(),
             sizes: codings().map(|choice| choice.grains as u16).collect(),
             distortions: codings().map(|choice| choice.distortion as u32).collect(),
         }
     }
 
-    /// The draft of a job, for nine fields of which the last is not 0.
+    /// The draft of a job, for a header of either kind whose choices are not 0.
     pub fn draft(&self) -> Draft {
         let codings: Vec<(u16, u32)> =
             self.sizes.iter().copied().zip(self.distortions.iter().copied()).collect();
-        let mut header = [0; 9];
-        header.copy_from_slice(&self.fields);
+        let choices = self.fields[CHOICES] as usize;
         Draft {
-            header,
+            header: self.fields.clone(),
             rates: self.rates.clone(),
-            units: codings.chunks(header[CHOICES] as usize).map(<[_]>::to_vec).collect(),
+            units: codings.chunks(choices).map(<[_]>::to_vec).collect(),
             commands: Vec::new(),
         }
     }
@@ -747,7 +1014,7 @@ impl Lists {
 /// the length of the list for the bytes, `values` that of the list for their
 /// count.
 pub fn write_job(lists: &Lists, room: usize, values: usize) -> Result<Vec<u8>, Refusal> {
-    if lists.fields.len() != 9 {
+    if !FIELDS.contains(&lists.fields.len()) {
         return Err(3);
     }
     let f = read_header(&words(&lists.fields))?;
@@ -793,8 +1060,12 @@ pub fn sent_as_decoded(levels: [u16; 4], taken: &[u16]) -> Draft {
     Draft::new([delay, decoder, bucket, drain, 0, start], &rates, &units)
 }
 
-/// Jobs with the sum of their unused drain, worked out by hand.
-pub fn unused_by_hand() -> Vec<(String, Draft, i64)> {
+/// Jobs with the sums of their unused drain, worked out by hand.
+pub fn unused_by_hand() -> Vec<(String, Draft, Vec<i64>)> {
+    [one_unused_by_hand(), two_unused_by_hand()].concat()
+}
+
+fn one_unused_by_hand() -> Vec<(String, Draft, Vec<i64>)> {
     // Each line: delay, bucket size, drain, the bucket's starting level; what is
     // sent after the delay; how many times this is sent; what goes by unused.
     let rows: [([u16; 4], &[u16], usize, i64); 28] = [
@@ -844,16 +1115,63 @@ pub fn unused_by_hand() -> Vec<(String, Draft, i64)> {
         let label = format!(
             "delay {delay}, bucket {bucket} from {start}, drain {drain}, {times} times {taken:?}"
         );
-        (label, sent_as_decoded(levels, &taken.repeat(times)), unused)
+        (label, sent_as_decoded(levels, &taken.repeat(times)), vec![unused])
     };
     rows.map(case).to_vec()
 }
 
-/// Job A or an easy job, with one field set and the records to go with it.
-pub fn sized_draft(field: usize, value: u16) -> Draft {
+fn two_unused_by_hand() -> Vec<(String, Draft, Vec<i64>)> {
+    // Each line: delay; size, drain and starting level of both buckets; what is sent
+    // after the delay; how many times this is sent; what goes by unused.
+    let rows: [(u16, [[u16; 3]; 2], &[u16], usize, [i64; 2]); 20] = [
+        // A drain of just what is there and what is sent, and of one more.
+        (0, [[9, 5, 3], [9, 6, 3]], &[2], 1, [0, 1]),
+        (0, [[9, 6, 3], [9, 5, 3]], &[2], 1, [1, 0]),
+        (0, [[9, 5, 3], [9, 5, 2]], &[2], 1, [0, 1]),
+        (0, [[9, 5, 2], [9, 5, 3]], &[2], 1, [1, 0]),
+        // The first goes 5, 1, 0, 4, 0 and leaves 2 and 0. The second does so too; or
+        // goes 6, 3, 1, 6, 3; or 3, 0, 0, 2, 0 and leaves 3, 5 and 4.
+        (0, [[9, 4, 0], [9, 4, 0]], &[9, 0, 1, 8, 0], 1, [2, 2]),
+        (0, [[9, 4, 0], [6, 3, 0]], &[9, 0, 1, 8, 0], 1, [2, 0]),
+        (0, [[9, 4, 0], [3, 6, 0]], &[9, 0, 1, 8, 0], 1, [2, 3 + 5 + 4]),
+        (0, [[3, 6, 0], [9, 4, 0]], &[9, 0, 1, 8, 0], 1, [3 + 5 + 4, 2]),
+        // The delay counts in both: the second goes 39, 38, 40, 39; or is 5, and then
+        // all of its drain goes by but what is sent.
+        (2, [[9, 3, 4], [63, 1, 40]], &[3, 0], 1, [2 + 3, 0]),
+        (2, [[9, 3, 4], [5, 9, 5]], &[3, 0], 1, [2 + 3, 4 + 9 + 6 + 9]),
+        // Buckets that start filled: 31, 21, 11 and 1 are there; 63, 13 and none.
+        (0, [[31, 10, 31], [63, 50, 63]], &[0], 4, [9, 37 + 50 + 50]),
+        (0, [[63, 50, 63], [31, 10, 31]], &[0], 4, [37 + 50 + 50, 9]),
+        // No drain in one of them; its level is 5, 5, 9.
+        (0, [[9, 4, 0], [15, 0, 3]], &[2, 0, 4], 1, [2 + 4, 0]),
+        (0, [[9, 0, 3], [9, 5, 0]], &[2, 0, 4], 1, [0, 3 + 5 + 1]),
+        // What was there at the start is drained once, in one of them alone.
+        (0, [[2, 3, 0], [3, 3, 1]], &[0, 3, 3], 1, [3, 2]),
+        // The largest drain, 512 units and a delay of 64.
+        (64, [[0, 4095, 0], [0, 4095, 0]], &[0], 512, [576 * 4095, 576 * 4095]),
+        (64, [[0, 0, 0], [0, 4095, 0]], &[0], 512, [0, 576 * 4095]),
+        // 512 units, as above: 300 drain 5 or none; 4 drain 5, of which 1 is left.
+        (0, [[0, 300, 0], [4, 4, 0]], &[5, 0], 256, [256 * (295 + 300), 256 * 3]),
+        (0, [[4, 4, 0], [0, 300, 0]], &[5, 0], 256, [256 * 3, 256 * (295 + 300)]),
+        (0, [[1, 4, 1], [0, 4, 0]], &[4], 512, [0, 0]),
+    ];
+    let mut cases = Vec::new();
+    for (delay, [first, second], taken, times, unused) in rows {
+        let [bucket, drain, start] = first;
+        let sent = taken.repeat(times);
+        let draft = sent_as_decoded([delay, bucket, drain, start], &sent).doubled(second);
+        let label = format!("delay {delay}, buckets {first:?} {second:?}, {times} times {taken:?}");
+        cases.push((label, draft, unused.to_vec()));
+    }
+    cases
+}
+
+/// Job A or an easy job, with one field set and the records to go with it, on a
+/// line of one bucket or with `SECOND_A` too.
+pub fn sized_draft(buckets: usize, field: usize, value: u16) -> Draft {
     let count = value as usize;
     let unit = |choices: usize| (0..choices).map(|c| (c as u16 % 4, 1 + c as u32)).collect();
-    match field {
+    let draft = match field {
         UNITS => even_job(count.max(1), [0, 2, 2, 1, 0, 0]),
         DELAY => Draft::new([value, 4, 3, 1, 0, 0], &[0, 1, 2], &[unit(2), unit(2)]),
         DECODER => Draft::new([1, value, 3, 1, 0, 0], &[0, 1], &[unit(2), unit(2)]),
@@ -863,12 +1181,21 @@ pub fn sized_draft(field: usize, value: u16) -> Draft {
             Draft::new([1, 4, 3, 2, 0, 0], &rates, &[unit(2), unit(2)])
         }
         CHOICES => Draft::new([1, 4, 3, 2, 0, 0], &[0, 2], &[unit(count), unit(count)]),
+        SECOND | SECOND_DRAIN | START_SECOND => job_a(),
         _ => job_a().with(field, value),
+    };
+    match field {
+        SECOND | SECOND_DRAIN | START_SECOND => draft.doubled(SECOND_A).with(field, value),
+        _ if buckets > 1 => draft.doubled(SECOND_A),
+        _ => draft,
     }
 }
 
-pub fn sized(field: usize, value: u16) -> Vec<u8> {
-    sized_draft(field, value).bytes()
+/// The bytes of such a job, whose field may be out of range. What follows is never
+/// longer than a little past the limits.
+pub fn sized(buckets: usize, field: usize, value: u16) -> Vec<u8> {
+    let input = sized_draft(buckets, field, value.min(600)).bytes();
+    patched(&input, 4 + 2 * field, &value.to_le_bytes())
 }
 
 pub fn patched(input: &[u8], at: usize, value: &[u8]) -> Vec<u8> {
@@ -1167,10 +1494,150 @@ pub fn random_tight_job(rng: &mut Rng, shape: &Shape) -> Draft {
     draft
 }
 
+/// The job with a second bucket of at most this size.
+pub fn random_doubled(rng: &mut Rng, draft: &Draft, size: usize, grains: usize) -> Draft {
+    let size = rng.from(0, size);
+    let second = [size, random_drain(rng, grains), rng.from(0, size)];
+    draft.doubled(second.map(|number| number as u16))
+}
+
+pub fn random_tiny_double(rng: &mut Rng) -> Draft {
+    let draft = random_job(rng, &TINY);
+    random_doubled(rng, &draft, 4, TINY.grains)
+}
+
+pub fn random_medium_double(rng: &mut Rng) -> Draft {
+    let shape = Shape { decoder: 14, bucket: 12, heavy: &[8, 1000], commands: 4, ..MEDIUM };
+    let draft = random_job(rng, &shape);
+    random_doubled(rng, &draft, 12, shape.grains)
+}
+
+/// Buffers that share what the workspace leaves for each interval of a long job.
+/// In most jobs every unit has a choice of nothing, so that there is a plan.
+pub fn random_long_double(rng: &mut Rng) -> Draft {
+    let mut draft = random_job(rng, &Shape { commands: 2, ..LONG });
+    if !rng.one_in(3) {
+        draft.rates[0] = 0;
+        draft.units.iter_mut().filter_map(|unit| unit.last_mut()).for_each(|last| last.0 = 0);
+    }
+    let mut left = WORKSPACE_WORDS / ((draft.header[UNITS] + draft.header[DELAY]) as usize + 1);
+    let mut share = |rng: &mut Rng, most: usize| {
+        let size = rng.from(0, most.min(left) - 1);
+        left /= size + 1;
+        size as u16
+    };
+    let (decoder, bucket, second) = (share(rng, 6), share(rng, 6), share(rng, 64));
+    let start = |rng: &mut Rng, size: u16| rng.from(0, size as usize) as u16;
+    draft
+        .with(DECODER, decoder)
+        .with(START_DECODER, start(rng, decoder))
+        .with(BUCKET, bucket)
+        .with(START_BUCKET, start(rng, bucket))
+        .doubled([second, random_drain(rng, LONG.grains) as u16, start(rng, second)])
+}
+
+/// The shapes of jobs on lines of two buckets that both decide: to enumerate, for the
+/// dynamic program, and long. `bucket` is the larger one's size.
+pub const DOUBLE: [Shape; 3] = [
+    Shape {
+        units: (3, 3),
+        delay: (0, 2),
+        decoder: 9,
+        bucket: 6,
+        rates: 4,
+        choices: 3,
+        grains: 0,
+        heavy: &[8, 1000],
+        commands: 1,
+    },
+    Shape {
+        units: (6, 10),
+        delay: (0, 4),
+        decoder: 12,
+        bucket: 9,
+        rates: 6,
+        choices: 5,
+        grains: 0,
+        heavy: &[1000],
+        commands: 1,
+    },
+    Shape {
+        units: (60, 100),
+        delay: (0, 10),
+        decoder: 5,
+        bucket: 5,
+        rates: 5,
+        choices: 4,
+        grains: 0,
+        heavy: &[1000],
+        commands: 1,
+    },
+];
+
+/// A job in which one bucket holds little and drains much, so that it lets no large
+/// rate through, and the other holds more and drains less, so that it does not let
+/// many of them through. Either may be the first. Distortions fall as the units grow,
+/// so that a good plan sends as much as both allow.
+pub fn random_double_job(rng: &mut Rng, shape: &Shape) -> Draft {
+    let decoder = rng.from(shape.decoder / 2 + 1, shape.decoder);
+    let little = rng.from(0, shape.bucket / 3);
+    let much = rng.from(little + 1, little + shape.bucket * 2 / 3);
+    let slow = rng.from(1, decoder.div_ceil(4));
+    let quick = rng.from(slow + 1, slow + decoder.div_ceil(2));
+    let start = |rng: &mut Rng, size: usize| if rng.one_in(2) { rng.from(0, size) } else { 0 };
+    let levels = [
+        rng.from(shape.delay.0, shape.delay.1),
+        decoder,
+        little,
+        quick,
+        rng.from(0, decoder / 2),
+        start(rng, little),
+    ];
+    let second = [much, slow, start(rng, much)].map(|number| number as u16);
+    let count = rng.from(3, shape.rates.min(decoder));
+    let mut rates = rng.rising(count, decoder);
+    rates[0] = 0;
+    let count = rng.from(shape.units.0, shape.units.1);
+    let choices = rng.from(2, shape.choices);
+    let (steep, heavy) = (rng.from(1, 9), rng.pick(shape.heavy));
+    let mut units = Vec::new();
+    for _ in 0..count {
+        let mut unit: Vec<(u16, u32)> = Vec::new();
+        for choice in 1..=choices {
+            let light = choice == choices && !rng.one_in(heavy);
+            let size = if light { 0 } else { rng.from(1, decoder) };
+            let distortion = (decoder - size) * steep + rng.from(0, steep / 2);
+            unit.push((size as u16, distortion as u32));
+        }
+        units.push(unit);
+    }
+    let draft = Draft::new(levels.map(|level| level as u16), &rates, &units).doubled(second);
+    let mut draft = if rng.one_in(2) { draft.swapped() } else { draft };
+    draft.commands = random_commands(rng, &draft, shape.commands);
+    draft
+}
+
 /// A job with commands, its bytes then harmed.
 pub fn scrambled(rng: &mut Rng) -> Vec<u8> {
     let draft = random_job(rng, &TINY);
     harmed(rng, &draft, 10, harm)
+}
+
+/// The same of a line of two buckets.
+pub fn scrambled_double(rng: &mut Rng) -> Vec<u8> {
+    let draft = random_tiny_double(rng);
+    harmed(rng, &draft, 10, |rng, bytes| match rng.from(0, 9) {
+        0 => harm_kind(rng, bytes),
+        _ => harm(rng, bytes),
+    })
+}
+
+/// Gives the first record the length or the kind of the other header, or both.
+pub fn harm_kind(rng: &mut Rng, bytes: &mut [u8]) {
+    if bytes.len() >= 4 {
+        let [length, kind] = rng.pick(&[[20, 1], [20, 8], [26, 1], [26, 8], [24, 8], [28, 8]]);
+        bytes[..4].copy_from_slice(&[length, 0, kind, 0]);
+    }
 }
 
 /// The bytes of a draft, harmed in one to three places; before that, one time in

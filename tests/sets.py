@@ -8,7 +8,9 @@ replayed: entries 0 and the mark, 2 0, 1 1 of Job A, in which unit 1 has choice 
 """
 import struct
 
-HEADER = [2, 1, 4, 3, 2, 0, 0, 3, 2]
+NINE = [2, 1, 4, 3, 2, 0, 0, 3, 2]
+# no second bucket
+HEADER = NINE + [0, 0, 0, 0]
 RATES = [0, 2, 4]
 UNITS = [[(4, 10), (2, 30)], [(5, 12), (2, 40)]]
 NO_PIN = 255
@@ -19,7 +21,7 @@ def u16(*numbers):
 
 
 def job_a():
-    out = u16(20, 1, *HEADER) + u16(2 + 2 * len(RATES), 2, *RATES)
+    out = u16(20, 1, *NINE) + u16(2 + 2 * len(RATES), 2, *RATES)
     for unit in UNITS:
         out += u16(2 + 6 * len(unit), 3)
         for size, distortion in unit:
@@ -83,6 +85,9 @@ def rows():
         changed = list(HEADER)
         changed[field] += 1
         yield (changed,) + good
+    # a second bucket, which Job A has not: one that never fills, the first one again, one of zeros
+    for second in ([63, 4095, 0], [3, 2, 0], [0, 0, 0]):
+        yield (NINE + [1] + second,) + good
     # a pin that no unit has, with the totals of no pin and of one, and a pin behind the job's units
     for pin in (2, 30, 31, 254):
         for sums in ((0, 0, 0), (1, 4, 10)):

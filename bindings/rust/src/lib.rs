@@ -3,7 +3,8 @@
 //! Programmes are sent over a line that a carrier polices. For each interval
 //! the planner chooses a channel rate and for each coded unit a quantizer
 //! choice, so that total distortion is least while the decoder's buffer runs
-//! neither short nor over and the carrier's leaky bucket never overflows.
+//! neither short nor over and the carrier's leaky bucket never overflows. Some
+//! carriers police a line by two buckets, each with its own size and drain.
 //!
 //! A job of N units with a delay of d intervals has T = N + d intervals; for
 //! t > d, interval t decodes unit t − d. Sizes, rates and levels are counted in
@@ -13,17 +14,18 @@
 //! before the interval and what it sends, is at most the decoder's size and at
 //! least what the unit takes. A level is what is left after the unit.
 //!
-//! What an interval sends goes to the bucket too, which then loses the drain, or
+//! What an interval sends goes to each bucket too, which then loses its drain, or
 //! all that it has. Grains of the drain that find nothing there go by unused.
 //!
 //! [`write()`] makes the bytes of a job from its header and lists; [`open`],
 //! [`calls()`], [`plan`], [`replay`] and [`report`] take these bytes and read them
-//! again. They fill lists that the caller lends; [`written`], [`called`] and
-//! [`best_plan`] make the lists themselves. Nothing is kept between calls. A list
-//! that is filled may be longer than needed: what stands past the part named as
-//! written keeps its values. Wherever a job is read, its own refusals, 1 to 5,
-//! come first. A refusal writes nothing, except that [`Refusal::NoPlan`] comes
-//! after the search and leaves `table` written, and no other list.
+//! again. They fill lists that the caller lends; [`written`], [`called`],
+//! [`best_plan`] and [`replayed`] make the lists themselves. Nothing is kept
+//! between calls. A list that is filled may be longer than needed: what stands
+//! past the part named as written keeps its values. Wherever a job is read, its
+//! own refusals, 1 to 5, come first. A refusal writes nothing, except that
+//! [`Refusal::NoPlan`] comes after the search and leaves `table` written, and no
+//! other list.
 //!
 //! The work is done by the library `libupload.a`, whose code is proved to meet
 //! its contract. It takes no memory and reads and writes only what is lent to
@@ -81,12 +83,14 @@ pub const NEVER: u32 = u32::MAX;
 #[derive(Clone, Copy, Debug, PartialEq, Eq, Hash)]
 #[non_exhaustive]
 pub enum Refusal {
-    /// 1: the bytes end within a record, or the last call is cut.
+    /// 1: the bytes end before a record that is due is whole, or the last call is
+    /// cut.
     Cut,
     /// 2: a record's kind or length is not the one due, or a call is neither a
     /// pin nor a lift.
     WrongRecord,
-    /// 3: a field of the job's header is out of range.
+    /// 3: a field of the header is out of range, or the fields are not nine or
+    /// twelve. A [`Header`] always has one or the other.
     Header,
     /// 4: a rate is over 4,095, or the rates do not rise.
     Rates,
@@ -152,9 +156,13 @@ impl Refusal {
 impl fmt::Display for Refusal {
     fn fmt(&self, f: &mut fmt::Formatter) -> fmt::Result {
         f.write_str(match self {
-            Refusal::Cut => "the bytes end within a record, or the last call is cut",
+            Refusal::Cut => {
+                "the bytes end before a record that is due is whole, or the last call is cut"
+            }
             Refusal::WrongRecord => "a record or a call of another kind or length than the one due",
-            Refusal::Header => "a field of the job's header is out of range",
+            Refusal::Header => {
+                "a field of the header is out of range, or the fields are not nine or twelve"
+            }
             Refusal::Rates => "a rate is over 4,095, or the rates do not rise",
             Refusal::Choices => "a choice's grains or distortion are over their limit",
             Refusal::OtherJob => "the set of pins does not fit the job",
@@ -206,6 +214,17 @@ fn numbers_of(calls: &[Call]) -> Vec<u16> {
     calls.iter().flat_map(|call| call.numbers()).collect()
 }
 
+/// A carrier's leaky bucket, as a job starts with it.
+#[derive(Clone, Copy, Debug, PartialEq, Eq, Hash)]
+pub struct Bucket {
+    /// Its size; of a second bucket at most 63.
+    pub size: u16,
+    /// What leaves it in an interval, at most 4,095.
+    pub drain: u16,
+    /// Its starting level, at most its size.
+    pub level: u16,
+}
+
 /// The header of a job, from which [`write()`] and [`written`] make its bytes.
 #[derive(Clone, Copy, Debug, PartialEq, Eq, Hash)]
 pub struct Header {
@@ -215,7 +234,7 @@ pub struct Header {
     pub delay: u16,
     /// The decoder's size, at most 255.
     pub decoder: u16,
-    /// The bucket's size, at most 255.
+    /// The bucket's size, at most 255. Where there are two, this is the first.
     pub bucket: u16,
     /// What leaves the bucket in an interval, at most 4,095.
     pub drain: u16,
@@ -227,12 +246,15 @@ pub struct Header {
     pub rates: u16,
     /// M, how many choices each unit has, from 1 to 31.
     pub choices: u16,
+    /// The second bucket of a line that has two.
+    pub second: Option<Bucket>,
 }
 
 impl Header {
-    /// The header as the nine numbers that the library takes.
-    pub fn numbers(self) -> [u16; numbers::FIELDS] {
-        [
+    /// The header as the numbers that the library takes: nine, and three more
+    /// where there is a second bucket.
+    pub fn numbers(self) -> Vec<u16> {
+        let mut fields = vec![
             self.units,
             self.delay,
             self.decoder,
@@ -242,18 +264,34 @@ impl Header {
             self.fill,
             self.rates,
             self.choices,
-        ]
+        ];
+        if let Some(Bucket { size, drain, level }) = self.second {
+            fields.extend([size, drain, level]);
+        }
+        fields
     }
 
-    /// How many bytes a job of this header takes: 26 + 2 × P + N × (4 + 6 × M).
+    /// How many bytes a job of this header takes. The header's record has 22, or
+    /// 28 with a second bucket, that of the rates 4 + 2 × P, and that of each unit
+    /// 4 + 6 × M.
     pub fn job_bytes(self) -> usize {
         let [units, rates, choices] = [self.units, self.rates, self.choices].map(usize::from);
-        26 + 2 * rates + units * (4 + 6 * choices)
+        let header = 4 + 2 * self.numbers().len();
+        header + 4 + 2 * rates + units * (4 + 6 * choices)
     }
 }
 
 /// The bytes of the largest job.
-const LARGEST_JOB: usize = 97_338;
+const LARGEST_JOB: usize = 97_344;
+
+/// How many buckets the line of a job has, if the job opens: the kind of its
+/// header says so.
+fn buckets_of(job: &[u8]) -> usize {
+    match job {
+        [_, _, 8, 0, ..] => 2,
+        _ => 1,
+    }
+}
 
 /// What a job takes.
 #[derive(Clone, Copy, Debug, PartialEq, Eq, Hash)]
@@ -266,6 +304,16 @@ pub struct Opened {
     pub intervals: usize,
     /// The words that planning needs for its table.
     pub table_words: usize,
+    /// How many buckets the line has, 1 or 2.
+    pub buckets: usize,
+}
+
+impl Opened {
+    /// How many numbers [`replay`] needs for the levels: for each interval one of
+    /// the decoder and one of each bucket.
+    pub fn level_numbers(self) -> usize {
+        Levels::numbers(self.buckets) * self.intervals
+    }
 }
 
 /// What the pins come to that stand after a list of calls.
@@ -293,12 +341,67 @@ pub struct Totals {
     /// bucket's starting level + channel grains + unused grains = T × drain + its
     /// last level.
     pub unused_grains: u64,
+    /// The same of the second bucket, where the line has one.
+    pub second_unused: Option<u64>,
 }
 
 impl Totals {
-    fn of(values: [u64; numbers::PLAN_VALUES]) -> Totals {
-        let [distortion, source_grains, channel_grains, unused_grains] = values;
-        Totals { distortion, source_grains, channel_grains, unused_grains }
+    /// From what planning wrote for so many buckets.
+    fn of(values: [u64; numbers::PLAN_VALUES_MOST], buckets: usize) -> Totals {
+        let [distortion, source_grains, channel_grains, unused_grains, second] = values;
+        let second_unused = (buckets == 2).then_some(second);
+        Totals { distortion, source_grains, channel_grains, unused_grains, second_unused }
+    }
+}
+
+/// The levels after an interval, when its unit has left.
+#[derive(Clone, Copy, Debug, PartialEq, Eq, Hash)]
+pub struct Levels {
+    /// What the decoder holds.
+    pub decoder: u16,
+    /// What is in the bucket; where there are two, in the first.
+    pub bucket: u16,
+    /// What is in the second bucket, where the line has one.
+    pub second: Option<u16>,
+}
+
+impl Levels {
+    /// How many numbers [`replay`] writes for each interval on a line of so many
+    /// buckets: one of the decoder and one of each bucket.
+    pub const fn numbers(buckets: usize) -> usize {
+        1 + buckets
+    }
+
+    /// The levels interval by interval in a list that [`replay`] filled, on a line
+    /// of so many buckets ([`Opened::buckets`]). Replay writes the intervals before
+    /// the first violation; what stands after them is as it was lent.
+    ///
+    /// # Panics
+    ///
+    /// Where `buckets` is neither 1 nor 2.
+    ///
+    /// # Examples
+    ///
+    /// ```
+    /// use upload_planner::Levels;
+    ///
+    /// let one: Vec<Levels> = Levels::each(&[2, 0, 4, 1], 1).collect();
+    /// assert_eq!(one[0], Levels { decoder: 2, bucket: 0, second: None });
+    /// assert_eq!(one[1], Levels { decoder: 4, bucket: 1, second: None });
+    ///
+    /// let two: Vec<Levels> = Levels::each(&[2, 0, 4], 2).collect();
+    /// assert_eq!(two, [Levels { decoder: 2, bucket: 0, second: Some(4) }]);
+    /// ```
+    pub fn each(
+        levels: &[u16],
+        buckets: usize,
+    ) -> impl DoubleEndedIterator<Item = Levels> + ExactSizeIterator + '_ {
+        assert!(buckets == 1 || buckets == 2, "a line has one bucket or two");
+        levels.chunks_exact(Levels::numbers(buckets)).map(|of| Levels {
+            decoder: of[0],
+            bucket: of[1],
+            second: of.get(2).copied(),
+        })
     }
 }
 
@@ -311,8 +414,10 @@ pub enum Violation {
     DecoderOver,
     /// The decoder holds less than the unit takes.
     DecoderShort,
-    /// The bucket's level would pass its size.
+    /// The level of the bucket, of two the first, would pass its size.
     BucketOver,
+    /// The second bucket's level would pass its size.
+    SecondBucketOver,
     /// The unit is pinned at another choice.
     PinNotHeld,
 }
@@ -323,6 +428,7 @@ impl fmt::Display for Violation {
             Violation::DecoderOver => "decoder over",
             Violation::DecoderShort => "decoder short",
             Violation::BucketOver => "bucket over",
+            Violation::SecondBucketOver => "second bucket over",
             Violation::PinNotHeld => "pin not held",
         })
     }
@@ -359,7 +465,7 @@ pub fn open(job: &[u8]) -> Result<Opened, Refusal> {
     let mut values = [0; numbers::OPEN_VALUES];
     checked(numbers::open(job, &mut values))?;
     let [bytes, units, intervals, table_words] = values.map(|value| value as usize);
-    Ok(Opened { bytes, units, intervals, table_words })
+    Ok(Opened { bytes, units, intervals, table_words, buckets: buckets_of(job) })
 }
 
 /// Makes the calls in turn, refused ones included. `answers`: one byte for each
@@ -383,7 +489,9 @@ pub fn calls(job: &[u8], calls: &[Call], answers: &mut [u8]) -> Result<PinTotals
 /// - `table`: [`Opened::table_words`] words are written. Word
 ///   (t × (decoder size + 1) + b) × (bucket size + 1) + l is the least
 ///   distortion that intervals t + 1 to T can add from decoder level b and
-///   bucket level l after interval t, pins held, or [`NEVER`].
+///   bucket level l after interval t, pins held, or [`NEVER`]. With two buckets,
+///   the second at level m, that is word ((t × (decoder size + 1) + b) ×
+///   (bucket size + 1) + l) × (second size + 1) + m.
 /// - `entries`: 2 × T bytes are written, two for each interval: the index of
 ///   its rate, then that of its unit's choice, or [`NO_UNIT`].
 ///
@@ -403,17 +511,18 @@ pub fn plan(
     table: &mut [u32],
     entries: &mut [u8],
 ) -> Result<Totals, Refusal> {
-    let mut values = [0; numbers::PLAN_VALUES];
+    let mut values = [0; numbers::PLAN_VALUES_MOST];
     checked(numbers::plan(job, &numbers_of(calls), answers, table, entries, &mut values))?;
-    Ok(Totals::of(values))
+    Ok(Totals::of(values, buckets_of(job)))
 }
 
 /// Makes the calls as [`calls()`] does, then follows a plan interval by interval
 /// up to its first violation.
 ///
-/// `levels` needs room for 2 × T numbers: the decoder's and the bucket's level
-/// after each interval, when its unit has left. Only those before the violation
-/// are written.
+/// `levels` needs room for [`Opened::level_numbers`], 2 × T numbers or with two
+/// buckets 3 × T: after each interval, when its unit has left, the decoder's level
+/// and that of each bucket. Only those before the violation are written.
+/// [`Levels::each`] names them; [`replayed`] gives them by name.
 ///
 /// # Errors
 ///
@@ -424,15 +533,16 @@ pub fn replay(
     entries: &[u8],
     levels: &mut [u16],
 ) -> Result<Replayed, Refusal> {
-    let mut values = [0; numbers::REPLAY_VALUES];
+    let mut values = [0; numbers::REPLAY_VALUES_MOST];
     checked(numbers::replay(job, &numbers_of(calls), entries, levels, &mut values))?;
     let [kind, interval, totals @ ..] = values;
     let violation = match kind {
-        0 => return Ok(Replayed::Clean(Totals::of(totals))),
+        0 => return Ok(Replayed::Clean(Totals::of(totals, buckets_of(job)))),
         1 => Violation::DecoderShort,
         2 => Violation::DecoderOver,
         3 => Violation::BucketOver,
         4 => Violation::PinNotHeld,
+        5 => Violation::SecondBucketOver,
         _ => panic!("the library answered {kind}, which is no violation"),
     };
     Ok(Replayed::Violated { violation, interval: interval as usize })
@@ -486,6 +596,7 @@ pub struct Called {
 ///     fill: 0,
 ///     rates: 3,
 ///     choices: 2,
+///     second: None,
 /// };
 /// let job = written(&header, &[0, 2, 4], &[4, 2, 5, 2], &[10, 30, 12, 40])?;
 ///
@@ -522,8 +633,8 @@ pub struct BestPlan {
     pub table: Vec<u32>,
 }
 
-/// [`plan`] with lists of its own, as long as the job needs. At the largest
-/// jobs the table takes 151 million bytes.
+/// [`plan`] with lists of its own, as long as the job needs. At the largest jobs
+/// the table takes 151 million bytes, and with two buckets 64 times as many.
 ///
 /// # Errors
 ///
@@ -535,6 +646,79 @@ pub fn best_plan(job: &[u8], calls: &[Call]) -> Result<BestPlan, Refusal> {
     let mut entries = vec![0; 2 * opened.intervals];
     let totals = plan(job, calls, &mut answers, &mut table, &mut entries)?;
     Ok(BestPlan { totals, entries, answers: met_with(answers), table })
+}
+
+/// [`replay`] with a list of its own: the levels after each interval before the
+/// first violation, or after all T, and what was found.
+///
+/// # Errors
+///
+/// In this order: 1 to 5 for the job; 14.
+///
+/// # Examples
+///
+/// The best plan over a line with one bucket sends four grains in interval 2.
+///
+/// ```
+/// use upload_planner::{best_plan, replayed, written, Bucket, Header, Levels};
+/// use upload_planner::{Refusal, Replayed, Violation};
+///
+/// let one = Header {
+///     units: 2,
+///     delay: 1,
+///     decoder: 4,
+///     bucket: 3,
+///     drain: 2,
+///     level: 0,
+///     fill: 0,
+///     rates: 3,
+///     choices: 2,
+///     second: None,
+/// };
+/// let job_of = |header: Header| {
+///     written(&header, &[0, 2, 4], &[4, 2, 5, 2], &[10, 30, 12, 40])
+/// };
+/// let job = job_of(one)?;
+/// let best = best_plan(&job, &[])?;
+/// assert_eq!(best.entries, [0, 255, 2, 0, 1, 1]);
+///
+/// let (levels, found) = replayed(&job, &[], &best.entries)?;
+/// assert_eq!(levels.len(), 3);
+/// assert_eq!(levels[1], Levels { decoder: 0, bucket: 2, second: None });
+/// assert_eq!(found, Replayed::Clean(best.totals));
+///
+/// // A second bucket for one grain, from which three drain, takes four.
+/// let fast = Bucket { size: 1, drain: 3, level: 0 };
+/// let job = job_of(Header { second: Some(fast), ..one })?;
+/// let (levels, found) = replayed(&job, &[], &best.entries)?;
+/// let second: Vec<_> = levels.iter().map(|level| level.second).collect();
+/// assert_eq!(second, [Some(0), Some(1), Some(0)]);
+/// let Replayed::Clean(totals) = found else { panic!("the plan is admissible") };
+/// assert_eq!((totals.unused_grains, totals.second_unused), (2, Some(3)));
+///
+/// // One from which two drain does not, and the best plan is another.
+/// let slow = Bucket { size: 1, drain: 2, level: 0 };
+/// let job = job_of(Header { second: Some(slow), ..one })?;
+/// let (levels, found) = replayed(&job, &[], &best.entries)?;
+/// assert_eq!(levels, [Levels { decoder: 0, bucket: 0, second: Some(0) }]);
+/// let violation = Violation::SecondBucketOver;
+/// assert_eq!(found, Replayed::Violated { violation, interval: 2 });
+/// assert_eq!(best_plan(&job, &[])?.entries, [1, 255, 1, 0, 1, 1]);
+/// # Ok::<(), Refusal>(())
+/// ```
+pub fn replayed(
+    job: &[u8],
+    calls: &[Call],
+    entries: &[u8],
+) -> Result<(Vec<Levels>, Replayed), Refusal> {
+    let opened = open(job)?;
+    let mut levels = vec![0; opened.level_numbers()];
+    let found = replay(job, calls, entries, &mut levels)?;
+    let held = match found {
+        Replayed::Clean(_) => opened.intervals,
+        Replayed::Violated { interval, .. } => interval - 1,
+    };
+    Ok((Levels::each(&levels, opened.buckets).take(held).collect(), found))
 }
 
 /// Writes a job's bytes from its header and lists, and says how many they are:
@@ -592,6 +776,7 @@ pub fn write(
 ///     fill: 0,
 ///     rates: 3,
 ///     choices: 2,
+///     second: None,
 /// };
 /// let rates = [0, 2, 4];
 /// let sizes = [4, 2, 5, 2];

@@ -19,21 +19,38 @@ pub const OPEN_VALUES: usize = 4;
 /// How many values [`calls`] writes: how many pins stand at the end, the sum of
 /// their grains, the sum of their distortions.
 pub const CALLS_VALUES: usize = 3;
-/// How many values [`plan`] writes: distortion, source grains, channel grains,
-/// unused grains.
+/// How many values [`plan`] writes for a job with one bucket: distortion, source
+/// grains, channel grains, unused grains.
 pub const PLAN_VALUES: usize = 4;
-/// How many values [`replay`] writes: 0 or the violation's number; its interval or
-/// 0; then those of [`plan`], each 0 where there is a violation. The numbers are 1
-/// for decoder short, 2 for decoder over, 3 for bucket over and 4 for a pin not
-/// held; decoder over is tested first.
+/// How many values [`plan`] writes for a job with two buckets, where the unused
+/// grains of the second come last. A list of so many is long enough for every job.
+pub const PLAN_VALUES_MOST: usize = 5;
+/// How many values [`replay`] writes for a job with one bucket: 0 or the
+/// violation's number; its interval or 0; then those of [`plan`], each 0 where
+/// there is a violation. The numbers are 1 for decoder short, 2 for decoder over,
+/// 3 for bucket over, 4 for a pin not held and 5 for second bucket over. They are
+/// tested in the order 2, 1, 3, 5, 4.
 pub const REPLAY_VALUES: usize = 6;
+/// How many values [`replay`] writes for a job with two buckets. A list of so many
+/// is long enough for every job.
+pub const REPLAY_VALUES_MOST: usize = 7;
 /// How many values [`write()`] writes: the bytes that the job took.
 pub const WRITE_VALUES: usize = 1;
 
-/// How many fields [`write()`] takes: N, d, the sizes of decoder and bucket, the
-/// drain, the starting levels of decoder and bucket, P, M. Another count is
-/// refused with 3, as a field out of range is.
+/// How many levels [`replay`] writes for each interval of a job with one bucket:
+/// the decoder's, then the bucket's.
+pub const LEVELS: usize = 2;
+/// How many levels [`replay`] writes for each interval of a job with two buckets:
+/// the second bucket's comes last.
+pub const LEVELS_MOST: usize = 3;
+
+/// How many fields [`write()`] takes for a job with one bucket: N, d, the sizes of
+/// decoder and bucket, the drain, the starting levels of decoder and bucket, P, M.
 pub const FIELDS: usize = 9;
+/// How many fields [`write()`] takes for a job with two buckets: those nine, then
+/// the second bucket's size, drain and starting level. A count that is neither is
+/// refused with 3, as a field out of range is.
+pub const FIELDS_MOST: usize = 12;
 
 #[link(name = "upload", kind = "static")]
 extern "C" {

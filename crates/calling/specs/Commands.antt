@@ -12,7 +12,8 @@ use Rattle.format.specs.Parser.{Parser, done, _>>=_, on-took}
 use Rattle.format.specs.Records.{Form, Filled, plain-form, record-either, filled-bytes}
 use Rattle.format.specs.JobBytes.{header-in, parse}
 use Rattle.pinning.specs.PinSet.{PinSet, fresh}
-use Rattle.pinning.specs.Calls.{no-header, Handed, refuse, take-in, call}
+use Rattle.pinning.specs.Calls.{Handed, refuse, take-in, call}
+use Rattle.format.specs.JobBytes.{no-header}
 
 -- the kinds of the command records, which calls as numbers have too
 abbrev pub pins-kind : ℕ

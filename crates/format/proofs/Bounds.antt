@@ -1,18 +1,19 @@
 -- What a well-formed job's values keep to, index by index, and that a job which keeps to it is well formed: `Limited` and `OpensExactly`.
 use Prim.Native.Nat.{ℕ, zero, suc, _+_, _-_, _≤_, _<_}
-use mathlib.Core.Path.{_≡_, sym, _∙_, ap}
+use mathlib.Core.Path.{_≡_, refl, sym, _∙_, ap}
 use mathlib.Core.Option.{Option, none, some}
-use mathlib.Core.List.{List, [], _∷_, _++_}
+use mathlib.Core.List.{List, [], _∷_, _++_, zipWith}
 use native.Mathlib.Omega.{arith}
 use lib.ListN.{length, getD, drop, take-append-drop}
 use lib.Seq.{length-take-le}
-use Rattle.model.specs.Job.{Coding, Job, intervals, nothing, codingAt, coding, ChoiceFits, waits, decodes}
+use Rattle.model.specs.Job.{Bucket, bucketAt, Coding, Job, intervals, nothing, codingAt, coding, ChoiceFits, waits, decodes}
 use Rattle.model.specs.Table.{Bounded}
 use Rattle.format.specs.Limits.{AllKept}
 use Rattle.format.specs.Parser.{took, Each}
 use Rattle.format.specs.Parser as P
-use Rattle.format.specs.JobBytes.{rate-limits, coding-limits, header-in, parse, encode, UnitKept, WellFormed}
+use Rattle.format.specs.JobBytes.{largest-sizes, bucket-limits, rate-limits, coding-limits, policed, header-in, parse, encode, UnitKept, WellFormed}
 use Rattle.format.specs.Claims.{InLimits, Limited, OpensExactly}
+use Rattle.format.proofs.Header.{buckets-count}
 use Rattle.format.proofs.RoundTrip.{parse-encode, encode-parse, sized}
 
 module _ (low : ℕ) where
@@ -44,20 +45,92 @@ each-at [] d t i h = absurd (omega arith)
 each-at (a ∷ l) d (P.one-more q t) zero h = q
 each-at (a ∷ l) d (P.one-more q t) (suc i) h = each-at l d t i (omega arith)
 
+-- one bucket or two, each within its limits and with a starting level within its size
+record BucketsIn (bs : List Bucket) (ls : List ℕ) : Type 0 where
+  some : 1 ≤ length bs
+  few : length bs ≤ 2
+  fills-count : length ls ≡ length bs
+  first-size : bucketAt bs 0 .size ≤ 255
+  second-size : bucketAt bs 1 .size ≤ 63
+  drains : (i : ℕ) → i < length bs → bucketAt bs i .drain ≤ 4095
+  fills : (i : ℕ) → i < length bs → getD ls i 0 ≤ bucketAt bs i .size
+
+buckets-in : (bs : List Bucket) (ls : List ℕ) → length ls ≡ length bs → 1 ≤ length bs → length bs ≤ 2 → AllKept (bucket-limits largest-sizes (zipWith policed bs ls)) → BucketsIn bs ls
+unfolding zipWith policed
+buckets-in [] ls e s f k = absurd (omega arith)
+buckets-in (a ∷ bs) [] e s f k = absurd (omega arith)
+buckets-in (a ∷ []) (l ∷ []) e s f k = record {
+  some = omega arith;
+  few = omega arith;
+  fills-count = refl;
+  first-size = omega arith;
+  second-size = omega arith;
+  drains = λ i h. at i h;
+  fills = λ i h. level i h;
+}
+  where
+    at : (i : ℕ) → i < 1 → bucketAt (a ∷ []) i .drain ≤ 4095
+    at zero h = omega arith
+    at (suc i) h = absurd (omega arith)
+
+    level : (i : ℕ) → i < 1 → getD (l ∷ []) i 0 ≤ bucketAt (a ∷ []) i .size
+    level zero h = omega arith
+    level (suc i) h = absurd (omega arith)
+buckets-in (a ∷ []) (l ∷ m ∷ ls) e s f k = absurd (omega arith)
+buckets-in (a ∷ b ∷ []) (l ∷ []) e s f k = absurd (omega arith)
+buckets-in (a ∷ b ∷ []) (l ∷ m ∷ []) e s f k = record {
+  some = omega arith;
+  few = omega arith;
+  fills-count = refl;
+  first-size = omega arith;
+  second-size = omega arith;
+  drains = λ i h. at i h;
+  fills = λ i h. level i h;
+}
+  where
+    at : (i : ℕ) → i < 2 → bucketAt (a ∷ b ∷ []) i .drain ≤ 4095
+    at zero h = omega arith
+    at (suc zero) h = omega arith
+    at (suc (suc i)) h = absurd (omega arith)
+
+    level : (i : ℕ) → i < 2 → getD (l ∷ m ∷ []) i 0 ≤ bucketAt (a ∷ b ∷ []) i .size
+    level zero h = omega arith
+    level (suc zero) h = omega arith
+    level (suc (suc i)) h = absurd (omega arith)
+buckets-in (a ∷ b ∷ []) (l ∷ m ∷ n ∷ ls) e s f k = absurd (omega arith)
+buckets-in (a ∷ b ∷ c ∷ bs) (l ∷ ls) e s f k = absurd (omega arith)
+
+buckets-kept : (bs : List Bucket) (ls : List ℕ) → BucketsIn bs ls → AllKept (bucket-limits largest-sizes (zipWith policed bs ls))
+unfolding zipWith policed
+buckets-kept [] ls t = absurd (omega (arith, t .some))
+buckets-kept (a ∷ bs) [] t = absurd (omega (arith, t .fills-count))
+buckets-kept (a ∷ []) (l ∷ ls) t = let d = t .drains 0 (omega arith) in let k = t .fills 0 (omega arith) in omega (arith, t .first-size, d, k)
+buckets-kept (a ∷ b ∷ bs) (l ∷ []) t = absurd (omega (arith, t .fills-count))
+buckets-kept (a ∷ b ∷ bs) (l ∷ m ∷ ls) t =
+    let d = t .drains 0 (omega arith) in
+    let k = t .fills 0 (omega arith) in
+    let e = t .drains 1 (omega arith) in
+    let n = t .fills 1 (omega arith) in
+    omega (arith, t .first-size, t .second-size, d, k, e, n)
+
 pub limited : (j : Job) → WellFormed j → InLimits j
 unfolding header-in codingAt
 limited j w =
     let k = w .header in
+    let n : length (zipWith policed (j .line .buckets) (j .start .buckets)) ≡ length (j .line .buckets) = buckets-count (j .line .buckets) (j .start .buckets) (w .fills) in
+    let bs = buckets-in (j .line .buckets) (j .start .buckets) (w .fills) (omega arith) (omega arith) (k .1 .1 .1 .1 .1 .1 .1) in
     let unit : (i : ℕ) → i < length (j .units) → UnitKept (j .choices) (getD (j .units) i []) = λ i h. each-at (j .units) [] (w .units) i h in
     let kept : (i x : ℕ) → i < length (j .units) → x < j .choices → CodingKept (getD (getD (j .units) i []) x nothing) = λ i x h l. coding-kept (getD (j .units) i []) (unit i h .limits) x (omega (arith, unit i h .count)) in
     record {
       units = (omega arith, omega arith);
       delay = omega arith;
       decoder = omega arith;
-      one-bucket = (w .one-bucket, w .one-fill);
-      bucket = omega arith;
-      drain = omega arith;
-      start = (omega arith, omega arith);
+      level = omega arith;
+      buckets = (bs .some, bs .few, bs .fills-count);
+      first-size = bs .first-size;
+      second-size = bs .second-size;
+      drains = bs .drains;
+      fills = bs .fills;
       rates = (omega arith, omega arith);
       choices = (omega arith, omega arith);
       rate = rate-most-from _ (j .line .rates) (w .rates);
@@ -84,9 +157,37 @@ each-from (a ∷ l) d f = P.one-more (f 0 (omega arith)) (each-from l d (λ i h.
 pub within : (j : Job) → InLimits j → WellFormed j
 unfolding header-in codingAt
 within j l = record {
-  one-bucket = l .one-bucket .0;
-  one-fill = l .one-bucket .1;
-  header = omega arith;
+  fills = l .buckets .2;
+  header = (
+    omega arith,
+    (
+      omega arith,
+      (
+        omega arith,
+        (
+          omega arith,
+          (
+            omega arith,
+            (
+              omega arith,
+              (
+                omega (arith, buckets-count (j .line .buckets) (j .start .buckets) (l .buckets .2), l .buckets),
+                buckets-kept (j .line .buckets) (j .start .buckets) (record {
+                  some = l .buckets .0;
+                  few = l .buckets .1;
+                  fills-count = l .buckets .2;
+                  first-size = l .first-size;
+                  second-size = l .second-size;
+                  drains = l .drains;
+                  fills = l .fills;
+                }),
+              ),
+            ),
+          ),
+        ),
+      ),
+    ),
+  );
   rates = rates-within _ (j .line .rates) (λ h. omega arith) (l .rate) (l .rise);
   units = each-from (j .units) [] (λ i h. record {
     count = l .codings i h;

@@ -16,7 +16,7 @@ use Rattle.format.specs.Records.{Form, head-widths, head-values, record-
 use Rattle.format.specs.Claims.{Due, HeadOrder, BodyOrder}
 use Rattle.format.proofs.Fields.{two-at}
 use Rattle.format.proofs.Limits.{AllOf}
-use Rattle.format.proofs.Parsing.{not-took, record-is}
+use Rattle.format.proofs.Parsing.{RecordTook, not-took, record-is}
 use Rattle.format.proofs.Spelling.{fields-spelled}
 use Rattle.format.proofs.Exact.{Exact, Back, RecordGood, exact-record}
 use Rattle.format.proofs.Orders.{due-head, due-body}
@@ -79,13 +79,18 @@ module _ (f g : Form) where
         good = record { due = ap (λ (G : Form). G .kind) t; good = rw t (x .good) };
       })
 
-  -- what a record takes: its head and its body
-  pub either-size : (b : List ℕ) (r : Filled) (n : ℕ) → record-either f g b ≡ took r n → (4 ≤ n) × (n ≤ length b)
+  -- the record that was read, of its form
+  pub either-is : (b : List ℕ) (r : Filled) (n : ℕ) → record-either f g b ≡ took r n → RecordTook (form-for f g (kind-in b)) b (r .values) n
   unfolding record-either
-  either-size b r n e =
+  either-is b r n e =
       let F = form-for f g (kind-in b) in
       let v = valued (filled F) (record-due F b) r n e in
-      let t = record-is F b (v .0) n (v .1) in
+      rw (v .2) (record-is F b (v .0) n (v .1))
+
+  -- what a record takes: its head and its body
+  pub either-size : (b : List ℕ) (r : Filled) (n : ℕ) → record-either f g b ≡ took r n → (4 ≤ n) × (n ≤ length b)
+  either-size b r n e =
+      let t = either-is b r n e in
       (omega (arith, t .size), omega (arith, t .size, t .there))
 
   pub exact-either : ((k : ℕ) → Fit head-widths (head-values (form-for f g k))) → Exact (record-either f g) FilledGood (filled-bytes f g)

@@ -181,3 +181,10 @@ exact-same Fine x p q = record {
   forth = λ a f rest. x .forth a (p a f) rest;
   back = λ b B a n e. let r = x .back b B a n e in record { size = r .size; same = r .same; good = q a (r .good) };
 }
+
+-- the same pair, with what is written said in another way
+pub exact-written : {A : Type 0} {read : Parser A} {Good : A → Type 0} {write : A → List ℕ} → Exact read Good write → (other : A → List ℕ) → ((a : A) → Good a → write a ≡ other a) → Exact read Good other
+exact-written x other w = record {
+  forth = λ a g rest. rw (← w a g) (x .forth a g rest);
+  back = λ b B a n e. let r = x .back b B a n e in record { size = r .size; same = r .same ∙ w a (r .good); good = r .good };
+}

@@ -8,10 +8,11 @@ pub mod Parsing
 pub mod Header
 pub mod Spelling
 pub mod Exact
-pub mod RoundTrip
-pub mod Bounds
 pub mod Orders
 pub mod Either
+pub mod RoundTrip
+pub mod Bounds
+pub mod Opening
 pub mod Places
 pub mod Opened
 pub mod Examples

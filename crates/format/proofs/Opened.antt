@@ -1,14 +1,15 @@
 -- Bytes that hold a job with a header: what the header says of the job, and the laws of what opens.
 use Prim.Native.Nat.{ℕ, _+_, _≤_}
-use mathlib.Core.Path.{_≡_, sym, _∙_, ap, ap₂}
-use mathlib.Core.List.{List, [], _∷_}
+use mathlib.Core.Path.{_≡_, sym, _∙_, ap}
+use mathlib.Core.List.{List, map}
 use native.Mathlib.Omega.{arith}
 use lib.ListN.{length}
-use Rattle.model.specs.Job.{bucketAt, Job, intervals}
+use Rattle.model.specs.Job.{Job, intervals}
+use Rattle.format.specs.Limits.{AllKept}
 use Rattle.format.specs.Parser.{took}
-use Rattle.format.specs.JobBytes.{Header, header-in, job-of, parse, job-or-none, job-in, Opens, WellFormed}
+use Rattle.format.specs.JobBytes.{Header, bucket-of, header-in, job-of, parse, job-or-none, job-in, Opens, WellFormed, header-limits}
 use Rattle.format.specs.Claims.{InLimits, LookedUp}
-use Rattle.format.proofs.RoundTrip.{one-only}
+use Rattle.format.proofs.RoundTrip.{job-back}
 use Rattle.format.proofs.Bounds.{limited}
 use Rattle.format.proofs.Places.{well-read, looks-up}
 
@@ -62,22 +63,18 @@ module _ (b : List ℕ) (h : Header) (o : Opens b h) where
   unfolding header-in
   decoder-is = ap (λ (k : Header). k .decoder) (o .header-is)
 
-  pub bucket-is : bucketAt (job-in b .line .buckets) 0 .size ≡ h .bucket
-  unfolding header-in
-  bucket-is = ap (λ (k : Header). k .bucket) (o .header-is)
+  -- the job is that of its header
+  parts-are : job-in b ≡ job-of h (job-in b .line .rates) (job-in b .units)
+  parts-are = job-back (job-in b) job-formed ∙ ap (λ (k : Header). job-of k (job-in b .line .rates) (job-in b .units)) (o .header-is)
 
-  pub drain-most : h .drain ≤ 4095
-  unfolding header-in
-  drain-most = omega (arith, job-limits .drain, ap (λ (k : Header). k .drain) (o .header-is))
+  pub buckets-are : job-in b .line .buckets ≡ map bucket-of (h .buckets)
+  unfolding job-of
+  buckets-are = ap (λ (j : Job). j .line .buckets) parts-are
 
-  pub buckets-are : job-in b .line .buckets ≡ record { size = h .bucket; drain = h .drain } ∷ []
-  unfolding header-in job-of
-  buckets-are =
-      one-only (job-in b .line .buckets) (record { size = 0; drain = 0 }) (job-formed .one-bucket)
-      ∙ ap (λ (k : Header). job-of k [] [] .line .buckets) (o .header-is)
+  pub start-is : job-in b .start ≡ record { decoder = h .level; buckets = map (λ k. k .fill) (h .buckets) }
+  unfolding job-of
+  start-is = ap (λ (j : Job). j .start) parts-are
 
-  pub start-is : job-in b .start ≡ record { decoder = h .level; buckets = h .fill ∷ [] }
-  unfolding header-in
-  start-is =
-      ap₂ (λ (d : ℕ) (ks : List ℕ). record { decoder = d; buckets = ks }) (ap (λ (k : Header). k .level) (o .header-is))
-      (one-only (job-in b .start .buckets) 0 (job-formed .one-fill) ∙ ap (λ (k : Header). k .fill ∷ []) (o .header-is))
+  -- one bucket or two
+  pub header-kept : AllKept (header-limits h)
+  header-kept = rw (← o .header-is) (job-formed .header)

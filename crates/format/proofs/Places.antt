@@ -11,14 +11,16 @@ use Rattle.base.specs.If.{if_then_else_}
 use Rattle.model.specs.Job.{Coding, Job, nothing, codingAt}
 use Rattle.format.specs.Fields.{number, total, fields}
 use Rattle.format.specs.Parser.{took, Parser, many, Each, no-more, one-more}
-use Rattle.format.specs.Records.{Form, record-due}
-use Rattle.format.specs.JobBytes.{Header, header-of, codings, entry-widths, header-form, rates-form, unit-form, job-of, header-in, header-parser, unit-parser, parse, UnitKept}
+use Rattle.format.specs.Records.{Form, record-due, kind-in, record-either}
+use Rattle.format.specs.JobBytes.{Header, further-buckets, policed-by, header-of, codings, entry-widths, bucket-widths, header-widths, header-form, rates-form, unit-form, job-of, header-in, header-parser, unit-parser, parse, UnitKept}
 use Rattle.format.specs.Places.{field-at, header-size, rates-size, unit-size, rate-place, rate-at, coding-place, coding-at}
 use Rattle.format.specs.Claims.{WellRead, LooksUp}
 use Rattle.format.proofs.Fields.{nth-field}
 use Rattle.format.proofs.Records.{total-same, total-entries}
 use Rattle.format.proofs.Parsing.{RecordTook, bound, record-is, fields-length, many-is, many-length, done-is}
 use Rattle.format.proofs.Header.{header-back}
+use Rattle.format.proofs.Either.{either-is}
+use Rattle.format.proofs.RoundTrip.{header-total, either-count, level-each}
 
 -- a field that is wholly there
 pub field-there : (w : ℕ) (b : List ℕ) (at : ℕ) → at + w ≤ length b → field-at w b at ≡ number (take w (drop at b))
@@ -44,41 +46,75 @@ unit-is m b cs n e =
     let t = record-is (unit-form m) b (h .value) (h .size) (h .first) in
     record { values = h .value; taken = moved (unit-form m) refl (sym k) t; codings-are = z .0; size = k ∙ t .size ∙ rw total-entries }
 
+-- how many further buckets the fields of a header tell
+policed-count : (n : ℕ) (b : List ℕ) → length (policed-by (fields (bucket-widths n) b)) ≡ n
+unfolding policed-by fields bucket-widths
+policed-count zero b = refl
+policed-count (suc n) b = ap suc (policed-count n (drop 2 (drop 2 (drop 2 b))))
+
+pub header-count : (n : ℕ) (b : List ℕ) → further-buckets (header-of (fields (header-form n .widths) b)) ≡ n
+unfolding header-of header-form header-widths fields
+header-count n b = omega (arith, policed-count n (drop 2 (drop 2 (drop 2 (drop 2 (drop 2 (drop 2 (drop 2 (drop 2 (drop 2 b))))))))))
+
 -- the parts of a job that was read
 pub record ParseTook (b : List ℕ) (j : Job) (n : ℕ) : Type 0 where
   pub values : List ℕ
-  pub header-taken : RecordTook header-form b values header-size
   pub header : Header
+  pub few : further-buckets header ≤ 1
+  pub header-taken : RecordTook (header-form (further-buckets header)) b values (header-size header)
   pub header-is : header ≡ header-of values
   pub rates : List ℕ
-  pub rates-taken : RecordTook (rates-form (header .rates)) (drop header-size b) rates (rates-size (header .rates))
+  pub rates-taken : RecordTook (rates-form (header .rates)) (drop (header-size header) b) rates (rates-size (header .rates))
   pub units : List (List Coding)
   pub sizes : ℕ
-  pub units-taken : many (header .units) (unit-parser (header .choices)) (drop (header-size + rates-size (header .rates)) b) ≡ took units sizes
+  pub units-taken : many (header .units) (unit-parser (header .choices)) (drop (header-size header + rates-size (header .rates)) b) ≡ took units sizes
   pub job-is : j ≡ job-of header rates units
-  pub size : n ≡ header-size + rates-size (header .rates) + sizes
+  pub size : n ≡ header-size header + rates-size (header .rates) + sizes
+
+-- its header
+record HeaderTook (b : List ℕ) (h : Header) (n : ℕ) : Type 0 where
+  values : List ℕ
+  few : further-buckets h ≤ 1
+  taken : RecordTook (header-form (further-buckets h)) b values n
+  is : h ≡ header-of values
+  size : n ≡ header-size h
+
+header-took : (b : List ℕ) (h : Header) (n : ℕ) → header-parser b ≡ took h n → HeaderTook b h n
+unfolding header-parser
+header-took b h n e =
+    let y = bound (record-either (header-form 0) (header-form 1)) _ b h n e in
+    let z = done-is (header-of (y .value .values)) (drop (y .size) b) h (y .more) (y .second) in
+    let c = either-count (kind-in b) in
+    let t : RecordTook (header-form (c .0)) b (y .value .values) (y .size) = rw (c .2) at (either-is (header-form 0) (header-form 1) b (y .value) (y .size) (y .first)) in
+    let k : further-buckets h ≡ c .0 = ap (λ (i : Header). further-buckets i) (z .0 ∙ ap header-of (t .values)) ∙ header-count (c .0) (drop 4 b) in
+    let s : n ≡ y .size = omega (arith, y .sizes, z .1) in
+    record {
+      values = y .value .values;
+      few = omega (arith, k, c .1);
+      taken = rw k (moved (header-form (c .0)) refl (sym s) t);
+      is = z .0;
+      size = omega (arith, s, t .size, header-total (c .0), k);
+    }
 
 pub parse-is : (b : List ℕ) (j : Job) (n : ℕ) → parse b ≡ took j n → ParseTook b j n
-unfolding parse header-parser
+unfolding parse
 parse-is b j n e =
     let x = bound header-parser _ b j n e in
     let h = x .value in
-    let y = bound (record-due header-form) _ b h (x .size) (x .first) in
-    let z = done-is (header-of (y .value)) (drop (y .size) b) h (y .more) (y .second) in
-    let t = record-is header-form b (y .value) (y .size) (y .first) in
-    let s : y .size ≡ header-size = t .size ∙ unfold header-form total in refl in
-    let d : x .size ≡ header-size = omega (arith, x .sizes, y .sizes, z .1) in
+    let t = header-took b h (x .size) (x .first) in
+    let d : x .size ≡ header-size h = t .size in
     let u = bound (record-due (rates-form (h .rates))) _ (drop (x .size) b) j (x .more) (x .second) in
     let r = record-is (rates-form (h .rates)) (drop (x .size) b) (u .value) (u .size) (u .first) in
     let k : u .size ≡ rates-size (h .rates) = r .size ∙ unfold rates-form in (rw total-same) in
     let w = bound (many (h .units) (unit-parser (h .choices))) _ (drop (u .size) (drop (x .size) b)) j (u .more) (u .second) in
     let v = done-is (job-of h (u .value) (w .value)) (drop (w .size) (drop (u .size) (drop (x .size) b))) j (w .more) (w .second) in
-    let at : x .size + u .size ≡ header-size + rates-size (h .rates) = omega arith in
+    let at : x .size + u .size ≡ header-size h + rates-size (h .rates) = omega arith in
     record {
-      values = y .value;
-      header-taken = moved header-form refl s t;
+      values = t .values;
       header = h;
-      header-is = z .0;
+      few = t .few;
+      header-taken = moved (header-form (further-buckets h)) refl d (t .taken);
+      header-is = t .is;
       rates = u .value;
       rates-taken = moved (rates-form (h .rates)) (ap (λ (i : ℕ). drop i b) d) k r;
       units = w .value;
@@ -115,34 +151,35 @@ entry-at (suc m) (suc x) b h =
 
 module _ (b : List ℕ) (j : Job) (n : ℕ) (t : ParseTook b j n) (h : Header) (e : t .header ≡ h) where
   -- where a rate stands
-  rates-of : j .line .rates ≡ fields (replicate (h .rates) 2) (drop (header-size + 4) b)
+  rates-of : j .line .rates ≡ fields (replicate (h .rates) 2) (drop (header-size h + 4) b)
   unfolding job-of rates-form
   rates-of = ap (λ (k : Job). k .line .rates) (t .job-is) ∙ t .rates-taken .values ∙ rw (drop-drop, e)
 
-  rates-room : header-size + rates-size (h .rates) ≤ length b
+  rates-room : header-size h + rates-size (h .rates) ≤ length b
   unfolding rates-form
   rates-room =
       let g : t .header .rates ≡ h .rates = ap (λ (k : Header). k .rates) e in
-      let d : length (drop header-size b) ≡ length b - header-size = length-drop header-size b in
+      let w : length (drop (header-size (t .header)) b) ≡ length (drop (header-size h) b) = ap (λ (k : Header). length (drop (header-size k) b)) e in
+      let d : length (drop (header-size h) b) ≡ length b - header-size h = length-drop (header-size h) b in
       let s : total (replicate (t .header .rates) 2) ≡ 2 * t .header .rates = total-same (t .header .rates) 2 in
       omega (arith, t .rates-taken .there)
 
-  rate-here : (y : ℕ) → y < h .rates → rate-at b y ≡ getD (j .line .rates) y 0
+  rate-here : (y : ℕ) → y < h .rates → rate-at b h y ≡ getD (j .line .rates) y 0
   unfolding rate-at rate-place
   rate-here y l =
-      field-there 2 b (header-size + 4 + 2 * y) (omega (arith, rates-room))
-      ∙ sym (ap (λ (r : List ℕ). getD r y 0) rates-of ∙ nth-field (h .rates) 2 y (drop (header-size + 4) b) l ∙ rw drop-drop)
+      field-there 2 b (header-size h + 4 + 2 * y) (omega (arith, rates-room))
+      ∙ sym (ap (λ (r : List ℕ). getD r y 0) rates-of ∙ nth-field (h .rates) 2 y (drop (header-size h + 4) b) l ∙ rw drop-drop)
 
   -- where a unit's record stands, and one of its entries
   unit-place : ℕ → ℕ
-  unit-place i = header-size + rates-size (h .rates) + i * unit-size (h .choices)
+  unit-place i = header-size h + rates-size (h .rates) + i * unit-size (h .choices)
 
   unit-here : (i : ℕ) → i < h .units → unit-parser (h .choices) (drop (unit-place i) b) ≡ took (getD (j .units) i []) (unit-size (h .choices))
   unfolding job-of unit-place
   unit-here i l =
       let q : j .units ≡ t .units = ap (λ (k : Job). k .units) (t .job-is) in
-      let m : many (h .units) (unit-parser (h .choices)) (drop (header-size + rates-size (h .rates)) b) ≡ took (t .units) (t .sizes) = rw (← e) (t .units-taken) in
-      rw (q, ← drop-drop) (many-at (unit-parser (h .choices)) (unit-size (h .choices)) (λ c a k z. unit-is (h .choices) c a k z .size) (h .units) (drop (header-size + rates-size (h .rates)) b) (t .units) (t .sizes) i [] m l)
+      let m : many (h .units) (unit-parser (h .choices)) (drop (header-size h + rates-size (h .rates)) b) ≡ took (t .units) (t .sizes) = rw (← e) (t .units-taken) in
+      rw (q, ← drop-drop) (many-at (unit-parser (h .choices)) (unit-size (h .choices)) (λ c a k z. unit-is (h .choices) c a k z .size) (h .units) (drop (header-size h + rates-size (h .rates)) b) (t .units) (t .sizes) i [] m l)
 
   module _ (i x : ℕ) (l : i < h .units) (k : x < h .choices) where
     unit-taken : UnitTook (h .choices) (drop (unit-place i) b) (getD (j .units) i []) (unit-size (h .choices))
@@ -174,7 +211,7 @@ header-of-parts b j n t =
     sym (
     ap header-in (t .job-is)
     ∙ header-back (t .header) (t .rates) (t .units) (ap length (t .rates-taken .values) ∙ fields-length _ _ ∙ length-replicate (t .header .rates) 2)
-    (many-length (unit-parser (t .header .choices)) (t .header .units) (drop (header-size + rates-size (t .header .rates)) b) (t .units) (t .sizes) (t .units-taken))
+    (many-length (unit-parser (t .header .choices)) (t .header .units) (drop (header-size (t .header) + rates-size (t .header .rates)) b) (t .units) (t .sizes) (t .units-taken))
     )
 
 -- a unit that was read has its entries, each within its limits
@@ -208,11 +245,10 @@ well-read b j n e =
     let t = parse-is b j n e in
     let h = header-of-parts b j n t in
     record {
-      one-bucket = ap (λ (i : Job). length (i .line .buckets)) (t .job-is);
-      one-fill = ap (λ (i : Job). length (i .start .buckets)) (t .job-is);
+      fills = level-each j (t .header) _ _ (t .job-is);
       header = rw (sym h ∙ t .header-is) (t .header-taken .kept);
       rates = rw (ap (λ (i : Job). i .line .rates) (t .job-is)) (t .rates-taken .kept);
-      units = rw (t .job-is) (units-well (t .header .choices) (t .header .units) (drop (header-size + rates-size (t .header .rates)) b) (t .units) (t .sizes) (t .units-taken));
+      units = rw (t .job-is) (units-well (t .header .choices) (t .header .units) (drop (header-size (t .header) + rates-size (t .header .rates)) b) (t .units) (t .sizes) (t .units-taken));
     }
 
 pub looks-up : LooksUp
@@ -240,6 +276,6 @@ unit-within m b cs n e = let t = unit-is m b cs n e .taken in omega (arith, t .t
 pub read-within : (b : List ℕ) (j : Job) (n : ℕ) → parse b ≡ took j n → n ≤ length b
 read-within b j n e =
     let t = parse-is b j n e in
-    let start = header-size + rates-size (t .header .rates) in
+    let start = header-size (t .header) + rates-size (t .header .rates) in
     let u = many-within (unit-parser (t .header .choices)) (unit-within (t .header .choices)) (t .header .units) (drop start b) (t .units) (t .sizes) (t .units-taken) in
     omega (arith, t .size, rates-room b j n t (t .header) refl, u, length-drop start b)

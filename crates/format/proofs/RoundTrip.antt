@@ -1,23 +1,25 @@
 -- A job's bytes there and back: what `encode` writes `parse` reads, and what `parse` reads `encode` writes.
-use Prim.Native.Nat.{ℕ, zero, suc, _+_, _*_, _<_}
+use Prim.Native.Nat.{ℕ, zero, suc, _+_, _*_, _-_, _≤_, _<_}
 use mathlib.Core.Path.{_≡_, refl, sym, ap, ap₂, _∙_}
-use mathlib.Core.List.{List, [], _∷_, _++_}
+use mathlib.Core.List.{List, [], _∷_, _++_, map}
 use native.Mathlib.Omega.{arith}
 use native.Mathlib.Nat.{zero-mul, suc-mul}
-use lib.ListN.{length, getD, replicate, length-append, length-replicate}
+use lib.ListN.{length, getD, drop, replicate, length-append, length-map, length-replicate}
 use Rattle.model.specs.Job.{Bucket, Coding, Job}
-use Rattle.format.specs.JobBytes.{Header, header-values, header-of, header-limits, rate-limits, unit-values, codings, coding-limits, entry-widths, header-form, rates-form, unit-form, job-of, header-in, header-parser, unit-parser, parse, unit-bytes, encode, UnitKept, WellFormed}
+use Rattle.format.specs.JobBytes.{Policed, Header, further-buckets, bucket-values, policed-by, no-bucket, nine-values, header-values, header-of, largest-sizes, bucket-limits, header-limits, rate-limits, unit-values, codings, coding-limits, entry-widths, bucket-widths, header-widths, header-kind, header-form, rates-form, unit-form, bucket-of, job-of, header-in, header-parser, unit-parser, parse, unit-bytes, header-bytes, encode, UnitKept, WellFormed}
 use Rattle.format.specs.Fields.{total, Fit}
 use Rattle.format.specs.Fields as F
-use Rattle.format.specs.Limits.{AllKept}
+use Rattle.format.specs.Limits.{limit, AllKept}
 use Rattle.format.specs.Parser.{done, _>>=_, many, all-bytes, Each}
 use Rattle.format.specs.Parser as P
-use Rattle.format.specs.Records.{Form, head-widths, head-values, record-due, record-bytes}
+use Rattle.format.specs.Records.{Form, head-widths, head-values, record-due, form-for, Filled, filled, filled-bytes, record-bytes}
 use Rattle.format.specs.Places.{unit-size}
 use Rattle.format.specs.Claims.{ReadsBack, WritesBack, Sized}
 use Rattle.format.proofs.Records.{total-same, total-entries}
-use Rattle.format.proofs.Header.{header-back}
-use Rattle.format.proofs.Exact.{Exact, RecordGood, record-length, exact-record, exact-map, exact-then, exact-many, exact-same}
+use Rattle.format.proofs.Header.{buckets-apart, header-back}
+use Rattle.format.proofs.Exact.{Exact, RecordGood, record-length, exact-record, exact-map, exact-then, exact-many, exact-same, exact-written}
+use Rattle.format.proofs.Either.{FilledGood, exact-either, first-form, second-form, either-form}
+use mathlib.Core.Logic.{_⊎_, inl, inr}
 
 -- values of two bytes
 small : (vs : List ℕ) → Each (λ v. v < 65536) vs → Fit (replicate (length vs) 2) vs
@@ -36,28 +38,149 @@ each-small : (vs : List ℕ) → Small vs → Each (λ v. v < 65536) vs
 each-small [] h = P.no-more
 each-small (v ∷ vs) h = P.one-more (h .0) (each-small vs (h .1))
 
--- the header: nine values within their limits
-header-small : (h : Header) → AllKept (header-limits h) → Each (λ v. v < 65536) (header-values h)
-unfolding header-values
-header-small h k = each-small (header-values h) (omega arith)
+-- the header: nine values within their limits, and three for each further bucket
+bucket-fit : (ss : List ℕ) (ks : List Policed) → length ks ≤ length ss → Each (λ s. s < 65536) ss → AllKept (bucket-limits ss ks) → Fit (bucket-widths (length ks)) (bucket-values ks)
+unfolding bucket-widths bucket-values
+bucket-fit ss [] h e k = F.no-more
+bucket-fit [] (p ∷ ks) h e k = absurd (omega arith)
+bucket-fit (s ∷ ss) (p ∷ ks) h (P.one-more l e) k =
+    F.one-more {w = 2} {v = p .size} (omega arith)
+    (F.one-more {w = 2} {v = p .drain} (omega arith)
+    (F.one-more {w = 2} {v = p .fill} (omega arith) (bucket-fit ss ks (omega arith) e (k .1 .1 .1))))
 
-nine-back : {vs : List ℕ} → Fit (2 ∷ 2 ∷ 2 ∷ 2 ∷ 2 ∷ 2 ∷ 2 ∷ 2 ∷ 2 ∷ []) vs → header-values (header-of vs) ≡ vs
-unfolding header-values header-of
-nine-back (F.one-more h₁ (F.one-more h₂ (F.one-more h₃ (F.one-more h₄ (F.one-more h₅ (F.one-more h₆ (F.one-more h₇ (F.one-more h₈ (F.one-more h₉ F.no-more))))))))) = refl
+-- the nine fields are small
+abbrev Nine : Header → Policed → Type 0
+Nine h p = (h .units < 65536) × (h .delay < 65536) × (h .decoder < 65536) × (p .size < 65536) × (p .drain < 65536) × (h .level < 65536) × (p .fill < 65536) × (h .rates < 65536) × (h .choices < 65536)
 
-header-good : (h : Header) → AllKept (header-limits h) → RecordGood header-form (header-values h)
-unfolding header-form header-values header-of
-header-good h k = record { fit = small (header-values h) (header-small h k); kept = k }
+nine-fit : (h : Header) (p : Policed) (n : ℕ) (more : List ℕ) → Nine h p → Fit (bucket-widths n) more → Fit (header-widths n) (nine-values h p more)
+unfolding header-widths nine-values
+nine-fit h p n more k t =
+    F.one-more {w = 2} (k .0) (F.one-more {w = 2} (k .1) (F.one-more {w = 2} (k .2) (F.one-more {w = 2} (k .3) (F.one-more {w = 2} (k .4) (F.one-more {w = 2} (k .5) (F.one-more {w = 2} (k .6) (F.one-more {w = 2} (k .7) (F.one-more {w = 2} (k .8) t))))))))
 
-header-head : Fit head-widths (head-values header-form)
-unfolding header-form total
-header-head = head-fit header-form (omega arith) (omega arith)
+-- the fields of a header, there and back
+policed-back : (ks : List Policed) → policed-by (bucket-values ks) ≡ ks
+unfolding policed-by bucket-values
+policed-back [] = refl
+policed-back (p ∷ ks) = ap (λ (l : List Policed). p ∷ l) (policed-back ks)
 
-exact-header : Exact header-parser (λ h. AllKept (header-limits h)) (λ h. record-bytes header-form (header-values h))
-unfolding header-parser header-form header-values header-of total
+record Triples (n : ℕ) (vs : List ℕ) : Type 0 where
+  back : bucket-values (policed-by vs) ≡ vs
+  count : length (policed-by vs) ≡ n
+
+triples : (n : ℕ) {vs : List ℕ} → Fit (bucket-widths n) vs → Triples n vs
+unfolding bucket-widths policed-by bucket-values
+triples zero F.no-more = record { back = refl; count = refl }
+triples (suc n) (F.one-more {v = a} h (F.one-more {v = b} k (F.one-more {v = c} l t))) =
+    let r = triples n t in
+    record { back = ap (λ (m : List ℕ). a ∷ b ∷ c ∷ m) (r .back); count = ap suc (r .count) }
+
+nine-back : (n : ℕ) {vs : List ℕ} → Fit (header-widths n) vs → (header-values (header-of vs) ≡ vs) × (length (header-of vs .buckets) ≡ suc n)
+unfolding header-values header-of nine-values header-widths
+nine-back n (F.one-more {v = a} h₁ (F.one-more {v = b} h₂ (F.one-more {v = c} h₃ (F.one-more {v = d} h₄ (F.one-more {v = e} h₅ (F.one-more {v = f} h₆ (F.one-more {v = g} h₇ (F.one-more {v = h} h₈ (F.one-more {v = i} h₉ t))))))))) =
+    let r = triples n t in
+    (ap (λ (m : List ℕ). a ∷ b ∷ c ∷ d ∷ e ∷ f ∷ g ∷ h ∷ i ∷ m) (r .back), ap suc (r .count))
+
+-- the same header with these buckets
+with-policed : Header → List Policed → Header
+with-policed h ks = record { units = h .units; delay = h .delay; decoder = h .decoder; level = h .level; buckets = ks; rates = h .rates; choices = h .choices }
+
+again : (h : Header) (ks : List Policed) → 1 ≤ length ks → header-of (nine-values h (getD ks 0 no-bucket) (bucket-values (drop 1 ks))) ≡ with-policed h ks
+unfolding header-of nine-values with-policed
+again h [] l = absurd (omega arith)
+again h (p ∷ ks) l = rw (policed-back ks)
+
+header-again : (h : Header) → 1 ≤ length (h .buckets) → header-of (header-values h) ≡ h
+unfolding header-values with-policed
+header-again h l = again h (h .buckets) l
+
+header-fit : (h : Header) → AllKept (header-limits h) → Fit (header-widths (further-buckets h)) (header-values h)
+unfolding header-values with-policed
+header-fit h k = go (h .buckets) k
+  where
+    go : (ks : List Policed) → AllKept (header-limits (with-policed h ks)) → Fit (header-widths (length ks - 1)) (nine-values h (getD ks 0 no-bucket) (bucket-values (drop 1 ks)))
+    go [] k = absurd (omega arith)
+    go (p ∷ ks) k =
+        let e : length (p ∷ ks) - 1 ≡ length ks = omega arith in
+        let nine : Nine h p = unfold with-policed in (omega arith) in
+        rw e (nine-fit h p (length ks) (bucket-values ks) nine (bucket-fit (drop 1 largest-sizes) ks (unfold with-policed in (omega arith)) (each-small (drop 1 largest-sizes) (omega arith)) (k .1 .1 .1 .1 .1 .1 .1 .1 .1 .1)))
+
+header-good : (h : Header) → AllKept (header-limits h) → RecordGood (header-form (further-buckets h)) (header-values h)
+unfolding header-form
+header-good h k = record { fit = header-fit h k; kept = rw (header-again h (omega arith)) k }
+
+-- how many bytes its record has
+bucket-total : (n : ℕ) → total (bucket-widths n) ≡ 6 * n
+unfolding total bucket-widths
+bucket-total zero = refl
+bucket-total (suc n) = omega (arith, bucket-total n)
+
+pub header-total : (n : ℕ) → total (header-form n .widths) ≡ 18 + 6 * n
+unfolding header-form header-widths total
+header-total n = omega (arith, bucket-total n)
+
+kind-small : (n : ℕ) → header-kind n < 65536
+unfolding header-kind
+kind-small zero = omega arith
+kind-small (suc n) = omega arith
+
+header-head : (n : ℕ) → n ≤ 1 → Fit head-widths (head-values (header-form n))
+header-head n h = head-fit (header-form n) (omega (arith, header-total n)) (unfold header-form in (kind-small n))
+
+-- the form of a record of either kind
+pub kinds-apart : header-form 0 .kind ≡ header-form 1 .kind → ⊥
+unfolding header-form header-kind
+kinds-apart e = omega arith
+
+pub form-count : (n : ℕ) → n ≤ 1 → form-for (header-form 0) (header-form 1) (header-form n .kind) ≡ header-form n
+form-count zero h = first-form (header-form 0) (header-form 1) kinds-apart _ refl
+form-count (suc zero) h = second-form (header-form 0) (header-form 1) kinds-apart _ refl
+form-count (suc (suc n)) h = absurd (omega arith)
+
+pub either-count : (k : ℕ) → (n : ℕ) × (n ≤ 1) × (form-for (header-form 0) (header-form 1) k ≡ header-form n)
+either-count k = go (either-form (header-form 0) (header-form 1) kinds-apart k)
+  where
+    go : ((form-for (header-form 0) (header-form 1) k ≡ header-form 0) ⊎ (form-for (header-form 0) (header-form 1) k ≡ header-form 1)) → (n : ℕ) × (n ≤ 1) × (form-for (header-form 0) (header-form 1) k ≡ header-form n)
+    go (inl e) = (0, omega arith, e)
+    go (inr e) = (1, omega arith, e)
+
+head-either : (k : ℕ) → Fit head-widths (head-values (form-for (header-form 0) (header-form 1) k))
+head-either k = let c = either-count k in rw (c .2) (header-head (c .0) (c .1))
+
+-- a header as a record, and the bytes of it
+header-record : Header → Filled
+header-record h = filled (header-form (further-buckets h)) (header-values h)
+
+record-good : (h : Header) → AllKept (header-limits h) → FilledGood (header-form 0) (header-form 1) (header-record h)
+unfolding header-record
+record-good h k =
+    let e = form-count (further-buckets h) (omega arith) in
+    record { due = ap (λ (f : Form). f .kind) e; good = rw e (header-good h k) }
+
+values-good : (n : ℕ) (vs : List ℕ) → n ≤ 1 → RecordGood (header-form n) vs → AllKept (header-limits (header-of vs)) × (header-values (header-of vs) ≡ vs) × (further-buckets (header-of vs) ≡ n)
+unfolding header-form
+values-good n vs h g =
+    let r = nine-back n (g .fit) in
+    (g .kept, r .0, omega (arith, r .1))
+
+good-values : (r : Filled) → FilledGood (header-form 0) (header-form 1) r → AllKept (header-limits (header-of (r .values))) × (header-record (header-of (r .values)) ≡ r)
+unfolding header-record
+good-values r g =
+    let c = either-count (r .kind) in
+    let v = values-good (c .0) (r .values) (c .1) (rw (c .2) at (g .good)) in
+    let k : header-form (further-buckets (header-of (r .values))) .kind ≡ r .kind = ap (λ (n : ℕ). header-form n .kind) (v .2) ∙ ap (λ (f : Form). f .kind) (sym (c .2)) ∙ g .due in
+    (v .0, λ i. record { kind = k i; values = (v .1) i })
+
+written-so : (h : Header) → AllKept (header-limits h) → filled-bytes (header-form 0) (header-form 1) (header-record h) ≡ header-bytes h
+unfolding filled-bytes header-record header-bytes
+written-so h k = ap (λ (f : Form). record-bytes f (header-values h)) (form-count (further-buckets h) (omega arith))
+
+exact-header : Exact header-parser (λ h. AllKept (header-limits h)) header-bytes
+unfolding header-parser header-record
 exact-header =
-    exact-map (exact-record header-form header-head) header-of header-values (λ h. AllKept (header-limits h))
-    (λ h k. (header-good h k, refl)) (λ vs g. (g .kept, nine-back (g .fit)))
+    exact-written
+    (exact-map (exact-either (header-form 0) (header-form 1) head-either) (λ r. header-of (r .values)) header-record (λ h. AllKept (header-limits h))
+    (λ h k. (record-good h k, header-again h (omega arith))) good-values)
+    header-bytes written-so
 
 -- the rates
 rates-small : (low : ℕ) (rs : List ℕ) → AllKept (rate-limits low rs) → Each (λ v. v < 65536) rs
@@ -159,12 +282,6 @@ module _ (h : Header) (k : AllKept (header-limits h)) where
 told-header : (h : Header) (j : Job) → RestGood h j → header-in j ≡ h
 told-header h j g = ap header-in (g .units .job-is) ∙ header-back h (j .line .rates) (j .units) (g .rates .count) (g .units .count)
 
--- a list of one
-pub one-only : {A : Type 0} (l : List A) (d : A) → length l ≡ 1 → l ≡ getD l 0 d ∷ []
-one-only [] d e = absurd (omega arith)
-one-only (a ∷ []) d e = refl
-one-only (a ∷ b ∷ l) d e = absurd (omega arith)
-
 -- a job with other buckets and levels
 with-buckets : Job → List Bucket → List ℕ → Job
 with-buckets j bs ls = record {
@@ -177,7 +294,7 @@ with-buckets j bs ls = record {
 
 pub job-back : (j : Job) → WellFormed j → j ≡ job-of (header-in j) (j .line .rates) (j .units)
 unfolding job-of header-in with-buckets
-job-back j w = ap₂ (with-buckets j) (one-only (j .line .buckets) (record { size = 0; drain = 0 }) (w .one-bucket)) (one-only (j .start .buckets) 0 (w .one-fill))
+job-back j w = let r = buckets-apart (j .line .buckets) (j .start .buckets) (w .fills) in ap₂ (with-buckets j) (sym (r .0)) (sym (r .1))
 
 pub record JobGood (j : Job) : Type 0 where
   pub header : AllKept (header-limits (header-in j))
@@ -193,11 +310,17 @@ good-job j w = record {
   };
 }
 
+each-level : (ks : List Policed) → length (map (λ k. k .fill) ks) ≡ length (map bucket-of ks)
+each-level ks = length-map ks (λ k. k .fill) ∙ sym (length-map ks bucket-of)
+
+pub level-each : (j : Job) (h : Header) (rs : List ℕ) (us : List (List Coding)) → j ≡ job-of h rs us → length (j .start .buckets) ≡ length (j .line .buckets)
+unfolding job-of
+level-each j h rs us e = ap (λ (i : Job). length (i .start .buckets)) e ∙ each-level (h .buckets) ∙ sym (ap (λ (i : Job). length (i .line .buckets)) e)
+
 well-formed : (j : Job) → JobGood j → WellFormed j
-unfolding header-in job-of rates-form
+unfolding header-in rates-form
 well-formed j g = record {
-  one-bucket = ap (λ (i : Job). length (i .line .buckets)) (g .rest .units .job-is);
-  one-fill = ap (λ (i : Job). length (i .start .buckets)) (g .rest .units .job-is);
+  fills = level-each j (header-in j) _ _ (g .rest .units .job-is);
   header = g .header;
   rates = g .rest .rates .limits;
   units = g .rest .units .units;
@@ -231,11 +354,12 @@ units-length m h (u ∷ us) (P.one-more k t) =
     ∙ omega (arith, suc-mul (length us) (unit-size m))
 
 pub sized : Sized
-unfolding encode header-in header-form rates-form total
+unfolding encode header-bytes header-in rates-form
 sized j w =
     let h = header-in j in
-    let r = record-length header-form (header-values h) (header-head) (header-good h (w .header) .fit) in
+    let k = w .header in
+    let r = record-length (header-form (further-buckets h)) (header-values h) (header-head (further-buckets h) (omega arith)) (header-good h k .fit) in
     let s = record-length (rates-form (h .rates)) (j .line .rates) (rates-head (h .rates) (omega arith)) (rates-good (h .rates) (j .line .rates) (record { count = refl; limits = w .rates }) .fit) in
     let u = units-length (h .choices) (omega arith) (j .units) (w .units) in
     let units = all-bytes (unit-bytes (h .choices)) (j .units) in
-    omega (arith, total-same (h .rates) 2, length-append (record-bytes header-form (header-values h)) (record-bytes (rates-form (h .rates)) (j .line .rates) ++ units), length-append (record-bytes (rates-form (h .rates)) (j .line .rates)) units)
+    omega (arith, header-total (further-buckets h), total-same (h .rates) 2, length-append (header-bytes h) (record-bytes (rates-form (h .rates)) (j .line .rates) ++ units), length-append (record-bytes (rates-form (h .rates)) (j .line .rates)) units)

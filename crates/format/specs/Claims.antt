@@ -1,7 +1,7 @@
 -- What is claimed of a job's bytes: each claim is a type, which a theorem of proofs/ inhabits.
 use Prim.Native.Nat.{ℕ, suc, _+_, _*_, _-_, _≤_, _<_}
 use mathlib.Core.Path.{_≡_}
-use mathlib.Core.Logic.{_↔_}
+use mathlib.Core.Logic.{_↔_, _⊎_}
 use mathlib.Core.Option.{none, some}
 use mathlib.Core.List.{List, [], _∷_, _++_}
 use lib.ListN.{length, getD, take, drop, replicate}
@@ -11,7 +11,7 @@ use Rattle.format.specs.Limits.{AllKept}
 use Rattle.format.specs.Choices.{choice-of}
 use Rattle.format.specs.Parser.{refused, took, Parser}
 use Rattle.format.specs.Records.{record-due}
-use Rattle.format.specs.JobBytes.{Header, header-limits, rate-limits, codings, coding-limits, entry-widths, rates-form, job-of, header-in, header-parser, unit-parser, parse, encode, WellFormed}
+use Rattle.format.specs.JobBytes.{Policed, Header, header-limits, rate-limits, codings, coding-limits, entry-widths, rates-form, job-of, header-in, header-parser, unit-parser, parse, encode, WellFormed}
 use Rattle.format.specs.Places.{job-size, rate-at, coding-at}
 
 -- what is written is read back, whatever stands behind it
@@ -37,22 +37,24 @@ WellRead = (b : List ℕ) (j : Job) (n : ℕ) → parse b ≡ took j n → WellF
 
 -- a reader that looks up one field of a job that opens finds the job's value
 pub record LookedUp (b : List ℕ) (j : Job) : Type 0 where
-  pub rate : (y : ℕ) → y < length (j .line .rates) → rate-at b y ≡ getD (j .line .rates) y 0
+  pub rate : (y : ℕ) → y < length (j .line .rates) → rate-at b (header-in j) y ≡ getD (j .line .rates) y 0
   pub coding : (u x : ℕ) → 1 ≤ u → u ≤ length (j .units) → x < j .choices → coding-at b (header-in j) u x ≡ codingAt j (u - 1) x
 
 abbrev pub LooksUp : Type 0
 LooksUp = (b : List ℕ) (j : Job) (n : ℕ) → parse b ≡ took j n → LookedUp b j
 
--- document 01's limits, index by index: what a job keeps to
+-- the limits of document 01 and of document 02, E5, index by index: what a job keeps to
 pub record InLimits (j : Job) : Type 0 where
   pub units : (1 ≤ length (j .units)) × (length (j .units) ≤ 512)
   pub delay : j .delay ≤ 64
   pub decoder : j .line .decoder ≤ 255
-  -- one bucket, with one starting level
-  pub one-bucket : (length (j .line .buckets) ≡ 1) × (length (j .start .buckets) ≡ 1)
-  pub bucket : bucketAt (j .line .buckets) 0 .size ≤ 255
-  pub drain : bucketAt (j .line .buckets) 0 .drain ≤ 4095
-  pub start : (j .start .decoder ≤ j .line .decoder) × (getD (j .start .buckets) 0 0 ≤ bucketAt (j .line .buckets) 0 .size)
+  pub level : j .start .decoder ≤ j .line .decoder
+  -- one bucket or two, each with a starting level; the second is the smaller
+  pub buckets : (1 ≤ length (j .line .buckets)) × (length (j .line .buckets) ≤ 2) × (length (j .start .buckets) ≡ length (j .line .buckets))
+  pub first-size : bucketAt (j .line .buckets) 0 .size ≤ 255
+  pub second-size : bucketAt (j .line .buckets) 1 .size ≤ 63
+  pub drains : (i : ℕ) → i < length (j .line .buckets) → bucketAt (j .line .buckets) i .drain ≤ 4095
+  pub fills : (i : ℕ) → i < length (j .line .buckets) → getD (j .start .buckets) i 0 ≤ bucketAt (j .line .buckets) i .size
   pub rates : (1 ≤ length (j .line .rates)) × (length (j .line .rates) ≤ 16)
   pub choices : (1 ≤ j .choices) × (j .choices ≤ 31)
   pub rate : (y : ℕ) → y < length (j .line .rates) → getD (j .line .rates) y 0 ≤ 4095
@@ -93,23 +95,33 @@ pub record RecordOrder {A : Type 0} (read : Parser A) (kind body number : ℕ) (
   pub head : HeadOrder read (Due kind body b) b
   pub rest : BodyOrder read kind body number value Kept b
 
--- kind 1's nine fields, each by its place in the record
-abbrev pub header-at : List ℕ → Header
-header-at b = record {
+-- the fields of kinds 1 and 8, each by its place in the record: nine, then three of the second bucket
+abbrev pub header-with : List Policed → List ℕ → Header
+header-with more b = record {
   units = u16-at b 4;
   delay = u16-at b 6;
   decoder = u16-at b 8;
-  bucket = u16-at b 10;
-  drain = u16-at b 12;
   level = u16-at b 14;
-  fill = u16-at b 16;
+  buckets = record { size = u16-at b 10; drain = u16-at b 12; fill = u16-at b 16 } ∷ more;
   rates = u16-at b 18;
   choices = u16-at b 20;
 }
 
--- the records of document 01: kind 1 with nine u16, kind 2 with P of them, kind 3 with M entries of 6 bytes
+abbrev pub one-bucket-at : List ℕ → Header
+one-bucket-at b = header-with [] b
+
+abbrev pub two-buckets-at : List ℕ → Header
+two-buckets-at b = header-with (record { size = u16-at b 22; drain = u16-at b 24; fill = u16-at b 26 } ∷ []) b
+
+-- the header that is due: kind 1 with nine u16, or kind 8 with twelve
+pub record HeaderOrder (b : List ℕ) : Type 0 where
+  pub head : HeadOrder header-parser (Due 1 18 b ⊎ Due 8 24 b) b
+  pub one : BodyOrder header-parser 1 18 3 one-bucket-at (λ h. AllKept (header-limits h)) b
+  pub two : BodyOrder header-parser 8 24 3 two-buckets-at (λ h. AllKept (header-limits h)) b
+
+-- the records of a job: its header, kind 2 with P u16, kind 3 with M entries of 6 bytes
 pub record RecordOrders (b : List ℕ) : Type 0 where
-  pub header : RecordOrder header-parser 1 18 3 header-at (λ h. AllKept (header-limits h)) b
+  pub header : HeaderOrder b
   pub rates : (p : ℕ) → RecordOrder (record-due (rates-form p)) 2 (2 * p) 4 (λ l. fields (replicate p 2) (drop 4 l)) (λ rs. AllKept (rate-limits 0 rs)) b
   pub unit : (m : ℕ) → RecordOrder (unit-parser m) 3 (6 * m) 5 (λ l. codings (fields (entry-widths m) (drop 4 l))) (λ u. AllKept (coding-limits u)) b
 

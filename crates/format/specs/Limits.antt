@@ -1,6 +1,6 @@
 -- Limits on values, each with the refusal that it is checked by, and the first of a list that is not kept.
 use Prim.Native.Nat.{ℕ, _≤_}
-use mathlib.Core.Bool.{Bool, false}
+use mathlib.Core.Bool.{Bool, true, false}
 use mathlib.Core.Option.{Option, none, some}
 use mathlib.Core.List.{List, [], _∷_}
 use lib.Dec.{leb}
@@ -21,6 +21,11 @@ kept l = if leb (l .low) (l .value) then leb (l .value) (l .high) else false
 -- both limits are kept
 unfoldable pub both-kept : Limit → Limit → Bool
 both-kept l m = if kept l then kept m else false
+
+-- all of a list are kept, as a test
+unfoldable pub each-kept : List Limit → Bool
+each-kept [] = true
+each-kept (l ∷ ls) = if kept l then each-kept ls else false
 
 -- the refusal of the first limit that is not kept
 unfoldable pub broken : List Limit → Option ℕ

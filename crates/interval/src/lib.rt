@@ -1,40 +1,51 @@
 // One interval of a plan: what it does to the levels, what it violates, and what it adds to the totals (document 01, "Levels, interval by interval"). Replay and planner share it.
 ghost use mathlib.Core.Path.{_≡_};
-ghost use mathlib.Core.List.{[], _∷_};
+ghost use mathlib.Core.Bool.{true};
+ghost use mathlib.Core.List.{[]};
+ghost use Prim.Native.Nat.{_+_, _<_};
+ghost use Rattle.base.specs.If.{if_then_else_};
 ghost use Rattle.model.specs.Step.{decoder-step, bucket-step, pin-held, outcome-of};
 ghost use Rattle.format.specs.Choices.{choice-of};
 ghost use Rattle.job.specs.Answers.{plain};
-ghost use Rattle.interval.specs.Answers.{decoded, drained, levels-of, buffers-of, start-of, outcome-is, line-of, totals-of, no-totals, added, Room};
+ghost use Rattle.interval.specs.Answers.{decoded, drained, levels-of, start-of, outcome-is, line-of, totals-of, no-totals, added, OfHeader, SecondStep, Room};
 use job::Choice;
 use job::Header;
 
-// Distortion, source size (the sum of R), channel size (the sum of C) and the drain that the bucket left unused.
+// Distortion, source size (the sum of R), channel size (the sum of C) and the drain that each bucket left unused: of two, where the line has a second bucket (document 02, E5).
 pub struct Totals {
     pub distortion: u32,
     pub source: u32,
     pub channel: u32,
     pub unused: u32,
+    pub two: bool,
+    pub unused2: u32,
 }
 
-// The violations, document 01's breaches, in the order in which they are tested.
+// The violations, document 01's breaches and document 02's of a second bucket, in the order in which they are tested.
 pub enum Violation {
     DecoderOverflow,
     DecoderUnderflow,
     BucketOverflow,
+    SecondOverflow,
     PinNotHeld,
 }
 
-// The levels at an interval's end.
+// The levels at an interval's end: the decoder's, and one for each bucket.
 pub struct Levels {
     pub decoder: u16,
     pub bucket: u16,
+    pub two: bool,
+    pub bucket2: u16,
 }
 
-// What a step reads of a line: the decoder's size, the bucket's size and its drain.
+// What a step reads of a line: the decoder's size, and each bucket's size and drain.
 pub struct Buffers {
     pub decoder: u16,
     pub bucket: u16,
     pub drain: u16,
+    pub two: bool,
+    pub bucket2: u16,
+    pub drain2: u16,
 }
 
 // The decoder's part of an interval: its level at the end, or the limit that it violates.
@@ -66,14 +77,16 @@ pub struct Interval {
 
 impl Totals {
     // Of no interval.
-    pub fn none() -> Totals
-        ensures { λ r. ⌜ r ≡ no-totals ⌝ }
+    pub fn none(buffers: Buffers) -> Totals
+        ensures { λ r. ⌜ totals-of r ≡ no-totals (line-of buffers [] .buckets) ⌝ }
     {
         Totals {
             distortion: 0,
             source: 0,
             channel: 0,
             unused: 0,
+            two: buffers.two,
+            unused2: 0,
         }
     }
 }
@@ -85,7 +98,9 @@ impl Levels {
     {
         Levels {
             decoder: header.level,
-            bucket: header.fill,
+            bucket: header.first.fill,
+            two: header.two,
+            bucket2: header.second.fill,
         }
     }
 }
@@ -93,12 +108,15 @@ impl Levels {
 impl Buffers {
     // Those of a job's own line.
     pub fn of(header: Header) -> Buffers
-        ensures { λ r. ⌜ r ≡ buffers-of (plain header) ⌝ }
+        ensures { λ r. ⌜ OfHeader r (plain header) ⌝ }
     {
         Buffers {
             decoder: header.decoder,
-            bucket: header.bucket,
-            drain: header.drain,
+            bucket: header.first.size,
+            drain: header.first.drain,
+            two: header.two,
+            bucket2: header.second.size,
+            drain2: header.second.drain,
         }
     }
 }
@@ -148,17 +166,35 @@ pub fn pin_holds(pin: Choice, choice: Choice) -> bool
     choice == pin
 }
 
-// One interval from the levels before it: the decoder, the bucket, the pin, in this order.
+// The second bucket's part; nothing where there is none.
+fn second_step(buffers: Buffers, before: Levels, sent: u16) -> Drained
+    ensures { λ r. ⌜ SecondStep buffers before sent r ⌝ }
+{
+    if buffers.two & before.two {
+        return bucket_step(buffers.drain2, before.bucket2, sent);
+    }
+    Drained {
+        level: 0,
+        unused: 0,
+    }
+}
+
+// One interval from the levels before it: the decoder, the buckets in turn, the pin, in this order.
 pub fn step(buffers: Buffers, before: Levels, x: Interval) -> Outcome
-    ensures { λ r. ⌜ outcome-is r ≡ outcome-of (line-of buffers []) (choice-of (x .pin)) (choice-of (x .choice)) (before .decoder) (before .bucket ∷ []) (x .sent) (x .size) ⌝ }
+    ensures { λ r. ⌜ outcome-is r ≡ outcome-of (line-of buffers []) (choice-of (x .pin)) (choice-of (x .choice)) (before .decoder) (levels-of before .buckets) (x .sent) (x .size) ⌝ }
 {
     match decoder_step(buffers.decoder, before.decoder, x.sent, x.size) {
         Decoded::Violated(v) => Outcome::Violates(v),
         Decoded::Level(decoder) => {
             let bucket = bucket_step(buffers.drain, before.bucket, x.sent);
+            let other = second_step(buffers, before, x.sent);
             let level = bucket.level;
+            let second = other.level;
             if (buffers.bucket as u32) < level {
                 return Outcome::Violates(Violation::BucketOverflow);
+            }
+            if (buffers.bucket2 as u32) < second {
+                return Outcome::Violates(Violation::SecondOverflow);
             }
             if !pin_holds(x.pin, x.choice) {
                 return Outcome::Violates(Violation::PinNotHeld);
@@ -166,21 +202,38 @@ pub fn step(buffers: Buffers, before: Levels, x: Interval) -> Outcome
             Outcome::Reaches(Levels {
                 decoder,
                 bucket: level as u16,
+                two: buffers.two & before.two,
+                bucket2: second as u16,
             })
         }
     }
 }
 
+// What goes unused of the second bucket's drain with one interval more; nothing where there is none.
+fn more_unused(two: bool, sum: u32, unused: u32) -> u32
+    requires { ⌜ (two ≡ true → sum + unused < 4294967296) ⌝ }
+    ensures { λ r. ⌜ r ≡ (if two then sum + unused else 0) ⌝ }
+{
+    if two {
+        return sum + unused;
+    }
+    0
+}
+
 // The totals with one interval more, from the levels before it.
 pub fn with_interval(sum: Totals, buffers: Buffers, before: Levels, x: Interval) -> Totals
     requires { ⌜ Room sum x ⌝ }
-    ensures { λ r. ⌜ totals-of r ≡ added sum (buffers .drain) before x ⌝ }
+    ensures { λ r. ⌜ totals-of r ≡ added (totals-of sum) (line-of buffers [] .buckets) (levels-of before .buckets) x ⌝ }
 {
     let bucket = bucket_step(buffers.drain, before.bucket, x.sent);
+    let second = second_step(buffers, before, x.sent);
+    let two = sum.two & (buffers.two & before.two);
     Totals {
         distortion: sum.distortion + x.distortion,
         source: sum.source + x.size as u32,
         channel: sum.channel + x.sent as u32,
         unused: sum.unused + bucket.unused,
+        two,
+        unused2: more_unused(two, sum.unused2, second.unused),
     }
 }

@@ -3,5 +3,6 @@ pub mod Verdicts
 pub mod Fields
 pub mod Records
 pub mod Loops
+pub mod Told
 pub mod Opening
 pub mod Answers

@@ -1,7 +1,10 @@
 -- Laws of opening: the three stages of `parse`, from the verdict on each record.
-use Prim.Native.Nat.{ℕ, suc, _+_, _*_, _-_, _≤_, _<_}
+use Prim.Native.Nat.{ℕ, zero, suc, _+_, _*_, _-_, _≤_, _<_}
 use mathlib.Core.Path.{_≡_, refl, sym, ap, _∙_}
+use mathlib.Core.Bool.{Bool, true, false}
+use mathlib.Core.Option.{none, some}
 use mathlib.Core.List.{List, _∷_}
+use lib.Dec.{eqb}
 use native.Mathlib.Omega.{arith}
 use native.Mathlib.Nat.{sub-zero, sub-self, add-zero}
 use lib.ListN.{length, take, drop, replicate, length-drop, length-replicate}
@@ -10,8 +13,12 @@ use Rattle.model.specs.Job.{Coding, Job}
 use Rattle.format.specs.Fields.{total, fields}
 use Rattle.format.specs.Limits.{AllKept}
 use Rattle.format.specs.Parser.{Result, refused, took, Parser, done, further, onward, _>>=_, many, refusal-of, with-value}
-use Rattle.format.specs.Records.{record-due}
-use Rattle.format.specs.JobBytes.{Header, header-of, header-limits, codings, header-form, rates-form, unit-form, job-of, header-in, header-parser, unit-parser, parse}
+use Rattle.format.specs.Records.{record-due, form-for, record-either}
+use Rattle.format.specs.JobBytes.{Header, header-of, header-limits, codings, header-kind, header-form, rates-form, unit-form, job-of, header-in, header-parser, unit-parser, parse}
+use Rattle.base.specs.If.{if_then_else_}
+use Rattle.format.specs.Places.{field-at, header-size}
+use Rattle.format.proofs.RoundTrip.{header-total}
+use Rattle.format.proofs.Places.{header-count}
 use Rattle.format.proofs.Records.{total-same, total-entries}
 use Rattle.format.proofs.Parsing.{RecordTook, has-refused, bind-refused, bind-on, record-is, record-took, fields-length, many-refused, many-length}
 use Rattle.format.proofs.Header.{header-back}
@@ -20,8 +27,9 @@ use Rattle.job.specs.declared.Verdict.the-variants as v
 use Rattle.job.specs.declared.Due.{Due}
 use Rattle.job.specs.declared.Due.the-variants as d
 use Rattle.job.specs.declared.Reading.the-variants as r
-use Rattle.job.specs.Answers.{verdict, form-of, reading, answering}
+use Rattle.job.specs.Answers.{extra, verdict, form-of, reading, answering}
 use Rattle.job.proofs.Records.{rest-of}
+use Rattle.job.proofs.Told.{told-refused, told-took}
 
 -- the verdict r on a record at `at`, as the code has it
 module _ (due : Due) (b : List ℕ) (at : ℕ) (r : Verdict) (e : verdict r ≡ refusal-of (record-due (form-of due) (take (length b - at) (drop at b)))) where
@@ -110,97 +118,119 @@ after-header h = do
   units ← many (h .units) (unit-parser (h .choices))
   done (job-of h rates units)
 
-module _ (h : Header) (rs : List ℕ) (k : ℕ) (l : length rs ≡ h .rates) (b : List ℕ) where
+form-told : (two : Bool) → (if two then header-form 1 else header-form 0) ≡ header-form (extra two)
+unfolding if_then_else_ extra
+form-told true = refl
+form-told false = refl
+
+-- behind a header of w bytes
+module _ (w : ℕ) (h : Header) (rs : List ℕ) (k : ℕ) (l : length rs ≡ h .rates) (b : List ℕ) where
   -- the answer of the units' readings is that of the whole
-  whole : (s : Result (List (List Coding))) → ((us : List (List Coding)) (m : ℕ) → s ≡ took us m → length us ≡ h .units) → with-value header-in (further 22 (further k (onward s (λ us. done (job-of h rs us)) b))) ≡ answering h (further (22 + k) s)
+  whole : (s : Result (List (List Coding))) → ((us : List (List Coding)) (m : ℕ) → s ≡ took us m → length us ≡ h .units) → with-value header-in (further w (further k (onward s (λ us. done (job-of h rs us)) b))) ≡ answering h (further (w + k) s)
   unfolding with-value further onward answering done
   whole (refused n) g = refl
   whole (took us m) g =
-      let e : 22 + (k + (m + 0)) ≡ 22 + k + m = omega arith in
+      let e : w + (k + (m + 0)) ≡ w + k + m = omega arith in
       rw (e, header-back h rs us l (g us m refl))
 
 module _ (b : List ℕ) where
   -- a refusal of the header's record is that of opening
-  open-refused : (n : ℕ) → record-due header-form b ≡ refused n → reading (r.Refused n) ≡ with-value header-in (parse b)
-  unfolding parse header-parser reading with-value
-  open-refused n e = sym (ap (with-value header-in) (bind-refused _ _ b n (bind-refused (record-due header-form) _ b n e)))
+  open-refused : (n : ℕ) → header-parser b ≡ refused n → reading (r.Refused n) ≡ with-value header-in (parse b)
+  unfolding parse reading with-value
+  open-refused n e = sym (ap (with-value header-in) (bind-refused header-parser _ b n e))
 
-  module _ (h : Header) (vs : List ℕ) (e : record-due header-form b ≡ took vs 22) (q : h ≡ header-of vs) where
-    -- the header is read
-    header-is : header-parser b ≡ took h 22
-    unfolding header-parser done further
-    header-is = bind-on (record-due header-form) _ b vs 22 e ∙ rw q
-
+  module _ (w : ℕ) (h : Header) (e : header-parser b ≡ took h w) where
     -- then all that follows it
-    parse-on : parse b ≡ further 22 (after-header h (drop 22 b))
+    parse-on : parse b ≡ further w (after-header h (drop w b))
     unfolding parse after-header
-    parse-on = bind-on header-parser _ b h 22 header-is
+    parse-on = bind-on header-parser _ b h w e
 
     -- a refusal of the rates' record is that of opening
-    rates-refused : (n : ℕ) → record-due (rates-form (h .rates)) (drop 22 b) ≡ refused n → reading (r.Refused n) ≡ with-value header-in (parse b)
+    rates-refused : (n : ℕ) → record-due (rates-form (h .rates)) (drop w b) ≡ refused n → reading (r.Refused n) ≡ with-value header-in (parse b)
     unfolding after-header reading with-value further
-    rates-refused n g = sym (ap (with-value header-in) (parse-on ∙ ap (further 22) (bind-refused (record-due (rates-form (h .rates))) _ (drop 22 b) n g)))
+    rates-refused n g = sym (ap (with-value header-in) (parse-on ∙ ap (further w) (bind-refused (record-due (rates-form (h .rates))) _ (drop w b) n g)))
 
     -- after the rates the units decide
-    opened : (rs : List ℕ) (k : ℕ) → record-due (rates-form (h .rates)) (drop 22 b) ≡ took rs k → length rs ≡ h .rates → with-value header-in (parse b) ≡ answering h (further (22 + k) (many (h .units) (unit-parser (h .choices)) (drop (22 + k) b)))
+    opened : (rs : List ℕ) (k : ℕ) → record-due (rates-form (h .rates)) (drop w b) ≡ took rs k → length rs ≡ h .rates → with-value header-in (parse b) ≡ answering h (further (w + k) (many (h .units) (unit-parser (h .choices)) (drop (w + k) b)))
     unfolding after-header _>>=_
     opened rs k g l =
-        ap (with-value header-in) (parse-on ∙ ap (further 22) (bind-on (record-due (rates-form (h .rates))) _ (drop 22 b) rs k g))
-        ∙ whole h rs k l (drop k (drop 22 b)) (many (h .units) (unit-parser (h .choices)) (drop k (drop 22 b))) (λ us m z. many-length (unit-parser (h .choices)) (h .units) (drop k (drop 22 b)) us m z)
+        ap (with-value header-in) (parse-on ∙ ap (further w) (bind-on (record-due (rates-form (h .rates))) _ (drop w b) rs k g))
+        ∙ whole w h rs k l (drop k (drop w b)) (many (h .units) (unit-parser (h .choices)) (drop k (drop w b))) (λ us m z. many-length (unit-parser (h .choices)) (h .units) (drop k (drop w b)) us m z)
         ∙ rw drop-drop
 
--- the same from the verdicts, as the code has them: r₁ on the header's record
-module _ (b : List ℕ) (r₁ : Verdict) (e₁ : verdict r₁ ≡ refusal-of (record-due (form-of d.Header) b)) where
-  -- its refusal is that of opening
-  pub first-refused : (n : ℕ) → r₁ ≡ v.Refused n → reading (r.Refused n) ≡ with-value header-in (parse b)
-  unfolding verdict form-of
-  first-refused n q = open-refused b n (has-refused (record-due header-form b) n (sym e₁ ∙ rw q))
+-- the header's record, of the form that its kind tells
+module _ (b : List ℕ) (two : Bool) (t : two ≡ eqb (field-at 2 b 2) 8) where
+  -- what is read as a header where the record of that form is
+  header-refused : (n : ℕ) → refusal-of (record-due (header-form (extra two)) b) ≡ some n → header-parser b ≡ refused n
+  unfolding header-parser header-form header-kind
+  header-refused n e = bind-refused (record-either (header-form 0) (header-form 1)) _ b n (told-refused (header-form 0) (header-form 1) b two t (header-form (extra two)) (form-told two) n e)
 
-  module _ (q₁ : r₁ ≡ v.Fits) where
-    -- without one the header's fields are read
-    header-read : record-due header-form b ≡ took (fields (replicate 9 2) (drop 4 b)) 22
-    unfolding verdict form-of header-form total
-    header-read = record-took header-form b (sym e₁ ∙ rw q₁)
+  header-taken : refusal-of (record-due (header-form (extra two)) b) ≡ none → header-parser b ≡ took (header-of (fields (header-form (extra two) .widths) (drop 4 b))) (22 + 6 * extra two)
+  unfolding header-parser done further
+  header-taken e =
+      let c : 4 + total (header-form (extra two) .widths) + 0 ≡ 22 + 6 * extra two = omega (arith, header-total (extra two)) in
+      bind-on (record-either (header-form 0) (header-form 1)) _ b _ _ (told-took (header-form 0) (header-form 1) b two (unfold header-form header-kind in t) (header-form (extra two)) (form-told two) e) ∙ rw c
 
-    -- and what a record that was read says holds of them
-    header-took : RecordTook header-form b (fields (replicate 9 2) (drop 4 b)) 22
-    header-took = record-is header-form b _ _ header-read
+  -- r₁ is the verdict on it, as the code has it
+  module _ (r₁ : Verdict) (e₁ : verdict r₁ ≡ refusal-of (record-due (header-form (extra two)) b)) where
+    -- its refusal is that of opening
+    pub first-refused : (n : ℕ) → r₁ ≡ v.Refused n → reading (r.Refused n) ≡ with-value header-in (parse b)
+    unfolding verdict
+    first-refused n q = open-refused b n (header-refused n (sym e₁ ∙ rw q))
 
-    -- the header lies within the bytes
-    pub header-room : 22 ≤ length b
-    unfolding header-form total
-    header-room = header-took .there
+    module _ (q₁ : r₁ ≡ v.Fits) where
+      -- without one the header's fields are read
+      no-refusal : refusal-of (record-due (header-form (extra two)) b) ≡ none
+      unfolding verdict
+      no-refusal = sym e₁ ∙ rw q₁
 
-    -- its fields lie within the body that the code takes
-    pub fields-room : 18 ≤ length (take (length b - 4) (drop 4 b))
-    fields-room = rw (rest-of, length-drop) (omega (arith, header-room))
+      -- and what a record that was read says holds of them
+      header-took : RecordTook (header-form (extra two)) b (fields (header-form (extra two) .widths) (drop 4 b)) (4 + total (header-form (extra two) .widths))
+      header-took = record-is (header-form (extra two)) b _ _ (record-took (header-form (extra two)) b no-refusal)
 
-    -- h is the header read
-    module _ (h : Header) (s : h ≡ header-of (fields (replicate 9 2) (take (length b - 4) (drop 4 b)))) where
-      -- the same without the body's end
-      header-here : h ≡ header-of (fields (replicate 9 2) (drop 4 b))
-      header-here = rw (rest-of 4 b) at s
+      -- the header lies within the bytes
+      pub header-room : 22 + 6 * extra two ≤ length b
+      header-room = omega (arith, header-took .there, header-total (extra two))
 
-      -- its fields are within their limits
-      pub header-kept : AllKept (header-limits h)
-      unfolding header-form
-      header-kept = rw header-here (header-took .kept)
+      -- its fields lie within the body that the code takes
+      pub fields-room : 18 + 6 * extra two ≤ length (take (length b - 4) (drop 4 b))
+      fields-room = rw (rest-of, length-drop) (omega (arith, header-room))
 
-      -- r₂ is the verdict on the rates' record
-      module _ (r₂ : Verdict) (e₂ : verdict r₂ ≡ refusal-of (record-due (form-of (d.Rates (h .rates))) (take (length b - 22) (drop 22 b)))) where
-        -- its refusal is that of opening
-        pub second-refused : (n : ℕ) → r₂ ≡ v.Refused n → reading (r.Refused n) ≡ with-value header-in (parse b)
-        unfolding form-of
-        second-refused n q = rates-refused b h _ header-read header-here n (stage-refused (d.Rates (h .rates)) b 22 r₂ e₂ n q)
+      -- h is the header read, and its record takes w bytes
+      module _ (h : Header) (s : h ≡ header-of (fields (header-form (extra two) .widths) (take (length b - 4) (drop 4 b)))) (w : ℕ) (z : w ≡ header-size h) where
+        -- the same without the body's end
+        header-here : h ≡ header-of (fields (header-form (extra two) .widths) (drop 4 b))
+        header-here = rw (rest-of 4 b) at s
 
-        -- without one the rates lie within the bytes
-        pub rates-room : r₂ ≡ v.Fits → 26 + 2 * h .rates ≤ length b
-        unfolding form-of rates-form
-        rates-room q = omega (arith, rw total-same at (stage-room (d.Rates (h .rates)) b 22 r₂ e₂ q header-room))
+        size-here : w ≡ 22 + 6 * extra two
+        size-here = z ∙ ap (λ (i : Header). header-size i) header-here ∙ ap (λ (i : ℕ). 22 + 6 * i) (header-count (extra two) (drop 4 b))
 
-        -- and the units decide
-        pub then-units : r₂ ≡ v.Fits → with-value header-in (parse b) ≡ answering h (further (26 + 2 * h .rates) (many (h .units) (unit-parser (h .choices)) (drop (26 + 2 * h .rates) b)))
-        unfolding form-of rates-form
-        then-units q =
-            let k : 22 + (4 + total (replicate (h .rates) 2)) ≡ 26 + 2 * h .rates = omega (arith, total-same (h .rates) 2) in
-            opened b h _ header-read header-here _ _ (stage-took (d.Rates (h .rates)) b 22 r₂ e₂ q) (fields-length _ _ ∙ length-replicate (h .rates) 2) ∙ rw k
+        header-read : header-parser b ≡ took h w
+        header-read = header-taken no-refusal ∙ rw (← header-here, ← size-here)
+
+        pub front-room : w ≤ length b
+        front-room = omega (arith, size-here, header-room)
+
+        -- its fields are within their limits
+        pub header-kept : AllKept (header-limits h)
+        unfolding header-form
+        header-kept = rw header-here (header-took .kept)
+
+        -- r₂ is the verdict on the rates' record
+        module _ (r₂ : Verdict) (e₂ : verdict r₂ ≡ refusal-of (record-due (form-of (d.Rates (h .rates))) (take (length b - w) (drop w b)))) where
+          -- its refusal is that of opening
+          pub second-refused : (n : ℕ) → r₂ ≡ v.Refused n → reading (r.Refused n) ≡ with-value header-in (parse b)
+          unfolding form-of
+          second-refused n q = rates-refused b w h header-read n (stage-refused (d.Rates (h .rates)) b w r₂ e₂ n q)
+
+          -- without one the rates lie within the bytes
+          pub rates-room : r₂ ≡ v.Fits → w + 4 + 2 * h .rates ≤ length b
+          unfolding form-of rates-form
+          rates-room q = omega (arith, rw total-same at (stage-room (d.Rates (h .rates)) b w r₂ e₂ q front-room))
+
+          -- and the units decide
+          pub then-units : r₂ ≡ v.Fits → with-value header-in (parse b) ≡ answering h (further (w + 4 + 2 * h .rates) (many (h .units) (unit-parser (h .choices)) (drop (w + 4 + 2 * h .rates) b)))
+          unfolding form-of rates-form
+          then-units q =
+              let k : w + (4 + total (replicate (h .rates) 2)) ≡ w + 4 + 2 * h .rates = omega (arith, total-same (h .rates) 2) in
+              opened b w h header-read _ _ (stage-took (d.Rates (h .rates)) b w r₂ e₂ q) (fields-length _ _ ∙ length-replicate (h .rates) 2) ∙ rw k

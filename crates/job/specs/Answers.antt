@@ -1,16 +1,18 @@
 -- What the reader's structs and answers mean in the terms of the crates below, case by case.
 use Prim.Native.Nat.{ℕ, _≤_}
+use mathlib.Core.Bool.{Bool}
 use mathlib.Core.Option.{Option, none, some}
-use mathlib.Core.List.{List}
+use mathlib.Core.List.{List, _∷_}
 use lib.Dec.{ltb}
 use lib.ListN.{length, drop}
-use Rattle.base.specs.If.{if_then_else_}
+use Rattle.base.specs.If.{if_then_else_, one-if}
 use Rattle.model.specs.Job as model
 use Rattle.format.specs.Fields.{total}
 use Rattle.format.specs.Parser.{Result, refused, took, refusal-of}
 use Rattle.format.specs.Records.{Form, head-widths, head-limits, block, plain-form}
 use Rattle.format.specs.JobBytes as format
 use Rattle.format.specs.JobBytes.{header-form, rates-form, unit-form}
+use Rattle.job.specs.declared.Bucket.{Bucket}
 use Rattle.job.specs.declared.Header.{Header}
 use Rattle.job.specs.declared.Coding.{Coding}
 use Rattle.job.specs.declared.Verdict.{Verdict}
@@ -20,16 +22,21 @@ use Rattle.job.specs.declared.Due.the-variants as d
 use Rattle.job.specs.declared.Reading.{Reading}
 use Rattle.job.specs.declared.Reading.the-variants as r
 
+-- how many buckets a header has beside the first
+unfoldable pub extra : Bool → ℕ
+extra two = if two then 1 else 0
+
 -- the header that a struct holds, and the coding
+unfoldable pub policed-of : Bucket → format.Policed
+policed-of k = record { size = k .size; drain = k .drain; fill = k .fill }
+
 unfoldable pub plain : Header → format.Header
 plain h = record {
   units = h .units;
   delay = h .delay;
   decoder = h .decoder;
-  bucket = h .bucket;
-  drain = h .drain;
   level = h .level;
-  fill = h .fill;
+  buckets = policed-of (h .first) ∷ one-if (h .two) (policed-of (h .second));
   rates = h .rates;
   choices = h .choices;
 }
@@ -49,7 +56,8 @@ verdict (v.Refused n) = some n
 
 -- the record that is due
 unfoldable pub form-of : Due → Form
-form-of d.Header = header-form
+form-of d.Header = header-form 0
+form-of d.TwoBuckets = header-form 1
 form-of (d.Rates n) = rates-form n
 form-of (d.Unit n) = unit-form n
 form-of (d.Plain kind n) = plain-form kind n
@@ -57,6 +65,7 @@ form-of (d.Plain kind n) = plain-form kind n
 -- the record's count of fields is small enough for its length
 abbrev pub Small : Due → Type 0
 Small d.Header = Unit {0}
+Small d.TwoBuckets = Unit {0}
 Small (d.Rates n) = n ≤ 1000
 Small (d.Unit n) = n ≤ 1000
 Small (d.Plain kind n) = n ≤ 255

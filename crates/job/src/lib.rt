@@ -4,25 +4,34 @@ pub mod refusal;
 ghost use mathlib.Core.Path.{_≡_};
 ghost use mathlib.Core.List.{[], _∷_};
 ghost use Prim.Native.Nat.{_+_, _*_, _-_, _≤_};
+ghost use lib.Dec.{eqb};
 ghost use lib.ListN.{length, take, drop, replicate};
 ghost use Rattle.format.specs.Fields.{number, fields};
-ghost use Rattle.format.specs.Limits.{limit, kept, both-kept, broken, AllKept};
+ghost use Rattle.base.specs.If.{one-if};
+ghost use Rattle.format.specs.Limits.{limit, kept, both-kept, each-kept, broken, AllKept};
 ghost use Rattle.format.specs.Parser.{further, many, refusal-of, with-value};
 ghost use Rattle.format.specs.Records.{head-limits, record-due, plain-form};
-ghost use Rattle.format.specs.JobBytes.{header-of, same-header, header-limits, rate-limit, rate-limits, size-limit, distortion-limit, coding-limits, codings, entry-widths, header-in, unit-parser, parse};
-ghost use Rattle.format.specs.Places.{unit-size, field-at, rate-at, coding-at};
-ghost use Rattle.job.specs.Answers.{plain, verdict, form-of, Small, reading, coding-of, shape, answering};
+ghost use Rattle.format.specs.JobBytes.{policed-by, header-of, no-bucket, bucket-widths, header-form, same-buckets, same-header, largest-sizes, bucket-limits, header-limits, rate-limit, rate-limits, size-limit, distortion-limit, coding-limits, codings, entry-widths, header-in, unit-parser, parse};
+ghost use Rattle.format.specs.Places.{header-size, unit-size, field-at, rate-at, coding-at};
+ghost use Rattle.job.specs.Answers.{extra, policed-of, plain, verdict, form-of, Small, reading, coding-of, shape, answering};
 
-// What kind 1 says of a job. Sizes and levels are counted in grains, document 01's fixed count of bits.
+// A leaky bucket as a header tells it: its size, what it drains in an interval, its level at the start. Sizes and levels are counted in grains, document 01's fixed count of bits.
+pub struct Bucket {
+    pub size: u16,
+    pub drain: u16,
+    pub fill: u16,
+}
+
+// What kind 1 says of a job, or kind 8, which has two buckets (document 02, E5). A kind 1 header has a second bucket of zeros, which is not looked at.
 pub struct Header {
     pub units: u16,
     pub delay: u16,
     pub decoder: u16,
-    pub bucket: u16,
-    pub drain: u16,
-    // the decoder's level at the start, and the bucket's
+    // the decoder's level at the start
     pub level: u16,
-    pub fill: u16,
+    pub first: Bucket,
+    pub two: bool,
+    pub second: Bucket,
     pub rates: u16,
     pub choices: u16,
 }
@@ -44,9 +53,10 @@ pub enum Verdict {
     Refused(u8),
 }
 
-// The record that is due: a header, so many rates, a unit with so many codings, or so many fields of two bytes with any values.
+// The record that is due: a header with one bucket or with two, so many rates, a unit with so many codings, or so many fields of two bytes with any values.
 enum Due {
     Header,
+    TwoBuckets,
     Rates(u16),
     Unit(u16),
     Plain { kind: u16, fields: u8 },
@@ -95,6 +105,8 @@ impl Header {
 
     pub const MAX_BUCKET: u16 = 255;
 
+    pub const MAX_SECOND: u16 = 63;
+
     pub const MAX_DRAIN: u16 = 4095;
 
     pub const MAX_RATES: u16 = 16;
@@ -107,36 +119,70 @@ impl Header {
 
     pub const MAX_DISTORTION: u32 = 1000000;
 
-    // The kinds of record, and the header's length.
+    // The kinds of record, and the lengths of the two headers.
     pub const KIND: u16 = 1;
 
     pub const LENGTH: u16 = 20;
+
+    pub const TWO_KIND: u16 = 8;
+
+    pub const TWO_LENGTH: u16 = 26;
 
     pub const RATES_KIND: u16 = 2;
 
     pub const UNIT_KIND: u16 = 3;
 
-    // How many bytes the head of any record takes, and the header's record with its head.
+    // How many bytes the head of any record takes, and the header's record with its head, with one bucket and with two.
     pub const HEAD: usize = 4;
 
     pub const SIZE: usize = 22;
 
+    pub const TWO_SIZE: usize = 28;
+
     // The header that a record's body holds.
-    fn of(body: &[u8]) -> Header
-        requires { ⌜ 18 ≤ length (now body) ⌝ }
-        ensures { λ r. ⌜ plain r ≡ header-of (fields (replicate 9 2) (now (body .entry))) ⌝ }
+    fn of(body: &[u8], two: bool) -> Header
+        requires { ⌜ 18 + 6 * extra two ≤ length (now body) ⌝ }
+        ensures { λ r. ⌜ plain r ≡ header-of (fields (header-form (extra two) .widths) (now (body .entry))) ⌝ }
     {
         Header {
             units: u16_at(body, 0),
             delay: u16_at(body, 2),
             decoder: u16_at(body, 4),
-            bucket: u16_at(body, 6),
-            drain: u16_at(body, 8),
             level: u16_at(body, 10),
-            fill: u16_at(body, 12),
+            first: Bucket {
+                size: u16_at(body, 6),
+                drain: u16_at(body, 8),
+                fill: u16_at(body, 12),
+            },
+            two,
+            second: Bucket::second_in(body, two),
             rates: u16_at(body, 14),
             choices: u16_at(body, 16),
         }
+    }
+
+    // How many bytes its record takes.
+    pub fn record_size(self) -> usize
+        ensures { λ r. ⌜ r ≡ header-size (plain self) ⌝ }
+    {
+        if self.two {
+            Header::TWO_SIZE
+        } else {
+            Header::SIZE
+        }
+    }
+
+    // Whether the buckets that it has keep to their limits.
+    fn buckets_fit(self) -> bool
+        ensures { λ r. ⌜ r ≡ each-kept (bucket-limits largest-sizes (plain self .buckets)) ⌝ }
+    {
+        if !self.first.fits(Header::MAX_BUCKET) {
+            return false;
+        }
+        if !self.two {
+            return true;
+        }
+        self.second.fits(Header::MAX_SECOND)
     }
 
     // 3 where a field is out of range.
@@ -146,8 +192,6 @@ impl Header {
         let units = self.units;
         let delay = self.delay;
         let decoder = self.decoder;
-        let bucket = self.bucket;
-        let drain = self.drain;
         let rates = self.rates;
         let choices = self.choices;
         match units {
@@ -162,18 +206,7 @@ impl Header {
             0..=Header::MAX_DECODER => {}
             _ => return Verdict::Refused(refusal::HEADER),
         }
-        match bucket {
-            0..=Header::MAX_BUCKET => {}
-            _ => return Verdict::Refused(refusal::HEADER),
-        }
-        match drain {
-            0..=Header::MAX_DRAIN => {}
-            _ => return Verdict::Refused(refusal::HEADER),
-        }
         if decoder < self.level {
-            return Verdict::Refused(refusal::HEADER);
-        }
-        if bucket < self.fill {
             return Verdict::Refused(refusal::HEADER);
         }
         match rates {
@@ -184,22 +217,86 @@ impl Header {
             1..=Header::MAX_CHOICES => {}
             _ => return Verdict::Refused(refusal::HEADER),
         }
+        if !self.buckets_fit() {
+            return Verdict::Refused(refusal::HEADER);
+        }
         Verdict::Fits
     }
 
-    // Whether the two headers agree in every field, without a branch.
+    // Whether the two headers have the same further buckets.
+    fn same_second(self, other: Header) -> bool
+        ensures { λ r. ⌜ r ≡ same-buckets (one-if (self .two) (policed-of (self .second))) (one-if (other .two) (policed-of (other .second))) ⌝ }
+    {
+        if self.two {
+            if other.two {
+                return self.second.same(other.second);
+            }
+            return false;
+        }
+        !other.two
+    }
+
+    // Whether the two headers agree in every field and bucket.
     pub fn same(self, other: Header) -> bool
         ensures { λ r. ⌜ r ≡ same-header (plain self) (plain other) ⌝ }
     {
-        (self.units == other.units)
+        let first = self.first.same(other.first);
+        let second = self.same_second(other);
+        first
+            & second
+            & (self.units == other.units)
             & (self.delay == other.delay)
             & (self.decoder == other.decoder)
-            & (self.bucket == other.bucket)
-            & (self.drain == other.drain)
             & (self.level == other.level)
-            & (self.fill == other.fill)
             & (self.rates == other.rates)
             & (self.choices == other.choices)
+    }
+}
+
+impl Bucket {
+    // Of a header with one bucket.
+    fn none() -> Bucket
+        ensures { λ r. ⌜ policed-of r ≡ no-bucket ⌝ }
+    {
+        Bucket {
+            size: 0,
+            drain: 0,
+            fill: 0,
+        }
+    }
+
+    // The second bucket in a header's body, where there is one.
+    fn second_in(body: &[u8], two: bool) -> Bucket
+        requires { ⌜ 18 + 6 * extra two ≤ length (now body) ⌝ }
+        ensures { λ r. ⌜ one-if two (policed-of r) ≡ policed-by (fields (bucket-widths (extra two)) (drop 18 (now (body .entry)))) ⌝ }
+    {
+        if !two {
+            return Bucket::none();
+        }
+        Bucket {
+            size: u16_at(body, 18),
+            drain: u16_at(body, 20),
+            fill: u16_at(body, 22),
+        }
+    }
+
+    // Whether its size is at most the largest, its drain at most 4,095 and its level at the start at most its size.
+    fn fits(self, largest: u16) -> bool
+        ensures { λ r. ⌜ r ≡ each-kept (bucket-limits (largest ∷ []) (policed-of self ∷ [])) ⌝ }
+    {
+        let size = self.size;
+        let fill = self.fill;
+        let drain = self.drain;
+        match drain {
+            0..=Header::MAX_DRAIN => (size <= largest) & (fill <= size),
+            _ => false,
+        }
+    }
+
+    fn same(self, other: Bucket) -> bool
+        ensures { λ r. ⌜ r ≡ same-buckets (policed-of self ∷ []) (policed-of other ∷ []) ⌝ }
+    {
+        (self.size == other.size) & (self.drain == other.drain) & (self.fill == other.fill)
     }
 }
 
@@ -211,6 +308,10 @@ fn head_verdict(due: Due, len: u16, kind: u16) -> Verdict
     match due {
         Due::Header => match kind {
             Header::KIND => same_length(len, Header::LENGTH),
+            _ => Verdict::Refused(refusal::NOT_DUE),
+        },
+        Due::TwoBuckets => match kind {
+            Header::TWO_KIND => same_length(len, Header::TWO_LENGTH),
             _ => Verdict::Refused(refusal::NOT_DUE),
         },
         Due::Rates(n) => match kind {
@@ -329,7 +430,8 @@ fn record_verdict(rest: &[u8], due: Due) -> Verdict
     let head = Header::HEAD;
     let body = &rest[head..];
     match due {
-        Due::Header => Header::of(body).verdict(),
+        Due::Header => Header::of(body, false).verdict(),
+        Due::TwoBuckets => Header::of(body, true).verdict(),
         Due::Rates(n) => rates_verdict(body, n),
         Due::Unit(n) => codings_verdict(body, n),
         Due::Plain { kind: _, fields: _ } => Verdict::Fits,
@@ -361,21 +463,43 @@ fn read_units(job: &[u8], header: Header, start: usize) -> Reading
     Reading::Read { header, taken: at }
 }
 
+// Of the two headers that may be due, the kind tells which.
+fn tells_two(job: &[u8]) -> bool
+    ensures { λ r. ⌜ r ≡ eqb (field-at 2 (now (job .entry)) 2) 8 ⌝ }
+{
+    match field16(job, 2) {
+        Header::TWO_KIND => true,
+        _ => false,
+    }
+}
+
+// The header's record, with one bucket or with two.
+fn header_verdict(job: &[u8], two: bool) -> Verdict
+    ensures { λ r. ⌜ verdict r ≡ refusal-of (record-due (header-form (extra two)) (now (job .entry))) ⌝ }
+{
+    if two {
+        record_verdict(job, Due::TwoBuckets)
+    } else {
+        record_verdict(job, Due::Header)
+    }
+}
+
 // Opening: the header and how many bytes the job took, or the first refusal. Bytes behind the job are not looked at.
 pub fn read(job: &[u8]) -> Reading
     ensures { λ r. ⌜ reading r ≡ with-value header-in (parse (now (job .entry))) ⌝ }
 {
-    if let Verdict::Refused(n) = record_verdict(job, Due::Header) {
+    let two = tells_two(job);
+    if let Verdict::Refused(n) = header_verdict(job, two) {
         return Reading::Refused(n);
     }
     let body = Header::HEAD;
-    let header = Header::of(&job[body..]);
+    let header = Header::of(&job[body..], two);
     let rates = header.rates;
-    let at = Header::SIZE;
+    let at = header.record_size();
     if let Verdict::Refused(n) = record_verdict(&job[at..], Due::Rates(rates)) {
         return Reading::Refused(n);
     }
-    let start = Header::SIZE + Header::HEAD + 2 * (rates as usize);
+    let start = at + Header::HEAD + 2 * (rates as usize);
     read_units(job, header, start)
 }
 
@@ -405,11 +529,12 @@ fn field32(s: &[u8], at: usize) -> u32
     u32_at(s, at)
 }
 
-// The rate with this index: of a job that opens, the rate of the job (format's `LooksUp`).
-pub fn rate_at(job: &[u8], rate: u16) -> u16
-    ensures { λ r. ⌜ r ≡ rate-at (now (job .entry)) rate ⌝ }
+// The rate with this index: of a job that opens with this header, the rate of the job (format's `LooksUp`).
+pub fn rate_at(job: &[u8], header: Header, rate: u16) -> u16
+    ensures { λ r. ⌜ r ≡ rate-at (now (job .entry)) (plain header) rate ⌝ }
 {
-    let at = Header::SIZE + Header::HEAD + 2 * (rate as usize);
+    let front = header.record_size();
+    let at = front + Header::HEAD + 2 * (rate as usize);
     field16(job, at)
 }
 
@@ -417,7 +542,8 @@ pub fn rate_at(job: &[u8], rate: u16) -> u16
 pub fn coding_at(job: &[u8], header: Header, unit: u16, choice: u16) -> Coding
     ensures { λ r. ⌜ coding-of r ≡ coding-at (now (job .entry)) (plain header) unit choice ⌝ }
 {
-    let first = Header::SIZE + Header::HEAD + 2 * (header.rates as usize);
+    let front = header.record_size();
+    let first = front + Header::HEAD + 2 * (header.rates as usize);
     let start = first + bytes_before(unit, header.choices);
     let at = start + Header::HEAD + 6 * (choice as usize);
     let next = at + 2;

@@ -98,6 +98,11 @@ pub record OneBucket (j : Job) (k : Bucket) : Type 0 where
   pub count : words j ≡ (intervals j + 1) * (j .line .decoder + 1) * (k .size + 1)
   pub word : (table : List ℕ) (t b l : ℕ) → wordAt j table t (record { decoder = b; buckets = l ∷ [] }) ≡ getD table ((t * (j .line .decoder + 1) + b) * (k .size + 1) + l) 0
 
+-- and with two, as document 02, E5, does: the second level innermost
+pub record TwoBuckets (j : Job) (k k2 : Bucket) : Type 0 where
+  pub count : words j ≡ (intervals j + 1) * (j .line .decoder + 1) * (k .size + 1) * (k2 .size + 1)
+  pub word : (table : List ℕ) (t b l l2 : ℕ) → wordAt j table t (record { decoder = b; buckets = l ∷ l2 ∷ [] }) ≡ getD table (((t * (j .line .decoder + 1) + b) * (k .size + 1) + l) * (k2 .size + 1) + l2) 0
+
 -- The claims.
 
 -- demand 2
@@ -157,3 +162,6 @@ ReadOff = (j : Job) (m : PinMap) (o : Order) (table : List ℕ) (t : ℕ) (s : L
 
 abbrev pub WordsOfOne : Type 0
 WordsOfOne = (j : Job) (k : Bucket) → j .line .buckets ≡ k ∷ [] → OneBucket j k
+
+abbrev pub WordsOfTwo : Type 0
+WordsOfTwo = (j : Job) (k k2 : Bucket) → j .line .buckets ≡ k ∷ k2 ∷ [] → TwoBuckets j k k2

@@ -11,14 +11,10 @@ use Rattle.model.specs.Job.{Coding, Job, codingAt}
 use Rattle.model.specs.Pins.{Call, pin, lift, outside}
 use Rattle.format.specs.Parser.{Result, on-read}
 use Rattle.format.specs.Parser as P
-use Rattle.format.specs.JobBytes.{Header, header-in, parse}
+use Rattle.format.specs.JobBytes.{no-header, header-in, parse}
 use Rattle.format.specs.Choices.{no-choice}
 use Rattle.pinning.specs.PinSet.{PinSet, fresh}
 use Rattle.pinning.specs.Check.{checked}
-
--- a header that no job has
-unfoldable pub no-header : Header
-no-header = record { units = 0; delay = 0; decoder = 0; bucket = 0; drain = 0; level = 0; fill = 0; rates = 0; choices = 0 }
 
 -- how many bytes the job took, and the set; a refusal answers its number alone, and the set beside it is that of no job
 pub record Opening : Type 0 where

@@ -9,7 +9,7 @@ use Rattle.base.specs.If.{if_then_else_}
 use Rattle.model.specs.Job.{Job, codingAt}
 use Rattle.model.specs.Pins.{Call}
 use Rattle.format.specs.Parser.{Result, refused, took, with-value, on-read}
-use Rattle.format.specs.JobBytes.{Header, header-in, parse}
+use Rattle.format.specs.JobBytes.{Header, header-in, parse, no-header}
 use Rattle.format.proofs.Opened.{held-job, opens-by}
 use Rattle.job.specs.declared.Header as code
 use Rattle.job.specs.declared.Reading.the-variants as reading
@@ -19,7 +19,7 @@ use Rattle.pins.specs.declared.PinSet as code-set
 use Rattle.pins.specs.declared.Opening.the-variants as answer
 use Rattle.pinning.specs.PinSet.{PinSet, fresh}
 use Rattle.pinning.specs.Check.{fits, codings-in, accept, checked, Ready}
-use Rattle.pinning.specs.Calls.{no-header, opened, open-call, refuse, call}
+use Rattle.pinning.specs.Calls.{opened, open-call, refuse, call}
 use Rattle.pins.specs.Answers.{set-of, opening-answer, opening}
 use Rattle.pinning.proofs.Checks.{checks}
 use Rattle.pinning.proofs.Agree.{limits, fits-agree, checked-took, checked-six, checked-refused}

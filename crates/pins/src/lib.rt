@@ -4,15 +4,15 @@ pub mod refusal;
 ghost use mathlib.Core.Path.{_≡_};
 ghost use Prim.Native.Nat.{_+_, _-_, _<_, _≤_};
 ghost use lib.ListN.{length};
-ghost use Rattle.model.specs.Pins.{pin, lift, with-line, totals-to, outside};
-ghost use Rattle.format.specs.JobBytes.{header-in};
+ghost use Rattle.model.specs.Pins.{pin, lift, totals-to, outside};
+ghost use Rattle.format.specs.JobBytes.{header-in, no-header};
 ghost use Rattle.format.specs.Parser.{with-value};
 ghost use Rattle.job.specs.Answers.{plain, coding-of, reading};
-ghost use Rattle.format.specs.Choices.{choice-of};
 ghost use Rattle.pinning.specs.PinSet.{lines, fresh};
 ghost use Rattle.pinning.specs.Check.{byte-fits, bytes-fit, same-totals, fits, codings-in, checked, Ready};
-ghost use Rattle.pinning.specs.Calls.{no-header, open-call, refuse, with-pin, without-pin, call};
+ghost use Rattle.pinning.specs.Calls.{open-call, refuse, with-pin, without-pin, call};
 ghost use Rattle.pins.specs.Answers.{set-of, tallied, opening, handed, Added, Room, Pinned};
+use job::Bucket;
 use job::Coding;
 use job::Header;
 use job::Reading;
@@ -103,14 +103,19 @@ impl PinSet {
 fn no_header() -> Header
     ensures { λ r. ⌜ plain r ≡ no-header ⌝ }
 {
+    let bucket = Bucket {
+        size: 0,
+        drain: 0,
+        fill: 0,
+    };
     Header {
         units: 0,
         delay: 0,
         decoder: 0,
-        bucket: 0,
-        drain: 0,
         level: 0,
-        fill: 0,
+        first: bucket,
+        two: false,
+        second: bucket,
         rates: 0,
         choices: 0,
     }

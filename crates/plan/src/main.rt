@@ -15,14 +15,28 @@ use planner::Planned;
 // The most intervals that a job has.
 const MOST_INTERVALS: usize = 576;
 
-// The line of an interval: its number, what it sends, its choice or `-`, the levels that it leads to.
-fn print_interval(number: u64, sent: u16, choice: Choice, decoder: u16, bucket: u16) {
+// The most levels that an interval has: the decoder's and two buckets'.
+const MOST_LEVELS: usize = 3;
+
+fn print_level(level: u16) {
+    print::number(level as u64);
+}
+
+// The levels that an interval leads to, so many from a place on: the decoder's, then each bucket's.
+fn print_levels(levels: &[u16], at: usize, each: usize)
+    requires { ⌜ at + each ≤ length (now levels) ⌝ }
+{
+    let end = at + each;
+    for place in at..end {
+        print_level(levels[place]);
+    }
+}
+
+// The line of an interval begins with its number, what it sends, and its choice or `-`.
+fn print_entry(number: u64, sent: u16, choice: Choice) {
     print::count(number);
     print::number(sent as u64);
     print::choice(choice);
-    print::number(decoder as u64);
-    print::number(bucket as u64);
-    print::end();
 }
 
 fn print_intervals(job: &[u8], header: Header, entries: &[u8])
@@ -34,15 +48,16 @@ fn print_intervals(job: &[u8], header: Header, entries: &[u8])
     // levels do not depend on pins, and the set that opening answers has none
     let opened = pins::open(job);
     let set = opened.set;
-    let mut levels = [0u16; replay::LEVELS_EACH * MOST_INTERVALS];
+    let each = replay::levels_each(header);
+    let mut levels = [0u16; MOST_LEVELS * MOST_INTERVALS];
     replay::replay(job, set, &entries[start..end], &mut levels);
     for place in 0..total {
         let entry = entry::entry_at(entries, place);
-        let decoder = replay::LEVELS_EACH * place;
-        let bucket = decoder + 1;
         let number = place as u64 + 1;
-        let sent = job::rate_at(job, entry.rate as u16);
-        print_interval(number, sent, entry.choice, levels[decoder], levels[bucket]);
+        let sent = job::rate_at(job, header, entry.rate as u16);
+        print_entry(number, sent, entry.choice);
+        print_levels(&levels, each * place, each);
+        print::end();
     }
 }
 

@@ -40,13 +40,16 @@ pub fn head(header: Header) {
     end();
 }
 
-// Distortion, source size, channel size and unused drain.
+// Distortion, source size, channel size and the unused drain of each bucket.
 pub fn total(totals: Totals) {
     text(b"total");
     number(totals.distortion as u64);
     number(totals.source as u64);
     number(totals.channel as u64);
     number(totals.unused as u64);
+    if totals.two {
+        number(totals.unused2 as u64);
+    }
     end();
 }
 

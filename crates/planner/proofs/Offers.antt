@@ -3,7 +3,7 @@ use Prim.Native.Nat.{ℕ, _+_, _<_}
 use mathlib.Core.Path.{_≡_, refl, sym, _∙_}
 use mathlib.Core.Bool.{Bool, true, false}
 use mathlib.Core.Option.{none}
-use lib.ListN.{getD}
+use lib.ListN.{length, getD}
 use lib.Seq.{getD-take}
 use Rattle.base.specs.If.{if_then_else_}
 use Rattle.trellis.specs.Pairs.{pair}
@@ -38,11 +38,10 @@ module _ (l : Line) (from : Levels) (sent size distortion : ℕ) (x : Interval) 
   -- no step looks at the rates
   pub line-steps : step-of (l .buffers) from x ≡ outcome-of (line-is l) none none (levels-of from .decoder) (levels-of from .buckets) sent size
   unfolding step-of outcome-of line-of line-is levels-of
-  line-steps = rw (is .sent-is, is .size-is, is .no-pin, is .no-unit, of-mark)
+  line-steps = rw (is .sent-is, is .size-is, is .no-pin, is .no-unit, of-mark) refl
 
-  pub reached-below : (to : Levels) → step-of (l .buffers) from x ≡ reaches (levels-of to) → place (tops (line-is l)) (flat (levels-of to)) < layerWords (line-is l)
-  unfolding line-is line-of levels-of
-  reached-below to h = place-below (layer-each (reaches-in-layer (line-is l) none none sent size (levels-of from) (levels-of to) refl (sym line-steps ∙ h)))
+  pub reached-below : (to : Levels) → length (levels-of from .buckets) ≡ length (line-is l .buckets) → step-of (l .buffers) from x ≡ reaches (levels-of to) → place (tops (line-is l)) (flat (levels-of to)) < layerWords (line-is l)
+  reached-below to n h = place-below (layer-each (reaches-in-layer (line-is l) none none sent size (levels-of from) (levels-of to) n (sym line-steps ∙ h)))
 
   -- a choice that it leaves open
   module _ (W : model.Levels → ℕ) (free : Bool) (e : free ≡ true) where

@@ -26,7 +26,7 @@ use Rattle.planner.proofs.Sizes.{layer-small}
 pub record Spans (words : List ℕ) (place size i : ℕ) : Type 0 where
   pub next : (place + 1) * size ≡ place * size + size
   pub end : (place + 2) * size ≡ place * size + size + size
-  pub most : (place + 2) * size ≤ 39452672
+  pub most : (place + 2) * size ≤ 2524971008
   pub room : (place + 2) * size ≤ length words
   pub below : i < size
 
@@ -40,7 +40,7 @@ module _ (o : Order) (words : List ℕ) (l : Line) (c : Choices) (place : ℕ) (
   spans = record {
     next = omega (arith, add-mul place 1 size, one-mul size);
     end = omega (arith, add-mul place 2 size, two-mul size);
-    most = mul-le-mul {n₁ = place + 2} {n₂ = 602} {m₂ = 65536} (omega (arith, a .few)) (omega (arith, e, layer-small l (a .line)));
+    most = mul-le-mul {n₁ = place + 2} {n₂ = 602} {m₂ = 4194304} (omega (arith, a .few)) (omega (arith, e, layer-small l (a .line)));
     room = rw e (a .room);
     below = rw (e, q) (place-below (layer-each (a .inside)));
   }
@@ -60,8 +60,8 @@ module _ (o : Order) (words : List ℕ) (l : Line) (c : Choices) (place : ℕ) (
       length-take-le n (drop (suc place * n) words) (omega (arith, length-drop (suc place * n) words))
 
   -- what the first entry is asked, and what it says of the layers
-  pub offered : Offers (next-part words place size) l c × Attained o (line-is l) (c .count) (allowed-is c) (next-part words place size) s (getD words (place * size + i) 0)
-  offered = rw (part-layer, here-word) (record { line = a .line; choices = a .choices; whole = next-size }, a .attained)
+  pub offered : Offers (next-part words place size) l c s × Attained o (line-is l) (c .count) (allowed-is c) (next-part words place size) s (getD words (place * size + i) 0)
+  offered = rw (part-layer, here-word) (record { line = a .line; choices = a .choices; whole = next-size; count = a .inside .count }, a .attained)
 
   pub first-found : (pairs : List Pair) (p : Pair) → first-at (pair-offer _+_ (line-is l) (allowed-is c) (wordIn (line-is l) (next-part words place size)) s) (getD words (place * size + i) 0) pairs ≡ some p → first-at (pair-offer _+_ (line-is l) (allowed-is c) (wordIn (line-is l) (layerOf (line-is l) words (suc place))) s) (wordIn (line-is l) (layerOf (line-is l) words place) s) pairs ≡ some p
   first-found pairs p f = rw (part-layer, here-word) at f

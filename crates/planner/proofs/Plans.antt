@@ -1,5 +1,5 @@
 -- Reading off the best plan, place after place: what is written and what is left.
-use Prim.Native.Nat.{ℕ, suc, _+_, _-_, _*_, _≤_}
+use Prim.Native.Nat.{ℕ, suc, _+_, _-_, _*_, _<_, _≤_}
 use mathlib.Core.Path.{_≡_, refl, sym, _∙_, ap, ap₂}
 use mathlib.Core.List.{List, [], _∷_, _++_, append-assoc, append-nil}
 use native.Mathlib.Numerals.{add-one}
@@ -7,7 +7,7 @@ use native.Mathlib.Omega.{arith}
 use lib.ListN.{length, drop, length-append}
 use Rattle.trellis.specs.Trellis.{best}
 use Rattle.model.specs.Job as model
-use Rattle.model.specs.Job.{Bucket, Job, Entry, intervals}
+use Rattle.model.specs.Job.{bucketAt, Job, Entry, intervals}
 use Rattle.model.specs.Pins.{PinMap}
 use Rattle.model.specs.Replay.{totals}
 use Rattle.model.specs.Best.{Order, best-plan}
@@ -35,17 +35,17 @@ module _ (j : Job) (m : PinMap) (o : Order) (first : ℕ) (start : model.Levels)
     pub list : entries ≡ entry-bytes done ++ drop (entry-size * (place - first)) entries₀
     pub size : length entries ≡ length entries₀
 
-module _ (j : Job) (m : PinMap) (o : Order) (first : ℕ) (start : model.Levels) (entries₀ : List ℕ) (k : Bucket) (only : j .line .buckets ≡ k ∷ []) where
-  pub read-start : (at : Levels) → levels-of at ≡ start → Standing j m first start → ReadTo j m o first start entries₀ first at no-totals entries₀
+module _ (j : Job) (m : PinMap) (o : Order) (first : ℕ) (start : model.Levels) (entries₀ : List ℕ) where
+  pub read-start : (at : Levels) (sum : Totals) → levels-of at ≡ start → totals-of sum ≡ no-totals (j .line .buckets) → Standing j m first start → ReadTo j m o first start entries₀ first at sum entries₀
   unfolding entry-bytes
-  read-start at e s =
+  read-start at sum e q s =
       let z : first - first ≡ 0 = omega arith in
       record {
         done = [];
         count = omega arith;
         plan = rw e refl;
         stands = rw e s;
-        sums = added-start j k only _ first at _ (rw e);
+        sums = added-start j _ first at sum _ q (rw e (s .inside .count)) (rw e);
         list = rw z refl;
         size = refl;
       }
@@ -55,7 +55,7 @@ module _ (j : Job) (m : PinMap) (o : Order) (first : ℕ) (start : model.Levels)
   entry-is place s x b = rw (b .rate, b .choice, number-back (x .choice))
 
   -- one entry more
-  pub read-on : (place : ℕ) (at : Levels) (sum : Totals) (entries : List ℕ) (x : Move) (sum′ : Totals) → ReadTo j m o first start entries₀ place at sum entries → BestMove j m o place (levels-of at) x → totals-of sum′ ≡ added sum (k .drain) at (x .interval) → k .drain ≤ 4095 → entry-size * (place - first) + entry-size ≤ length entries₀ → ReadTo j m o first start entries₀ (place + 1) (x .to) sum′ (over-at (entry-size * (place - first)) (entry-numbers (x .rate) (x .choice)) entries)
+  pub read-on : (place : ℕ) (at : Levels) (sum : Totals) (entries : List ℕ) (x : Move) (sum′ : Totals) → ReadTo j m o first start entries₀ place at sum entries → BestMove j m o place (levels-of at) x → totals-of sum′ ≡ added (totals-of sum) (j .line .buckets) (levels-of at .buckets) (x .interval) → ((k : ℕ) → k < length (j .line .buckets) → bucketAt (j .line .buckets) k .drain ≤ 4095) → entry-size * (place - first) + entry-size ≤ length entries₀ → ReadTo j m o first start entries₀ (place + 1) (x .to) sum′ (over-at (entry-size * (place - first)) (entry-numbers (x .rate) (x .choice)) entries)
   read-on place at sum entries x sum′ g b e most room =
       let i : ℕ = entry-size * (place - first) in
       let n : i + entry-size ≡ entry-size * (suc place - first) = omega (arith, g .count) in
@@ -66,7 +66,7 @@ module _ (j : Job) (m : PinMap) (o : Order) (first : ℕ) (start : model.Levels)
         count = let l = length-append (g .done) (b .entry ∷ []) in omega (arith, g .count, l);
         plan = g .plan ∙ ap (λ (p : List Entry). g .done ++ p) (b .rest) ∙ sym (append-assoc (g .done) (b .entry ∷ []) (best-plan j m (suc place) (levels-of (x .to)) o));
         stands = b .ends;
-        sums = added-on j k only _ place at sum (b .entry) _ (x .to) (x .interval) sum′ (rw (b .rest) at (g .sums)) (b .does) (b .buckets) e most;
+        sums = added-on j _ place at sum (b .entry) _ (x .to) (x .interval) sum′ (rw (b .rest) at (g .sums)) (b .does) (b .buckets) e most;
         list =
             ap (over-at i (entry-numbers (x .rate) (x .choice))) (g .list)
             ∙ over-behind (entry-bytes (g .done)) (entry-numbers (x .rate) (x .choice)) entries₀ i (omega (arith, bytes-size (g .done), g .count))
@@ -86,6 +86,6 @@ module _ (j : Job) (m : PinMap) (o : Order) (first : ℕ) (start : model.Levels)
       let all : best-plan j m first start o ≡ g .done = g .plan ∙ ap (λ (p : List Entry). g .done ++ p) e ∙ append-nil (g .done) in
       let n : length (g .done) ≡ place - first = omega (arith, g .count) in
       record {
-        totals-are = added-end j k only _ place at sum (rw e at (g .sums));
+        totals-are = added-end j _ place at sum (rw e at (g .sums));
         written = rw (all, bytes-size (g .done), n) (g .list);
       }

@@ -1,14 +1,14 @@
 -- What the structs and answers of this crate mean in the terms of `model` and `planning`, case by case, and what its private functions say and ask.
 use Prim.Native.Nat.{ℕ, suc, _+_, _-_, _*_, _<_, _≤_}
 use mathlib.Core.Path.{_≡_}
-use mathlib.Core.Bool.{Bool, false}
+use mathlib.Core.Bool.{Bool, true, false}
 use mathlib.Core.Option.{Option, none, some}
-use mathlib.Core.List.{List, [], _∷_}
+use mathlib.Core.List.{List, [], _∷_, map}
 use lib.Dec.{ltb}
 use lib.ListN.{length, getD, take}
 use Rattle.trellis.specs.Pairs.{Pair}
 use Rattle.trellis.specs.Table.{first-at}
-use Rattle.base.specs.If.{if_then_else_}
+use Rattle.base.specs.If.{if_then_else_, one-if}
 use Rattle.base.specs.Answer.{Answer, refused, gives}
 use Rattle.model.specs.Job as model
 use Rattle.model.specs.Pins.{PinMap}
@@ -16,7 +16,8 @@ use Rattle.model.specs.Step.{Outcome, reaches, after-sending, pin-held, outcome
 use Rattle.model.specs.Replay as model-replay
 use Rattle.model.specs.Best as model-best
 use Rattle.model.specs.Best.{late, early, pairs, width, least-total, best-plan}
-use Rattle.model.specs.Table.{InLayer, layerWords, words, layerOf, wordIn}
+use Rattle.model.specs.Table.{InLayer, span, layerWords, words, layerOf, wordIn}
+use Rattle.format.specs.Limits.{each-kept}
 use Rattle.format.specs.Choices.{no-choice, choice-of}
 use Rattle.format.specs.Places.{coding-at}
 use Rattle.format.specs.JobBytes.{job-in, Opens}
@@ -26,7 +27,7 @@ use Rattle.interval.specs.declared.Buffers.{Buffers}
 use Rattle.interval.specs.declared.Totals.{Totals}
 use Rattle.interval.specs.declared.Levels.{Levels}
 use Rattle.interval.specs.declared.Interval.{Interval}
-use Rattle.interval.specs.Answers.{levels-of, totals-of, buffers-of, line-of, Does}
+use Rattle.interval.specs.Answers.{levels-of, totals-of, line-of, Does}
 use Rattle.replaying.specs.Entries.{entry-size, entry-bytes}
 use Rattle.base.specs.Lent.{over}
 use Rattle.planning.specs.Rule.{Allowed, pair-offer, allowed-in}
@@ -71,27 +72,42 @@ coding-if free size distortion = if free then some (record { size = size; distor
 unfoldable pub allowed-is : Choices → Allowed
 allowed-is c x = coding-if (getD (c .allowed) x false) (getD (c .sizes) x 0) (getD (c .distortions) x 0)
 
--- (T + 1) × (D + 1) × (K + 1), over any buffers and over the job's own
-unfoldable pub words-over : format.Header → Buffers → ℕ
-words-over h k = (h .units + h .delay + 1) * (k .decoder + 1) * (k .bucket + 1)
+-- the size of the second bucket, where there is one
+unfoldable pub second-sizes : Buffers → List ℕ
+second-sizes k = one-if (k .two) (k .bucket2)
 
-abbrev pub table-words : format.Header → ℕ
-table-words h = words-over h (buffers-of h)
+-- (T + 1) times the words of a layer, over any buffers
+unfoldable pub words-over : format.Header → Buffers → ℕ
+words-over h k = (h .units + h .delay + 1) * layerWords (line-of k [])
+
+-- over the job's own: (T + 1) × (D + 1) × (K + 1), and with a second bucket × (K2 + 1). No job has a header that is out of range
+unfoldable pub table-words : format.Header → ℕ
+table-words h =
+    if each-kept (format.header-limits h) then (h .units + h .delay + 1) * ((h .decoder + 1) * span (map (λ k. k .size) (h .buckets)))
+    else 0
 
 -- What the private functions say and ask.
 
--- document 01's limits of a line, and its array of rates
+-- the limits of buffers, and of a line with its array of rates
+pub record BuffersFit (k : Buffers) : Type 0 where
+  pub decoder : k .decoder ≤ 255
+  pub bucket : k .bucket ≤ 255
+  pub drain : k .drain ≤ 4095
+  pub second : k .two ≡ true → (k .bucket2 ≤ 63) × (k .drain2 ≤ 4095)
+
 pub record LineFits (l : Line) : Type 0 where
-  pub decoder : l .buffers .decoder ≤ 255
-  pub bucket : l .buffers .bucket ≤ 255
-  pub drain : l .buffers .drain ≤ 4095
+  pub buffers : BuffersFit (l .buffers)
   pub rates : l .count ≤ 16
   pub rate : (y : ℕ) → y < l .count → getD (l .rates) y 0 ≤ 4095
   pub size : length (l .rates) ≡ 16
 
--- the line with a bucket in front that drains every rate
+-- the line as layers are filled: the same, or with a bucket in front that drains every rate
+pub data FilledAs (line : model.Line) (as-filled : model.Line) : Type 0 where
+  itself : as-filled ≡ line → FilledAs line as-filled
+  behind-one : as-filled ≡ fronted 4095 line → FilledAs line as-filled
+
 pub record LayerLine (l : Line) (r : layer-line.Line) : Type 0 where
-  pub is : layer-answers.line-is r ≡ fronted 4095 (line-is l)
+  pub is : FilledAs (line-is l) (layer-answers.line-is r)
   pub fits : layer-answers.LineFits r
 
 -- and of an interval's choices
@@ -102,11 +118,12 @@ pub record ChoicesFit (c : Choices) : Type 0 where
   pub distortions-size : length (c .distortions) ≡ 31
   pub small : (x : ℕ) → x < c .count → getD (c .distortions) x 0 ≤ 1000000
 
--- a whole next layer, for offers
-pub record Offers (next : List ℕ) (l : Line) (c : Choices) : Type 0 where
+-- a whole next layer, for offers from levels of the line's buckets
+pub record Offers (next : List ℕ) (l : Line) (c : Choices) (s : model.Levels) : Type 0 where
   pub line : LineFits l
   pub choices : ChoicesFit c
   pub whole : length next ≡ layerWords (line-is l)
+  pub count : length (s .buckets) ≡ length (line-is l .buckets)
 
 -- some pair attains the word
 pub record Attained (o : model-best.Order) (line : model.Line) (n : ℕ) (allowed : Allowed) (next : List ℕ) (s : model.Levels) (word : ℕ) : Type 0 where
@@ -171,7 +188,7 @@ pub record IntervalOf (sent size distortion : ℕ) (x : Interval) : Type 0 where
 
 -- where an interval leads
 unfoldable pub step-of : Buffers → Levels → Interval → Outcome
-step-of k at x = outcome-of (line-of k []) (choice-of (x .pin)) (choice-of (x .choice)) (at .decoder) (at .bucket ∷ []) (x .sent) (x .size)
+step-of k at x = outcome-of (line-of k []) (choice-of (x .pin)) (choice-of (x .choice)) (at .decoder) (levels-of at .buckets) (x .sent) (x .size)
 
 pub record Reached (k : Buffers) (at : Levels) (x : Interval) : Type 0 where
   pub end : model.Levels

@@ -4,26 +4,27 @@ pub mod refusal;
 
 ghost use mathlib.Core.Path.{_≡_};
 ghost use mathlib.Core.Option.{some};
-ghost use mathlib.Core.List.{_++_};
+ghost use mathlib.Core.List.{[], _++_};
+ghost use Rattle.base.specs.If.{one-if};
 ghost use Prim.Native.Nat.{suc, _+_, _-_, _*_, _<_, _≤_};
 ghost use lib.ListN.{length, set, take, drop, replicate};
 ghost use Rattle.trellis.specs.Pairs.{pair};
 ghost use Rattle.trellis.specs.Table.{first-at};
 ghost use Rattle.model.specs.Step.{reaches};
 ghost use Rattle.model.specs.Best.{turn, pairs};
-ghost use Rattle.model.specs.Table.{layerWords, sizes, tops, flat, place, words, layerOf, wordIn};
+ghost use Rattle.model.specs.Table.{span, layerWords, tops, flat, place, words, layerOf, wordIn};
 ghost use Rattle.format.specs.Choices.{choice-of};
 ghost use Rattle.format.specs.JobBytes.{job-in, Opens};
 ghost use Rattle.job.specs.Answers.{plain};
 ghost use Rattle.pinning.specs.PinSet.{lines};
 ghost use Rattle.pinning.specs.Check.{Ready};
 ghost use Rattle.pins.specs.Answers.{set-of};
-ghost use Rattle.interval.specs.Answers.{levels-of};
+ghost use Rattle.interval.specs.Answers.{levels-of, line-of};
 ghost use Rattle.planning.specs.Rule.{coding-offer, pair-offer, layer-from, refilled};
 ghost use Rattle.planning.specs.Passes.{charged};
 ghost use Rattle.planning.specs.Words.{table-from};
 ghost use Rattle.planning.specs.Calls.{search-in, plan-in, plan-call};
-ghost use Rattle.planner.specs.Answers.{planned, line-is, job-on, order-is, coding-if, allowed-is, words-over, table-words, LineFits, ChoicesFit, Offers, Attained, LineOf, NoChoices, UnitChoices, ChoicesOf, Starts, Fills, Layered, LayerLine, IntervalOf, step-of, Reached, chosen, Moves, BestMove, ReadsOff, PlanRead, PlansFrom, Searches};
+ghost use Rattle.planner.specs.Answers.{planned, line-is, job-on, order-is, coding-if, allowed-is, second-sizes, words-over, table-words, LineFits, ChoicesFit, Offers, Attained, LineOf, NoChoices, UnitChoices, ChoicesOf, Starts, Fills, Layered, LayerLine, IntervalOf, step-of, Reached, chosen, Moves, BestMove, ReadsOff, PlanRead, PlansFrom, Searches};
 ghost use Rattle.layer.specs.Answers.{price-at};
 ghost use Rattle.layer.specs.Blocks.{LeastOf};
 use interval::Buffers;
@@ -34,6 +35,7 @@ use interval::Totals;
 use job::Choice;
 use job::Header;
 use job::Reading;
+use job::Verdict;
 use layer::Aim;
 use layer::Bucket;
 use pins::PinSet;
@@ -44,7 +46,7 @@ pub enum Planned {
     Refused(u8),
 }
 
-// What receiver and carrier fix: the decoder's size, the bucket and the rates on offer, of which there are `count`.
+// What receiver and carrier fix: the decoder's size, the buckets and the rates on offer, of which there are `count`.
 struct Line {
     buffers: Buffers,
     count: u16,
@@ -84,18 +86,47 @@ const NONE: u32 = 4294967295;
 
 const LARGEST: u32 = 512000000;
 
-// How many words a layer has: one for each decoder level and bucket level.
+// How many levels the second bucket has; one where there is none.
+fn second_levels(buffers: Buffers) -> usize
+    ensures { λ r. ⌜ r ≡ span (second-sizes buffers) ⌝ }
+{
+    if buffers.two {
+        return buffers.bucket2 as usize + 1;
+    }
+    1
+}
+
+// How many words a layer over such buffers has: one for each decoder level and levels of the buckets.
+fn words_each(buffers: Buffers) -> usize
+    ensures { λ r. ⌜ r ≡ layerWords (line-of buffers []) ⌝ }
+{
+    let row = (buffers.bucket as usize + 1) * second_levels(buffers);
+    (buffers.decoder as usize + 1) * row
+}
+
 fn layer_words(line: Line) -> usize
     ensures { λ r. ⌜ r ≡ layerWords (line-is line) ⌝ }
 {
-    (line.buffers.decoder as usize + 1) * (line.buffers.bucket as usize + 1)
+    words_each(line.buffers)
 }
 
-// The place of levels in a layer, the decoder's outermost.
+// The place of the second bucket's level among its levels.
+fn second_place(buffers: Buffers, at: Levels) -> usize
+    ensures { λ r. ⌜ r ≡ place (second-sizes buffers) (one-if (at .two) (at .bucket2)) ⌝ }
+{
+    if buffers.two & at.two {
+        return at.bucket2 as usize;
+    }
+    0
+}
+
+// The place of levels in a layer, the decoder's outermost and the second bucket's innermost.
 fn word_place(line: Line, at: Levels) -> usize
     ensures { λ r. ⌜ r ≡ place (tops (line-is line)) (flat (levels-of at)) ⌝ }
 {
-    at.decoder as usize * (line.buffers.bucket as usize + 1) + at.bucket as usize
+    let each = second_levels(line.buffers);
+    let row = (line.buffers.bucket as usize + 1) * each;
+    at.decoder as usize * row + at.bucket as usize * each + second_place(line.buffers, at)
 }
 
 // A distortion and a word of the next layer, or none where the word cannot be completed.
@@ -133,7 +164,7 @@ fn offer(
     size: u16,
     distortion: u32,
 ) -> u32
-    requires { ⌜ (length (now next) ≡ layerWords (line-is line)) × (distortion ≤ 1000000) ⌝ }
+    requires { ⌜ (length (now next) ≡ layerWords (line-is line)) × (length (levels-of from .buckets) ≡ length (line-is line .buckets)) × (distortion ≤ 1000000) ⌝ }
     ensures { λ r. ⌜ r ≡ coding-offer _+_ (line-is line) (wordIn (line-is line) (now (next .entry))) (levels-of from) sent (coding-if free size distortion) ⌝ }
 {
     if !free {
@@ -150,22 +181,35 @@ fn offer(
     }
 }
 
-// The line with a bucket in front that is always empty: it drains every rate.
+// The line as layers are filled: with two buckets it is the same; with one, a bucket stands in front that is always empty, since it drains every rate.
 fn layer_line(line: Line) -> layer::Line
     requires { ⌜ LineFits line ⌝ }
     ensures { λ r. ⌜ LayerLine line r ⌝ }
 {
     let rates = line.rates;
+    let first = Bucket {
+        size: line.buffers.bucket,
+        drain: line.buffers.drain,
+    };
+    if line.buffers.two {
+        return layer::Line {
+            decoder: line.buffers.decoder,
+            outer: first,
+            inner: Bucket {
+                size: line.buffers.bucket2,
+                drain: line.buffers.drain2,
+            },
+            count: line.count,
+            rates,
+        };
+    }
     layer::Line {
         decoder: line.buffers.decoder,
         outer: Bucket {
             size: 0,
             drain: 4095,
         },
-        inner: Bucket {
-            size: line.buffers.bucket,
-            drain: line.buffers.drain,
-        },
+        inner: first,
         count: line.count,
         rates,
     }
@@ -226,7 +270,7 @@ fn first_entry(
     from: Levels,
     word: u32,
 ) -> Pick
-    requires { ⌜ Offers (now next) line choices × Attained (order-is order) (line-is line) (choices .count) (allowed-is choices) (now next) (levels-of from) word ⌝ }
+    requires { ⌜ Offers (now next) line choices (levels-of from) × Attained (order-is order) (line-is line) (choices .count) (allowed-is choices) (now next) (levels-of from) word ⌝ }
     ensures { λ r. ⌜ first-at (pair-offer _+_ (line-is line) (allowed-is choices) (wordIn (line-is line) (now (next .entry))) (levels-of from)) word (pairs (order-is order) (length (line-is line .rates)) (choices .count)) ≡ some (pair (r .rate) (r .choice)) ⌝ }
 {
     let rates = line.count as usize;
@@ -256,7 +300,7 @@ fn line_in(job: &[u8], header: Header) -> Line
     let count = header.rates as usize;
     let mut rates = [0u16; 16];
     for rate in 0..count {
-        rates[rate] = job::rate_at(job, rate as u16);
+        rates[rate] = job::rate_at(job, header, rate as u16);
     }
     Line {
         buffers: Buffers::of(header),
@@ -447,7 +491,7 @@ fn read_off(
 {
     let total = entry::intervals(header);
     let mut at = start;
-    let mut sum = Totals::none();
+    let mut sum = Totals::none(line.buffers);
     for place in first..total {
         let index = place - first;
         let taken = best_move(order, job, header, line, pins, table, place, at);
@@ -483,15 +527,19 @@ fn search(
 
 // How many words the table of a job with this header has over such buffers.
 fn words_over(header: Header, buffers: Buffers) -> usize
+    requires { ⌜ (header .units + header .delay ≤ 576) × (layerWords (line-of buffers []) ≤ 4194304) ⌝ }
     ensures { λ r. ⌜ r ≡ words-over (plain header) buffers ⌝ }
 {
-    (entry::intervals(header) + 1) * (buffers.decoder as usize + 1) * (buffers.bucket as usize + 1)
+    (entry::intervals(header) + 1) * words_each(buffers)
 }
 
-// How many words the table of a job with this header has.
+// How many words the table of a job with this header has; 0 where no job has such a header.
 pub fn table_words(header: Header) -> usize
     ensures { λ r. ⌜ r ≡ table-words (plain header) ⌝ }
 {
+    if let Verdict::Refused(_) = header.verdict() {
+        return 0;
+    }
     words_over(header, Buffers::of(header))
 }
 

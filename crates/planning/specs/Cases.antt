@@ -1,4 +1,4 @@
--- Document 01's cases of Job A that are marked (m), those of planning, and cases of Job A with another delay worked out by hand: what is asked, and what document 01 says, or by document 02, E2 and E3, would.
+-- Document 01's cases of Job A that are marked (m), those of planning, and cases of Job A with another delay or a second bucket worked out by hand: what is asked, and what document 01 says, or by document 02, E2, E3 and E5, would.
 use Prim.Native.Nat.{ℕ}
 use mathlib.Core.Path.{_≡_}
 use mathlib.Core.List.{List, [], _∷_, map}
@@ -6,12 +6,13 @@ use lib.ListN.{replicate}
 use Rattle.base.specs.Answer.{Answer, refused, gives}
 use Rattle.model.specs.Pins.{Call, pin, lift}
 use Rattle.model.specs.Replay.{Totals}
+use Rattle.format.specs.JobA.{bytes-a, bytes-a8}
 use Rattle.replaying.specs.Cases.{delayed, set-after}
 use Rattle.planning.specs.Calls.{plan-call}
 
--- calls are made on the set that opening Job A, with this delay, answers; then a plan is asked for with a table of so many words, all 9, and so many bytes for entries, all 7
+-- calls are made on the set that opening a job answers; then a plan is asked for with a table of so many words, all 9, and so many bytes for entries, all 7
 pub record Question : Type 0 where
-  pub delay : ℕ
+  pub job : List ℕ
   pub calls : List Call
   pub words : ℕ
   pub bytes : ℕ
@@ -23,15 +24,15 @@ pub record Reply : Type 0 where
 
 unfoldable pub reply : Question → Reply
 reply q = record {
-  answer = plan-call (delayed (q .delay)) (set-after (delayed (q .delay)) (q .calls)) (replicate (q .words) 9) (replicate (q .bytes) 7) .answer;
-  entries = plan-call (delayed (q .delay)) (set-after (delayed (q .delay)) (q .calls)) (replicate (q .words) 9) (replicate (q .bytes) 7) .entries;
+  answer = plan-call (q .job) (set-after (q .job) (q .calls)) (replicate (q .words) 9) (replicate (q .bytes) 7) .answer;
+  entries = plan-call (q .job) (set-after (q .job) (q .calls)) (replicate (q .words) 9) (replicate (q .bytes) 7) .entries;
 }
 
-abbrev pub asks-with : ℕ → List Call → ℕ → ℕ → Question
-asks-with d ks w n = record { delay = d; calls = ks; words = w; bytes = n }
+abbrev pub asks-with : List ℕ → List Call → ℕ → ℕ → Question
+asks-with b ks w n = record { job = b; calls = ks; words = w; bytes = n }
 
 abbrev pub asks : List Call → ℕ → ℕ → Question
-asks ks w n = asks-with 1 ks w n
+asks ks w n = asks-with bytes-a ks w n
 
 unfoldable pub questions : List Question
 questions =
@@ -53,17 +54,25 @@ questions =
     -- more of both than is needed
     ∷ asks [] 81 8
     -- delay 2: unit 1 pinned at 1, which is worse, both units pinned at what is best, and a word too few
-    ∷ asks-with 2 (pin 1 1 ∷ []) 100 8
-    ∷ asks-with 2 (pin 1 0 ∷ pin 2 1 ∷ []) 100 8
-    ∷ asks-with 2 [] 99 8
+    ∷ asks-with (delayed 2) (pin 1 1 ∷ []) 100 8
+    ∷ asks-with (delayed 2) (pin 1 0 ∷ pin 2 1 ∷ []) 100 8
+    ∷ asks-with (delayed 2) [] 99 8
     -- the same with delay 0
-    ∷ asks-with 0 (pin 1 1 ∷ []) 60 4
-    ∷ asks-with 0 (pin 1 0 ∷ pin 2 1 ∷ []) 60 4
-    ∷ asks-with 0 [] 59 4
+    ∷ asks-with (delayed 0) (pin 1 1 ∷ []) 60 4
+    ∷ asks-with (delayed 0) (pin 1 0 ∷ pin 2 1 ∷ []) 60 4
+    ∷ asks-with (delayed 0) [] 59 4
+    -- document 02, E5: a second bucket that never binds, one that forces another plan, a word too few for it, and one that leaves no plan
+    ∷ asks-with (bytes-a8 3 4 0) [] 320 6
+    ∷ asks-with (bytes-a8 1 2 0) [] 160 6
+    ∷ asks-with (bytes-a8 1 2 0) [] 159 6
+    ∷ asks-with (bytes-a8 0 0 0) [] 80 6
     ∷ []
 
 abbrev pub says : ℕ → ℕ → ℕ → ℕ → List ℕ → Reply
 says d s c u es = record { answer = gives (record { distortion = d; source = s; channel = c; unused = u ∷ [] }); entries = es }
+
+abbrev pub says-two : ℕ → ℕ → ℕ → ℕ → ℕ → List ℕ → Reply
+says-two d s c u v es = record { answer = gives (record { distortion = d; source = s; channel = c; unused = u ∷ v ∷ [] }); entries = es }
 
 abbrev pub refuses : ℕ → List ℕ → Reply
 refuses n es = record { answer = refused n; entries = es }
@@ -87,6 +96,10 @@ replies =
     ∷ says 70 4 4 0 (1 ∷ 1 ∷ 1 ∷ 1 ∷ [])
     ∷ says 50 6 6 0 (2 ∷ 0 ∷ 1 ∷ 1 ∷ [])
     ∷ refuses 11 (replicate 4 7)
+    ∷ says-two 50 6 6 2 6 (0 ∷ 255 ∷ 2 ∷ 0 ∷ 1 ∷ 1 ∷ [])
+    ∷ says-two 50 6 6 0 0 (1 ∷ 255 ∷ 1 ∷ 0 ∷ 1 ∷ 1 ∷ [])
+    ∷ refuses 11 (replicate 6 7)
+    ∷ refuses 13 (replicate 6 7)
     ∷ []
 
 -- one computed test of the whole table

@@ -1,6 +1,6 @@
 -- What replay and the report answer and leave, from what reading the job, the check and the tests answered.
 use Prim.Native.Nat.{ℕ, suc, _+_, _*_, _<_, _≤_}
-use mathlib.Core.Path.{_≡_, sym, _∙_, ap}
+use mathlib.Core.Path.{_≡_, sym, _∙_, ap, ap₂}
 use mathlib.Core.Bool.{true, false}
 use mathlib.Core.List.{List, [], _∷_}
 use native.Mathlib.Omega.{arith}
@@ -15,7 +15,7 @@ use Rattle.model.specs.Levels.{effectiveBuffers}
 use Rattle.format.specs.Parser.{on-read}
 use Rattle.format.specs.Parser as P
 use Rattle.format.specs.JobBytes.{Header, parse, job-in, Opens}
-use Rattle.format.proofs.Opened.{job-formed, units-are, intervals-are}
+use Rattle.format.proofs.Opened.{units-are, intervals-are}
 use Rattle.pinning.specs.PinSet.{PinSet, lines}
 use Rattle.pinning.specs.Check.{checked, Ready}
 use Rattle.pinning.proofs.Agree.{matched}
@@ -23,16 +23,17 @@ use Rattle.replaying.specs.Entries.{plan-of, shaped}
 use Rattle.base.specs.Lent.{Ended, over, refuse}
 use Rattle.replaying.specs.Calls.{Replayed, level-count, played, replay-tests, replay-call, reported, report-tests, report-call}
 use Rattle.replay.specs.Answers.{Shaped}
+use Rattle.replay.proofs.Levels.{bucket-count}
 
 -- the bytes of a job with this header
 module _ (b : List ℕ) (h : Header) (o : Opens b h) where
   pub shaped-plan : (entries : List ℕ) → shaped h entries ≡ true → Shaped b h entries
   shaped-plan entries e = record { opens = o; in-shape = e }
 
-  -- two numbers an interval
-  levels-are : level-count (job-in b) ≡ 2 * (h .units + h .delay)
+  -- how many numbers the levels are, by the header's buckets
+  pub levels-are : level-count (job-in b) ≡ suc (length (h .buckets)) * (h .units + h .delay)
   unfolding level-count
-  levels-are = rw (job-formed b h o .one-bucket, intervals-are b h o)
+  levels-are = rw (bucket-count b h o, intervals-are b h o)
 
   module _ (entries list : List ℕ) where
     -- the report goes on to the tests of the job
@@ -77,15 +78,16 @@ module _ (b : List ℕ) (h : Header) (s : PinSet) (r : Ready b h s) (entries lev
   unfolding refuse
   replay-14 e = sym (replay-on ∙ guarded-here (refuse levels) _ _ _ e)
 
-  counted : level-count J ≡ 2 * (h .units + h .delay)
-  counted = levels-are b h (r .opens)
+  -- the list is tested by as many levels an interval as the header says, and as many intervals
+  module _ (e : shaped h entries ≡ true) (each total : ℕ) (each-is : each ≡ suc (length (h .buckets))) (total-is : total ≡ h .units + h .delay) where
+    counted : level-count J ≡ each * total
+    counted = levels-are b h (r .opens) ∙ sym (ap₂ _*_ each-is total-is)
 
-  module _ (e : shaped h entries ≡ true) where
-    pub replay-12 : length levels < 2 * (h .units + h .delay) → record { answer = refused 12; list = levels } ≡ replay-call b s entries levels
+    pub replay-12 : length levels < each * total → record { answer = refused 12; list = levels } ≡ replay-call b s entries levels
     unfolding refuse
     replay-12 l = sym (replay-on ∙ guarded-past (refuse levels) _ _ _ e ∙ guarded-here (refuse levels) _ _ _ (lt-leb (level-count J) (length levels) (omega (arith, counted))))
 
-    pub replay-played : 2 * (h .units + h .delay) ≤ length levels → played J (lines (h .units) (s .pins)) entries levels ≡ replay-call b s entries levels
+    pub replay-played : each * total ≤ length levels → played J (lines (h .units) (s .pins)) entries levels ≡ replay-call b s entries levels
     replay-played l =
         ap (λ (n : ℕ). played J (lines n (s .pins)) entries levels) (sym (units-are b h (r .opens)))
         ∙ sym (replay-on ∙ guarded-past (refuse levels) _ _ _ e ∙ guarded-last (refuse levels) _ _ (le-leb (level-count J) (length levels) (omega (arith, counted))))

@@ -52,12 +52,13 @@ module _ (b : List ℕ) (h : Header) (entries : List ℕ) (s : Shaped b h entrie
     unfolding if_then_else_
     choice-below k = ltb-true _ _ (rw (le-ltb i (h .delay) k) at mark-fits)
 
-    pub sent-is : rate-at b (rate-field entries i) ≡ sends (job-in b) (entry-at entries i)
+    pub sent-is : rate-at b h (rate-field entries i) ≡ sends (job-in b) (entry-at entries i)
     unfolding sends entry-at
-    sent-is = (looked-up b h (s .opens)) .rate (rate-field entries i) (omega (arith, (rates-are b h (s .opens)), rate-below))
+    sent-is = ap (λ (n : Header). rate-at b n (rate-field entries i)) (sym (s .opens .header-is)) ∙ (looked-up b h (s .opens)) .rate (rate-field entries i) (omega (arith, (rates-are b h (s .opens)), rate-below))
 
-    pub sent-most : rate-at b (rate-field entries i) ≤ 4095
-    sent-most = rw ((looked-up b h (s .opens)) .rate (rate-field entries i) (omega (arith, (rates-are b h (s .opens)), rate-below))) ((job-limits b h (s .opens)) .rate (rate-field entries i) (omega (arith, (rates-are b h (s .opens)), rate-below)))
+    pub sent-most : rate-at b h (rate-field entries i) ≤ 4095
+    unfolding sends entry-at
+    sent-most = rw sent-is ((job-limits b h (s .opens)) .rate (rate-field entries i) (omega (arith, (rates-are b h (s .opens)), rate-below)))
 
     -- the coding that was read is the one that the interval decodes, and within its limits
     record Codes (x : Coding) : Type 0 where
@@ -97,7 +98,7 @@ module _ (b : List ℕ) (h : Header) (entries : List ℕ) (s : Shaped b h entrie
         let place : suc i - job-in b .delay - 1 ≡ i - h .delay = omega (arith, (delay-is b h (s .opens))) in
         rw (lt-leb (suc i) (job-in b .delay) (omega (arith, (delay-is b h (s .opens)))), place, lines-at (h .units) pins (i - h .delay) (omega (arith, n, (units-are b h (s .opens)), (job-limits b h (s .opens)) .units)) (omega arith), e)
 
-    pub interval-is : (pins : List ℕ) (coding : Coding) (pin : ℕ) → length pins ≡ 512 → CodingIn b h i (choice-field entries i) coding → PinIn h pins i pin → IsInterval (job-in b) (lines (h .units) pins) entries i (record { sent = rate-at b (rate-field entries i); size = coding .size; distortion = coding .distortion; pin = pin; choice = choice-field entries i })
+    pub interval-is : (pins : List ℕ) (coding : Coding) (pin : ℕ) → length pins ≡ 512 → CodingIn b h i (choice-field entries i) coding → PinIn h pins i pin → IsInterval (job-in b) (lines (h .units) pins) entries i (record { sent = rate-at b h (rate-field entries i); size = coding .size; distortion = coding .distortion; pin = pin; choice = choice-field entries i })
     unfolding takes distorts entry-at coding-of
     interval-is pins x pin n d q =
         let w = coding-is x d in

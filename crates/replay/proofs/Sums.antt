@@ -27,7 +27,7 @@ plan-at entries i (suc n) zero h = let e : i + 0 ≡ i = omega arith in rw e
 plan-at entries i (suc n) (suc k) h = let e : i + suc k ≡ suc i + k = omega arith in rw e (plan-at entries (suc i) n k (omega arith))
 
 -- the rate that was read is what the interval sends
-pub sent-read : (b : List ℕ) (h : Header) (entries : List ℕ) (s : Shaped b h entries) (i : ℕ) → i < h .units + h .delay → rate-at b (rate-field entries i) ≡ sent (job-in b) (plan-of (job-in b) entries) (i + 1)
+pub sent-read : (b : List ℕ) (h : Header) (entries : List ℕ) (s : Shaped b h entries) (i : ℕ) → i < h .units + h .delay → rate-at b h (rate-field entries i) ≡ sent (job-in b) (plan-of (job-in b) entries) (i + 1)
 unfolding sent entryOf plan-of
 sent-read b h entries s i l =
     let z : 0 + i ≡ i = omega arith in

@@ -67,7 +67,7 @@ pub record IsInterval (j : model.Job) (m : PinMap) (entries : List ℕ) (place :
 pub record Plays (b : List ℕ) (h : format.Header) (pins entries levels : List ℕ) : Type 0 where
   pub plan : Shaped b h entries
   pub pins-size : length pins ≡ 512
-  pub room : 2 * (h .units + h .delay) ≤ length levels
+  pub room : suc (length (h .buckets)) * (h .units + h .delay) ≤ length levels
 
 -- a plan in shape, and a list that is long enough for the sums
 pub record Sums (b : List ℕ) (h : format.Header) (entries sums : List ℕ) : Type 0 where

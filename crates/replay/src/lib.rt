@@ -1,8 +1,8 @@
 // Replaying a plan, and its effective buffer sizes (document 01, "Levels, interval by interval").
 
 ghost use mathlib.Core.Path.{_≡_};
-ghost use Prim.Native.Nat.{_+_, _*_, _<_};
-ghost use lib.ListN.{length, set};
+ghost use Prim.Native.Nat.{suc, _+_, _*_, _<_, _≤_};
+ghost use lib.ListN.{length};
 ghost use Rattle.model.specs.Levels.{sent, effectiveBuffer, effectiveBuffers};
 ghost use Rattle.format.specs.JobBytes.{job-in, Opens};
 ghost use Rattle.job.specs.Answers.{plain};
@@ -11,8 +11,9 @@ ghost use Rattle.pinning.specs.Check.{Ready};
 ghost use Rattle.pins.specs.Answers.{set-of};
 ghost use Rattle.replaying.specs.Entries.{plan-of};
 ghost use Rattle.base.specs.Lent.{over, over-at};
-ghost use mathlib.Core.List.{[], _∷_};
+ghost use mathlib.Core.List.{_∷_};
 ghost use Rattle.replaying.specs.Calls.{played, replay-call, report-call};
+ghost use Rattle.interval.specs.Answers.{levels-of};
 ghost use Rattle.replay.specs.Answers.{ended, reported, Shaped, CodingIn, PinIn, IsInterval, Plays, Sums};
 use interval::Buffers;
 use interval::Interval;
@@ -39,8 +40,12 @@ pub enum Reported {
     Refused(u8),
 }
 
-// How many levels an interval has: the decoder's and the bucket's.
-pub const LEVELS_EACH: usize = 2;
+// How many levels an interval has: the decoder's and each bucket's.
+pub fn levels_each(header: Header) -> usize
+    ensures { λ r. ⌜ r ≡ suc (length (plain header .buckets)) ⌝ }
+{
+    if header.two { 3 } else { 2 }
+}
 
 // The coding that the interval in this place decodes: none up to the delay.
 fn coding_in(job: &[u8], header: Header, place: usize, choice: Choice) -> Coding
@@ -87,7 +92,7 @@ fn interval_at(
     let choice = entry.choice;
     let coding = coding_in(job, header, place, choice);
     Interval {
-        sent: job::rate_at(job, rate as u16),
+        sent: job::rate_at(job, header, rate as u16),
         size: coding.size,
         distortion: coding.distortion,
         pin: pin_in(header, pins, place),
@@ -95,15 +100,19 @@ fn interval_at(
     }
 }
 
-// Writes the levels of the interval in this place, the decoder's first.
-fn put_levels(levels: &mut [u16], place: usize, l: Levels)
-    requires { ⌜ (place < 600) × (2 * place + 1 < length (now levels)) ⌝ }
-    ensures { λ _. ⌜ now (levels .exit) ≡ over-at (2 * place) (l .decoder ∷ l .bucket ∷ []) (now (levels .entry)) ⌝ }
+// Writes the levels of the interval in this place, `each` of them: the decoder's, then the buckets' in turn.
+fn put_levels(levels: &mut [u16], each: usize, place: usize, l: Levels)
+    requires { ⌜ (each ≡ suc (length (levels-of l .buckets))) × (each * place + each ≤ length (now levels)) ⌝ }
+    ensures { λ _. ⌜ now (levels .exit) ≡ over-at (each * place) (l .decoder ∷ levels-of l .buckets) (now (levels .entry)) ⌝ }
 {
-    let at = LEVELS_EACH * place;
+    let at = each * place;
     let next = at + 1;
     levels[at] = l.decoder;
     levels[next] = l.bucket;
+    if l.two {
+        let last = at + 2;
+        levels[last] = l.bucket2;
+    }
 }
 
 // Interval after interval, up to the first violation.
@@ -118,9 +127,10 @@ fn play(
     ensures { λ r. ⌜ ended r (now (levels .exit)) ≡ played (job-in (now (job .entry))) (lines (header .units) (now (pins .entry))) (now (entries .entry)) (now (levels .entry)) ⌝ }
 {
     let total = entry::intervals(header);
+    let each = levels_each(header);
     let buffers = Buffers::of(header);
     let mut at = Levels::start(header);
-    let mut sum = Totals::none();
+    let mut sum = Totals::none(buffers);
     for place in 0..total {
         let x = interval_at(job, header, pins, entries, place);
         match interval::step(buffers, at, x) {
@@ -132,7 +142,7 @@ fn play(
                 };
             }
             Outcome::Reaches(next) => {
-                put_levels(levels, place, next);
+                put_levels(levels, each, place, next);
                 sum = interval::with_interval(sum, buffers, at, x);
                 at = next;
             }
@@ -155,14 +165,15 @@ fn replay_checked(
     if !entry::shaped(header, entries) {
         return Replayed::Refused(entry::refusal::PLAN);
     }
-    if levels.len() < LEVELS_EACH * entry::intervals(header) {
+    let each = levels_each(header);
+    if levels.len() < each * entry::intervals(header) {
         return Replayed::Refused(job::refusal::LIST);
     }
     let pins = set.pins;
     play(job, header, &pins, entries, levels)
 }
 
-// Replays a plan with the pins of a set. The decoder's and the bucket's level of each interval go to `levels`, up to the first interval with a violation.
+// Replays a plan with the pins of a set. The decoder's and the buckets' levels of each interval go to `levels`, up to the first interval with a violation.
 pub fn replay(job: &[u8], set: PinSet, entries: &[u8], levels: &mut [u16]) -> Replayed
     ensures { λ r. ⌜ ended r (now (levels .exit)) ≡ replay-call (now (job .entry)) (set-of set) (now (entries .entry)) (now (levels .entry)) ⌝ }
 {
@@ -178,7 +189,7 @@ fn sent_at(job: &[u8], header: Header, entries: &[u8], place: usize) -> u32
     ensures { λ r. ⌜ r ≡ sent (job-in (now (job .entry))) (plan-of (job-in (now (job .entry))) (now (entries .entry))) (place + 1) ⌝ }
 {
     let entry = entry::entry_at(entries, place);
-    job::rate_at(job, entry.rate as u16) as u32
+    job::rate_at(job, header, entry.rate as u16) as u32
 }
 
 // What the first intervals send, so many as the delay has: (6) for i = 0.

@@ -9,7 +9,7 @@ use Rattle.base.specs.Evaluate as base
 use Rattle.format.specs.Choices.{choice-of}
 use Rattle.format.specs.JobBytes.{computes, same-header}
 use Rattle.format.specs.Parser.{on-read}
-use Rattle.format.specs.JobA.{bytes-a}
+use Rattle.format.specs.JobA.{bytes-a, bytes-a8}
 use Rattle.pinning.specs.PinSet.{lines, unpinned, fresh}
 use Rattle.pinning.specs.Check.{byte-fits, bytes-fit, same-totals, fits, accept, checked}
 use Rattle.pinning.specs.Calls.{opened, open-call, refuse, take-in, with-pin, without-pin, call-tests, called, call-in, call, after, run}
@@ -18,7 +18,7 @@ use Rattle.replaying.specs.Calls as c
 use Rattle.replaying.specs.Cases.{Question, Reply, delayed, set-after, reply, questions, replies, Cases}
 
 pub cases : Cases
-unfolding base.evaluate evaluate computes on-read choice-of same-header bytes-a lines unpinned fresh byte-fits bytes-fit same-totals fits accept checked opened open-call refuse take-in with-pin without-pin call-tests called call-in call after run entry-fields rate-field choice-field entry-at plan-from plan-of entry-fits entries-fit shaped c.replayed c.flat c.level-count c.played c.replay-tests c.replay-call c.reported c.report-tests c.report-call delayed set-after reply questions replies
+unfolding base.evaluate evaluate computes on-read choice-of same-header bytes-a bytes-a8 lines unpinned fresh byte-fits bytes-fit same-totals fits accept checked opened open-call refuse take-in with-pin without-pin call-tests called call-in call after run entry-fields rate-field choice-field entry-at plan-from plan-of entry-fits entries-fit shaped c.replayed c.flat c.level-count c.played c.replay-tests c.replay-call c.reported c.report-tests c.report-call delayed set-after reply questions replies
 cases = refl
 
 -- what a computed list says of each of its members

@@ -132,4 +132,4 @@ pub played-claim : (b : List ℕ) (j : Job) (n : ℕ) → parse b ≡ took j n �
 unfolding played
 played-claim b j n parsed m entries levels fit room =
     let w = well-read b j n parsed in
-    demand-two-of j m (plan-of j entries) (w .one-fill ∙ sym (w .one-bucket)) levels _ (some-intervals b j n parsed) (fit .fits) room (demand-two j m 0 (j .start) (plan-of j entries))
+    demand-two-of j m (plan-of j entries) (w .fills) levels _ (some-intervals b j n parsed) (fit .fits) room (demand-two j m 0 (j .start) (plan-of j entries))

@@ -1,6 +1,6 @@
 -- What refuses a session of calls before a call is made, test by test, and what the calls answer and leave behind it.
-use Prim.Native.Nat.{ℕ, _+_, _*_, _/_, _<_, _≤_}
-use mathlib.Core.Path.{_≡_, sym, _∙_, ap}
+use Prim.Native.Nat.{ℕ, suc, _+_, _*_, _/_, _<_, _≤_}
+use mathlib.Core.Path.{_≡_, sym, _∙_, ap, ap₂}
 use mathlib.Core.Bool.{true, false}
 use mathlib.Core.Option.{Option, none, some}
 use mathlib.Core.List.{List, [], _∷_, _++_}
@@ -26,6 +26,7 @@ use Rattle.pins.specs.declared.PinSet as code-set
 use Rattle.pins.specs.Answers.{set-of}
 use Rattle.replaying.specs.Entries.{entry-size, shaped}
 use Rattle.replaying.specs.Calls.{level-count, replay-tests, replay-call}
+use Rattle.replay.proofs.Answering.{levels-are}
 use Rattle.planner.specs.Answers.{table-words}
 use Rattle.planner.proofs.Answering.{words-are}
 use Rattle.planning.specs.Calls.{Planned, plan-call}
@@ -129,11 +130,6 @@ module _ (b calls entries : List ℕ) (levels : ℕ) where
     unfolding replay-refusal
     replay-not-due = by-calls b calls (λ j. replay-tests j entries levels) h o
 
-    -- two numbers an interval
-    counted : level-count (job-in b) ≡ 2 * (h .units + h .delay)
-    unfolding level-count
-    counted = rw (job-formed b h o .one-bucket, intervals-are b h o)
-
     module _ (f : none ≡ refusal (calls-tests calls)) where
       replay-on : replay-refusal b calls entries levels ≡ refusal (test 14 (shaped h entries) ∷ test 12 (leb (level-count (job-in b)) levels) ∷ [])
       unfolding replay-refusal replay-tests
@@ -142,11 +138,15 @@ module _ (b calls entries : List ℕ) (levels : ℕ) where
       pub replay-14 : shaped h entries ≡ false → some 14 ≡ replay-refusal b calls entries levels
       replay-14 e = sym (replay-on ∙ refusal-here _ _ e)
 
-      module _ (e : shaped h entries ≡ true) where
-        pub replay-12 : levels < 2 * (h .units + h .delay) → some 12 ≡ replay-refusal b calls entries levels
+      -- so many numbers an interval, and so many intervals
+      module _ (e : shaped h entries ≡ true) (each total : ℕ) (each-is : each ≡ suc (length (h .buckets))) (total-is : total ≡ h .units + h .delay) where
+        counted : level-count (job-in b) ≡ each * total
+        counted = levels-are b h o ∙ sym (ap₂ _*_ each-is total-is)
+
+        pub replay-12 : levels < each * total → some 12 ≡ replay-refusal b calls entries levels
         replay-12 l = sym (replay-on ∙ refusal-past _ _ e ∙ refusal-here _ _ (lt-leb (level-count (job-in b)) levels (omega (arith, counted))))
 
-        pub replay-fits : 2 * (h .units + h .delay) ≤ levels → none ≡ replay-refusal b calls entries levels
+        pub replay-fits : each * total ≤ levels → none ≡ replay-refusal b calls entries levels
         replay-fits l = sym (replay-on ∙ refusal-past _ _ e ∙ refusal-last _ (le-leb (level-count (job-in b)) levels (omega (arith, counted))))
 
 -- Behind the tests.

@@ -14,7 +14,8 @@ use Rattle.format.specs.Parser.{on-took}
 use Rattle.format.specs.JobBytes.{header-in, parse}
 use Rattle.format.proofs.Places.{read-within}
 use Rattle.pinning.specs.PinSet.{fresh}
-use Rattle.pinning.specs.Calls.{no-header, Opening, opened, open-call, refuse}
+use Rattle.pinning.specs.Calls.{Opening, opened, open-call, refuse}
+use Rattle.format.specs.JobBytes.{no-header}
 use Rattle.pins.specs.declared.Opened.{Opened}
 use Rattle.pins.specs.declared.Opening.the-variants as o
 use Rattle.pins.specs.declared.Handed as pins

@@ -261,7 +261,7 @@ pub fn replay_refusal(job: &[u8], calls: &[u16], entries: &[u8], levels: usize) 
             if !entry::shaped(header, entries) {
                 return Verdict::Refused(entry::refusal::PLAN);
             }
-            if levels < replay::LEVELS_EACH * entry::intervals(header) {
+            if levels < replay::levels_each(header) * entry::intervals(header) {
                 return Verdict::Refused(job::refusal::LIST);
             }
             Verdict::Fits

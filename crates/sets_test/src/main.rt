@@ -2,6 +2,7 @@
 // Standard input has Job A of document 01, 64 bytes, then rows of one set each. A line says what the check, a pin of unit 2 at 0, a lift of unit 1, a replay and planning answer: 0, or the number of the refusal.
 ghost use Prim.Native.Nat.{_≤_};
 ghost use lib.ListN.{length};
+use job::Bucket;
 use job::Header;
 use job::Reading;
 use libc::STDIN_FILENO;
@@ -11,10 +12,10 @@ use pins::PinSet;
 use planner::Planned;
 use replay::Replayed;
 
-// The bytes of Job A, and of a row: the nine fields of the set's header, a unit and its pin, which unit 0 leaves out, and the three totals.
+// The bytes of Job A, and of a row: the nine fields of the set's header, whether it has a second bucket and that bucket's three, a unit and its pin, which unit 0 leaves out, and the three totals.
 const JOB: usize = 64;
 
-const ROW: usize = 28;
+const ROW: usize = 36;
 
 // A plan of Job A without a violation, where no pin bars it.
 const PLAN: [u8; 6] = [0, 255, 2, 0, 1, 1];
@@ -26,10 +27,18 @@ fn header_at(input: &[u8], at: usize) -> Header
         units: job::field16(input, at),
         delay: job::field16(input, at + 2),
         decoder: job::field16(input, at + 4),
-        bucket: job::field16(input, at + 6),
-        drain: job::field16(input, at + 8),
         level: job::field16(input, at + 10),
-        fill: job::field16(input, at + 12),
+        first: Bucket {
+            size: job::field16(input, at + 6),
+            drain: job::field16(input, at + 8),
+            fill: job::field16(input, at + 12),
+        },
+        two: job::field16(input, at + 18) == 1,
+        second: Bucket {
+            size: job::field16(input, at + 20),
+            drain: job::field16(input, at + 22),
+            fill: job::field16(input, at + 24),
+        },
         rates: job::field16(input, at + 14),
         choices: job::field16(input, at + 16),
     }
@@ -39,8 +48,8 @@ fn set_at(input: &[u8], at: usize) -> PinSet
     requires { ⌜ at ≤ 4096 ⌝ }
 {
     let mut pins = [255u8; 512];
-    let unit = job::field16(input, at + 18);
-    let pin = job::field16(input, at + 20);
+    let unit = job::field16(input, at + 26);
+    let pin = job::field16(input, at + 28);
     match unit {
         1..=512 => {
             let place = (unit - 1) as usize;
@@ -51,9 +60,9 @@ fn set_at(input: &[u8], at: usize) -> PinSet
     PinSet {
         header: header_at(input, at),
         pins,
-        count: job::field16(input, at + 22) as u32,
-        size: job::field16(input, at + 24) as u32,
-        distortion: job::field16(input, at + 26) as u32,
+        count: job::field16(input, at + 30) as u32,
+        size: job::field16(input, at + 32) as u32,
+        distortion: job::field16(input, at + 34) as u32,
     }
 }
 

@@ -1,10 +1,13 @@
 -- What the exported calls answer and leave, from what the calls within them answered.
-use Prim.Native.Nat.{ℕ, _<_, _≤_}
+use Prim.Native.Nat.{ℕ, _+_, _<_, _≤_}
 use mathlib.Core.Path.{_≡_, sym, _∙_, ap}
 use mathlib.Core.Option.{Option, none, some}
 use mathlib.Core.List.{List, [], _∷_}
-use lib.ListN.{length}
-use borrow.Author.Tests.{lt-leb, le-leb, eq-eqb, ne-eqb}
+use lib.ListN.{length, replicate}
+use mathlib.Core.Logic.{_⊎_, inl, inr}
+use mathlib.Core.Bool.{true, false}
+use Rattle.base.specs.If.{if_then_else_}
+use borrow.Author.Tests.{lt-leb, le-leb, ne-eqb}
 use Rattle.base.specs.Refusals.{refusal, unless, first}
 use Rattle.base.specs.Lent.{over, put}
 use Rattle.base.proofs.Refusals.{refusal-here, refusal-last, unless-some, unless-none, guarded-here, guarded-last}
@@ -23,7 +26,7 @@ use Rattle.pins.specs.declared.Opening.the-variants as opens
 use Rattle.pins.specs.Answers.{set-of, opening-answer, opening}
 use Rattle.interval.specs.declared.Totals.{Totals}
 use Rattle.interval.specs.declared.Violation.{Violation}
-use Rattle.interval.specs.Answers.{violation, totals-of, no-totals}
+use Rattle.interval.specs.Answers.{violation}
 use Rattle.replay.specs.declared.Replayed.{Replayed}
 use Rattle.replay.specs.declared.Replayed.the-variants as replays
 use Rattle.replay.specs.declared.Reported.{Reported}
@@ -41,7 +44,20 @@ use Rattle.session.specs.declared.PinTotals.{PinTotals}
 use Rattle.session.specs.Answers.{called-answer, session-is}
 use Rattle.session.specs.Answers as session
 use Rattle.session.proofs.Inputs.{Open, is-open, not-open, answer-is, state-is}
-use Rattle.upload.specs.Exports.{number-of, room-for, opened-values, opened, open-export, pins-list, called, after-calls, calls-export, totals-list, totals-values, planned, after-session, plan-export, violation-number, replayed-list, replayed, after-replay, replay-export, reported, report-export, written, after-write, write-export}
+use Rattle.upload.specs.Exports.{number-of, room-for, buckets-in, header-fields, opened-values, opened, open-export, pins-list, called, after-calls, calls-export, totals-list, totals-values, planned, after-session, plan-export, violation-number, replayed-list, replayed, after-replay, replay-export, reported, report-export, written, after-write, write-export}
+
+-- how many fields are a header
+pub is-header : (n : ℕ) → (n ≡ 9) ⊎ (n ≡ 12) → header-fields n ≡ true
+unfolding header-fields if_then_else_
+is-header n (inl e) = rw e
+is-header n (inr e) = rw e
+
+pub neither : (n : ℕ) → (n ≡ 9 → ⊥) → (n ≡ 12 → ⊥) → header-fields n ≡ false
+unfolding header-fields if_then_else_
+neither n f g = rw (ne-eqb n 12 g) (ne-eqb n 9 f)
+
+pub no-header : (n : ℕ) → ((n ≡ 9) ⊎ (n ≡ 12) → ⊥) → header-fields n ≡ false
+no-header n f = neither n (λ e. f (inl e)) (λ e. f (inr e))
 
 -- what was looked at before, then room for the values
 module _ {R : Type 0} (refuse : ℕ → R) (o : Option ℕ) (least : ℕ) (values : List ℕ) (work : R) where
@@ -110,17 +126,17 @@ module _ (job ks answers values : List ℕ) where
 module _ (job ks answers table entries values : List ℕ) where
   pub plan-before : (n : ℕ) → some n ≡ plan-refusal job ks (length answers) (length table) (length entries) → planned n answers table entries values ≡ plan-export job ks answers table entries values
   unfolding plan-export
-  plan-before = before (λ n. planned n answers table entries values) (plan-refusal job ks (length answers) (length table) (length entries)) 4 values _
+  plan-before = before (λ n. planned n answers table entries values) (plan-refusal job ks (length answers) (length table) (length entries)) (3 + buckets-in job) values _
 
   module _ (e : none ≡ plan-refusal job ks (length answers) (length table) (length entries)) where
-    pub plan-12 : length values < 4 → planned 12 answers table entries values ≡ plan-export job ks answers table entries values
+    pub plan-12 : length values < 3 + buckets-in job → planned 12 answers table entries values ≡ plan-export job ks answers table entries values
     unfolding plan-export
-    plan-12 = few (λ n. planned n answers table entries values) (plan-refusal job ks (length answers) (length table) (length entries)) 4 values _ e
+    plan-12 = few (λ n. planned n answers table entries values) (plan-refusal job ks (length answers) (length table) (length entries)) (3 + buckets-in job) values _ e
 
-    module _ (room : 4 ≤ length values) (x : Planned) (a t p : List ℕ) (i : session-is x a t p ≡ session-call job ks answers table entries) where
+    module _ (room : 3 + buckets-in job ≤ length values) (x : Planned) (a t p : List ℕ) (i : session-is x a t p ≡ session-call job ks answers table entries) where
       on-plan : plan-export job ks answers table entries values ≡ after-session (session-is x a t p) values
       unfolding plan-export
-      on-plan = behind (λ n. planned n answers table entries values) (plan-refusal job ks (length answers) (length table) (length entries)) 4 values _ e room ∙ rw (← i)
+      on-plan = behind (λ n. planned n answers table entries values) (plan-refusal job ks (length answers) (length table) (length entries)) (3 + buckets-in job) values _ e room ∙ rw (← i)
 
       pub plan-refused : (n : ℕ) → x ≡ plans.Refused n → planned n a t p values ≡ plan-export job ks answers table entries values
       unfolding after-session session-is planner.planned planner.answered number-of put
@@ -134,17 +150,17 @@ module _ (job ks answers table entries values : List ℕ) where
 module _ (job ks entries levels values : List ℕ) where
   pub replay-before : (n : ℕ) → some n ≡ replay-refusal job ks entries (length levels) → replayed n levels values ≡ replay-export job ks entries levels values
   unfolding replay-export
-  replay-before = before (λ n. replayed n levels values) (replay-refusal job ks entries (length levels)) 6 values _
+  replay-before = before (λ n. replayed n levels values) (replay-refusal job ks entries (length levels)) (5 + buckets-in job) values _
 
   module _ (e : none ≡ replay-refusal job ks entries (length levels)) where
-    pub replay-12 : length values < 6 → replayed 12 levels values ≡ replay-export job ks entries levels values
+    pub replay-12 : length values < 5 + buckets-in job → replayed 12 levels values ≡ replay-export job ks entries levels values
     unfolding replay-export
-    replay-12 = few (λ n. replayed n levels values) (replay-refusal job ks entries (length levels)) 6 values _ e
+    replay-12 = few (λ n. replayed n levels values) (replay-refusal job ks entries (length levels)) (5 + buckets-in job) values _ e
 
-    module _ (room : 6 ≤ length values) (x : Replayed) (l : List ℕ) (i : ended x l ≡ replay-session job ks entries levels) where
-      on-replay : replay-export job ks entries levels values ≡ after-replay (ended x l) values
+    module _ (room : 5 + buckets-in job ≤ length values) (x : Replayed) (l : List ℕ) (i : ended x l ≡ replay-session job ks entries levels) where
+      on-replay : replay-export job ks entries levels values ≡ after-replay (buckets-in job) (ended x l) values
       unfolding replay-export
-      on-replay = behind (λ n. replayed n levels values) (replay-refusal job ks entries (length levels)) 6 values _ e room ∙ rw (← i)
+      on-replay = behind (λ n. replayed n levels values) (replay-refusal job ks entries (length levels)) (5 + buckets-in job) values _ e room ∙ rw (← i)
 
       pub replay-refused : (n : ℕ) → x ≡ replays.Refused n → replayed n l values ≡ replay-export job ks entries levels values
       unfolding after-replay ended replay.answered number-of put
@@ -154,8 +170,8 @@ module _ (job ks entries levels values : List ℕ) where
       unfolding after-replay ended replay.answered number-of put replayed-list totals-values
       replay-clean t q new w = sym (on-replay ∙ rw (q, w))
 
-      pub replay-violated : (n : ℕ) (v : Violation) → x ≡ replays.Violated n v → (k : ℕ) → k ≡ violation-number (violation v) → (t : Totals) → t ≡ no-totals → (new : List ℕ) → new ≡ over (k ∷ n ∷ totals-values t) values → replayed 0 l new ≡ replay-export job ks entries levels values
-      unfolding after-replay ended replay.answered number-of put replayed-list totals-values totals-list totals-of
+      pub replay-violated : (n : ℕ) (v : Violation) → x ≡ replays.Violated n v → (k : ℕ) → k ≡ violation-number (violation v) → (t : Totals) → totals-values t ≡ replicate (3 + buckets-in job) 0 → (new : List ℕ) → new ≡ over (k ∷ n ∷ totals-values t) values → replayed 0 l new ≡ replay-export job ks entries levels values
+      unfolding after-replay ended replay.answered number-of put replayed-list
       replay-violated n v q k f t z new w = sym (on-replay ∙ rw (q, w, f, z))
 
 -- the report
@@ -170,17 +186,17 @@ module _ (job entries sums : List ℕ) (x : Reported) (new : List ℕ) (i : repl
 
 -- writing a job
 module _ (fields rates sizes distortions job values : List ℕ) where
-  pub write-3 : (length fields ≡ 9 → ⊥) → written 3 job values ≡ write-export fields rates sizes distortions job values
+  pub write-3 : ((length fields ≡ 9) ⊎ (length fields ≡ 12) → ⊥) → written 3 job values ≡ write-export fields rates sizes distortions job values
   unfolding write-export
-  write-3 f = sym (guarded-here (λ n. written n job values) _ _ _ (ne-eqb (length fields) 9 f))
+  write-3 f = sym (guarded-here (λ n. written n job values) _ _ _ (no-header (length fields) f))
 
-  module _ (nine : length fields ≡ 9) (h : Header) (given : plain h ≡ header-of fields) where
+  module _ (nine : (length fields ≡ 9) ⊎ (length fields ≡ 12)) (h : Header) (given : plain h ≡ header-of fields) where
     abbrev looked : Option ℕ
     looked = write-refusal (plain h) rates sizes distortions (length job)
 
     nine-fields : write-export fields rates sizes distortions job values ≡ unless (λ n. written n job values) (first looked (refusal (room-for 1 values))) (after-write (write-call (plain h) rates sizes distortions job) values)
     unfolding write-export
-    nine-fields = guarded-last (λ n. written n job values) _ _ (eq-eqb (length fields) 9 nine) ∙ rw (← given)
+    nine-fields = guarded-last (λ n. written n job values) _ _ (is-header (length fields) nine) ∙ rw (← given)
 
     pub write-before : (n : ℕ) → some n ≡ looked → written n job values ≡ write-export fields rates sizes distortions job values
     write-before n e = before (λ n. written n job values) looked 1 values _ n e ∙ sym nine-fields

@@ -1,11 +1,13 @@
 -- The claims of the exported calls, composed from those of the calls within them: `Opening`, `Calling`, `Plans`, `Replays`, `Reports` and `Writes`.
 use Prim.Native.Nat.{ℕ, _+_, _/_, _≤_}
-use mathlib.Core.Path.{_≡_, refl, sym, _∙_, ap, ap₂}
+use mathlib.Core.Path.{_≡_, refl, sym, _∙_, ap, ap₂, subst}
+use mathlib.Core.Logic.{_⊎_}
 use mathlib.Core.Option.{Option, none, some}
 use mathlib.Core.List.{List, [], _∷_, _++_}
 use native.Mathlib.Omega.{arith}
 use lib.ListN.{length}
-use borrow.Author.Tests.{leb-true, le-leb, eq-eqb, ne-eqb}
+use borrow.Author.Tests.{leb-true, le-leb}
+use Rattle.upload.proofs.Answering.{is-header, no-header}
 use Rattle.base.specs.Answer.{Answer, refused, gives}
 use Rattle.base.specs.Refusals.{Test, Condition, condition, InOrder, refusal, unless, first, guarded}
 use Rattle.base.specs.Lent.{over, put}
@@ -36,7 +38,7 @@ use Rattle.calling.specs.Claims.{book-numbers, book-pins, SessionClaim}
 use Rattle.calling.proofs.Numbers.{calls-decide}
 use Rattle.calling.proofs.Sessions.{call-sessions, session-decides, sessions, replay-sessions}
 use Rattle.upload.specs.Exports as x
-use Rattle.upload.specs.Exports.{number-of, room-for, opened-values, opened, open-export, pins-list, called, after-calls, calls-export, totals-list, planned, after-session, plan-export, replayed, after-replay, replay-export, reported, report-export, written, after-write, write-export}
+use Rattle.upload.specs.Exports.{number-of, room-for, buckets-in, opened-values, opened, open-export, pins-list, called, after-calls, calls-export, totals-list, planned, after-session, plan-export, replayed, after-replay, replay-export, reported, report-export, written, after-write, write-export}
 use Rattle.upload.specs.Claims.{CallConditions, Opening, Calling, Planning, PlanConditions, Plans, Replaying, ReplayConditions, Replays, Reports, Writing, Writes}
 
 -- room for so many values
@@ -56,6 +58,16 @@ module _ {R : Type 0} (refuse : ℕ → R) (b : List ℕ) (tests : Job → List 
       rw all-tests
       (looks-read refuse (parse b) (λ j. tests j ++ room-for least values) (λ j. conditions j ++ (condition 12 (least ≤ length values) ∷ [])) (λ j. work) Else
       (λ j k e. let h = f j k e in (decides-join (h .0) (room-decides least values), h .1)))
+
+-- the same with the room said of the job that was read
+of-job : {R : Type 0} (r : R) (refuse : ℕ → R) (b : List ℕ) (conditions : Job → List Condition) (values : List ℕ) (Else : Job → Type 0) (least : ℕ) (most : Job → ℕ) → ((j : Job) (k : ℕ) → parse b ≡ P.took j k → least ≡ most j) → Looks r refuse (parse b) (λ j. conditions j ++ (condition 12 (least ≤ length values) ∷ [])) Else → Looks r refuse (parse b) (λ j. conditions j ++ (condition 12 (most j ≤ length values) ∷ [])) Else
+of-job r refuse b conditions values Else least most q l = (
+  l .0,
+  λ j k e. subst (λ (n : ℕ). InOrder r refuse (conditions j ++ (condition 12 (n ≤ length values) ∷ [])) (Else j)) (q j k e) (l .1 j k e),
+)
+
+counted : (b : List ℕ) (j : Job) (k : ℕ) → parse b ≡ P.took j k → buckets-in b ≡ length (j .line .buckets)
+counted b j k e = ap (λ (i : Job). length (i .line .buckets)) (held-job b j k e)
 
 -- a number that is no refusal's
 number-none : {A : Type 0} (a : Answer A) (n : ℕ) → number-of a ≡ n → (n ≡ 0 → ⊥) → a ≡ refused n
@@ -115,20 +127,22 @@ module _ (j : Job) (calls answers table entries values : List ℕ) (s : Session)
 pub plans : Plans
 unfolding plan-export plan-refusal
 plans b calls answers table entries values =
-    looks (λ n. planned n answers table entries values) b (λ j. session-tests j calls (length answers) (length table) (length entries)) 4 values (after-session (session-call b calls answers table entries) values) (λ j. PlanConditions j calls answers table entries) (λ j r. Planning j calls answers table entries values r)
+    of-job _ (λ n. planned n answers table entries values) b (λ j. PlanConditions j calls answers table entries) values _ (3 + buckets-in b) (λ j. 3 + length (j .line .buckets)) (λ j k e. ap (λ (n : ℕ). 3 + n) (counted b j k e))
+    (looks (λ n. planned n answers table entries values) b (λ j. session-tests j calls (length answers) (length table) (length entries)) (3 + buckets-in b) values (after-session (session-call b calls answers table entries) values) (λ j. PlanConditions j calls answers table entries) (λ j r. Planning j calls answers table entries values r)
     (λ j k e. (
       session-decides b calls answers table entries j,
       λ h. exported j calls answers table entries values (session-call b calls answers table entries) (sessions b calls answers table entries .1 j k e .1 (h .0) .1 (h .1 .0) .1 (h .1 .1 .0) .1 (h .1 .1 .1 .0) .1 (h .1 .1 .1 .1 .0)),
-    ))
+    )))
 
 pub replays : Replays
 unfolding replay-export replay-refusal
 replays b calls entries levels values =
-    looks (λ n. replayed n levels values) b (λ j. calls-tests calls ++ replay-tests j entries (length levels)) 6 values (after-replay (replay-session b calls entries levels) values) (λ j. ReplayConditions j calls entries levels) (λ j r. Replaying j calls entries levels values r)
+    of-job _ (λ n. replayed n levels values) b (λ j. ReplayConditions j calls entries levels) values _ (5 + buckets-in b) (λ j. 5 + length (j .line .buckets)) (λ j k e. ap (λ (n : ℕ). 5 + n) (counted b j k e))
+    (looks (λ n. replayed n levels values) b (λ j. calls-tests calls ++ replay-tests j entries (length levels)) (5 + buckets-in b) values (after-replay (buckets-in b) (replay-session b calls entries levels) values) (λ j. ReplayConditions j calls entries levels) (λ j r. Replaying j calls entries levels values r)
     (λ j k e. (
       decides-join (calls-decide calls) (replay-decides b j k e entries levels),
-      λ h. record { replay = replay-session b calls entries levels; claim = replay-sessions b calls entries levels .1 j k e .1 (h .0) .1 (h .1 .0) .1 (h .1 .1 .0) .1 (h .1 .1 .1 .0); is = refl },
-    ))
+      λ h. record { replay = replay-session b calls entries levels; claim = replay-sessions b calls entries levels .1 j k e .1 (h .0) .1 (h .1 .0) .1 (h .1 .1 .0) .1 (h .1 .1 .1 .0); is = ap (λ (n : ℕ). after-replay n (replay-session b calls entries levels) values) (counted b j k e) },
+    )))
 
 -- what is exported of a report
 shown : (b entries sums : List ℕ) (n : ℕ) → report-call b entries sums ≡ lent.refuse sums n → report-export b entries sums ≡ reported n sums
@@ -169,10 +183,10 @@ module _ (fields rates sizes distortions job values : List ℕ) where
   abbrev W : x.Written
   W = after-write (write-call H rates sizes distortions job) values
 
-  module _ (nine : length fields ≡ 9) where
+  module _ (nine : (length fields ≡ 9) ⊎ (length fields ≡ 12)) where
     on : r ≡ unless (λ n. written n job values) (first O (refusal (room-for 1 values))) W
     unfolding write-export
-    on = guarded-last (λ n. written n job values) _ _ (eq-eqb (length fields) 9 nine)
+    on = guarded-last (λ n. written n job values) _ _ (is-header (length fields) nine)
 
     refuses : (n : ℕ) → O ≡ some n → r ≡ written n job values
     refuses n e = on ∙ unless-some (λ n. written n job values) _ n W (unless-some some O n _ e)
@@ -192,6 +206,6 @@ module _ (fields rates sizes distortions job values : List ℕ) where
 
 pub writes-exported : Writes
 writes-exported fields rates sizes distortions job values = (
-  λ f. unfold write-export in (guarded-here (λ n. written n job values) _ _ _ (ne-eqb (length fields) 9 f)),
+  λ f. unfold write-export in (guarded-here (λ n. written n job values) _ _ _ (no-header (length fields) f)),
   λ nine. in-front (λ n. written n job values) (write-refusal (header-of fields) rates sizes distortions (length job)) (write-export fields rates sizes distortions job values) (Asks (header-of fields) rates sizes distortions job) (condition 12 (1 ≤ length values) ∷ []) (Writing fields rates sizes distortions job values (write-export fields rates sizes distortions job values)) (refusal-order (header-of fields) rates sizes distortions job) (refuses fields rates sizes distortions job values nine) (then-room fields rates sizes distortions job values nine),
 )

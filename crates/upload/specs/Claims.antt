@@ -1,7 +1,7 @@
 -- What is claimed of the exported calls: in which order each is refused, that a refusal writes nothing, 13 the table alone, and demands 2 and 3 of the call itself. Each claim is a type, which a theorem of proofs/ inhabits.
 use Prim.Native.Nat.{ℕ, _+_, _*_, _/_, _≤_}
 use mathlib.Core.Path.{_≡_}
-use mathlib.Core.Logic.{_↔_}
+use mathlib.Core.Logic.{_↔_, _⊎_}
 use mathlib.Core.List.{List, [], _∷_, _++_}
 use lib.ListN.{length}
 use Rattle.base.specs.Answer.{refused}
@@ -49,19 +49,19 @@ abbrev pub PlanConditions : Job → List ℕ → List ℕ → List ℕ → List 
 PlanConditions j calls answers table entries = CallConditions calls ++ (condition 11 (words j ≤ length table) ∷ condition 12 (length calls / 3 ≤ length answers) ∷ condition 12 (2 * intervals j ≤ length entries) ∷ [])
 
 abbrev pub Plans : Type 0
-Plans = (b calls answers table entries values : List ℕ) → Looks (plan-export b calls answers table entries values) (λ n. planned n answers table entries values) (parse b) (λ j. PlanConditions j calls answers table entries ++ (condition 12 (4 ≤ length values) ∷ [])) (λ j. Planning j calls answers table entries values (plan-export b calls answers table entries values))
+Plans = (b calls answers table entries values : List ℕ) → Looks (plan-export b calls answers table entries values) (λ n. planned n answers table entries values) (parse b) (λ j. PlanConditions j calls answers table entries ++ (condition 12 (3 + length (j .line .buckets) ≤ length values) ∷ [])) (λ j. Planning j calls answers table entries values (plan-export b calls answers table entries values))
 
 -- a replay after calls: the numbers are those of a replay of which demand 2 holds; a violation is no refusal
 pub record Replaying (j : Job) (calls entries levels values : List ℕ) (r : x.Played) : Type 0 where
   pub replay : Ended Replayed
   pub claim : DemandTwo j (book-pins j calls) (plan-of j entries) levels replay
-  pub is : r ≡ after-replay replay values
+  pub is : r ≡ after-replay (length (j .line .buckets)) replay values
 
 abbrev pub ReplayConditions : Job → List ℕ → List ℕ → List ℕ → List Condition
 ReplayConditions j calls entries levels = CallConditions calls ++ (condition 14 (InShape j entries) ∷ condition 12 ((1 + length (j .line .buckets)) * intervals j ≤ length levels) ∷ [])
 
 abbrev pub Replays : Type 0
-Replays = (b calls entries levels values : List ℕ) → Looks (replay-export b calls entries levels values) (λ n. replayed n levels values) (parse b) (λ j. ReplayConditions j calls entries levels ++ (condition 12 (6 ≤ length values) ∷ [])) (λ j. Replaying j calls entries levels values (replay-export b calls entries levels values))
+Replays = (b calls entries levels values : List ℕ) → Looks (replay-export b calls entries levels values) (λ n. replayed n levels values) (parse b) (λ j. ReplayConditions j calls entries levels ++ (condition 12 (5 + length (j .line .buckets) ≤ length values) ∷ [])) (λ j. Replaying j calls entries levels values (replay-export b calls entries levels values))
 
 -- the report: the sums of (6)
 pub record Reporting (j : Job) (entries sums : List ℕ) (r : x.Reported) : Type 0 where
@@ -72,11 +72,11 @@ pub record Reporting (j : Job) (entries sums : List ℕ) (r : x.Reported) : Type
 abbrev pub Reports : Type 0
 Reports = (b entries sums : List ℕ) → Looks (report-export b entries sums) (λ n. reported n sums) (parse b) (λ j. condition 14 (InShape j entries) ∷ condition 12 (length (j .units) + 1 ≤ length sums) ∷ []) (λ j. Reporting j entries sums (report-export b entries sums))
 
--- writing: fields that are not nine are no header; then the writer's own order, then room for the value, which is how many bytes the job took
+-- writing: fields that are neither nine nor twelve are no header; then the writer's own order, then room for the value, which is how many bytes the job took
 pub record Writing (fields rates sizes distortions job values : List ℕ) (r : x.Written) : Type 0 where
   pub taken : ℕ
   pub holds : Written (header-of fields) rates sizes distortions job taken (r .job)
   pub is : r ≡ written 0 (r .job) (over (taken ∷ []) values)
 
 abbrev pub Writes : Type 0
-Writes = (fields rates sizes distortions job values : List ℕ) → InOrder (write-export fields rates sizes distortions job values) (λ n. written n job values) (condition 3 (length fields ≡ 9) ∷ (Asks (header-of fields) rates sizes distortions job ++ (condition 12 (1 ≤ length values) ∷ []))) (Writing fields rates sizes distortions job values (write-export fields rates sizes distortions job values))
+Writes = (fields rates sizes distortions job values : List ℕ) → InOrder (write-export fields rates sizes distortions job values) (λ n. written n job values) (condition 3 ((length fields ≡ 9) ⊎ (length fields ≡ 12)) ∷ (Asks (header-of fields) rates sizes distortions job ++ (condition 12 (1 ≤ length values) ∷ []))) (Writing fields rates sizes distortions job values (write-export fields rates sizes distortions job values))

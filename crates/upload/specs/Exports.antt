@@ -1,8 +1,10 @@
 -- What the exported calls answer and leave: the inner calls' answers as a number, 0 where a call is not refused, and values in a list.
-use Prim.Native.Nat.{ℕ, _+_}
+use Prim.Native.Nat.{ℕ, zero, suc, _+_}
+use mathlib.Core.Bool.{Bool, true}
 use mathlib.Core.List.{List, [], _∷_}
 use lib.Dec.{leb, eqb}
-use lib.ListN.{length}
+use lib.ListN.{length, replicate}
+use Rattle.base.specs.If.{if_then_else_}
 use Rattle.base.specs.Answer.{Answer, refused, gives}
 use Rattle.base.specs.Refusals.{Test, test, refusal, unless, first, guarded}
 use Rattle.base.specs.Lent.{Ended, over, put}
@@ -10,7 +12,7 @@ use Rattle.model.specs.Admissible as v
 use Rattle.model.specs.Pins.{PinTotals}
 use Rattle.model.specs.Replay as model
 use Rattle.format.specs.Parser.{on-took}
-use Rattle.format.specs.JobBytes.{Header, header-of, header-in, parse}
+use Rattle.format.specs.JobBytes.{Header, header-of, header-in, parse, job-in}
 use Rattle.interval.specs.declared.Totals.{Totals}
 use Rattle.interval.specs.Answers.{totals-of}
 use Rattle.replaying.specs.Calls.{Replayed, totals-are, violated, report-call}
@@ -26,6 +28,10 @@ number-of (gives a) = 0
 -- 12: a list has room for so many values
 abbrev pub room-for : ℕ → List ℕ → List Test
 room-for n values = test 12 (leb n (length values)) ∷ []
+
+-- how many buckets the line of the job has that stands in bytes
+abbrev pub buckets-in : List ℕ → ℕ
+buckets-in b = length (job-in b .line .buckets)
 
 -- how many bytes a job took, N, T, and how many words its table has
 unfoldable pub opened-values : ℕ → Header → List ℕ
@@ -85,20 +91,21 @@ after-session r values = planned (number-of (r .planned .answer)) (r .answers) (
 
 unfoldable pub plan-export : List ℕ → List ℕ → List ℕ → List ℕ → List ℕ → List ℕ → Planned
 plan-export b calls answers table entries values =
-    unless (λ n. planned n answers table entries values) (first (plan-refusal b calls (length answers) (length table) (length entries)) (refusal (room-for 4 values)))
+    unless (λ n. planned n answers table entries values) (first (plan-refusal b calls (length answers) (length table) (length entries)) (refusal (room-for (3 + buckets-in b) values)))
     (after-session (session-call b calls answers table entries) values)
 
--- document 01's breaches, counted from 1 in the order in which it names them; there is one bucket
+-- the violations by their numbers: document 01's, counted from 1 in the order in which it names them, then the second bucket's (document 02, E5)
 unfoldable pub violation-number : v.Violation → ℕ
 violation-number v.decoder-underflow = 1
 violation-number v.decoder-overflow = 2
-violation-number (v.bucket-overflow i) = 3
+violation-number (v.bucket-overflow zero) = 3
+violation-number (v.bucket-overflow (suc i)) = 5
 violation-number v.pin-not-held = 4
 
--- the violation's number, or 0, its interval, or 0, and the totals, 0 where there is a violation
-unfoldable pub replayed-list : Replayed → List ℕ
-replayed-list (totals-are t) = 0 ∷ 0 ∷ totals-list t
-replayed-list (violated n x) = violation-number x ∷ n ∷ 0 ∷ 0 ∷ 0 ∷ 0 ∷ []
+-- the violation's number, or 0, its interval, or 0, and the totals, 0 where there is a violation, over so many buckets
+unfoldable pub replayed-list : ℕ → Replayed → List ℕ
+replayed-list k (totals-are t) = 0 ∷ 0 ∷ totals-list t
+replayed-list k (violated n x) = violation-number x ∷ n ∷ replicate (3 + k) 0
 
 pub record Played : Type 0 where
   pub number : ℕ
@@ -108,13 +115,13 @@ pub record Played : Type 0 where
 abbrev pub replayed : ℕ → List ℕ → List ℕ → Played
 replayed n levels values = record { number = n; levels = levels; values = values }
 
-unfoldable pub after-replay : Ended Replayed → List ℕ → Played
-after-replay r values = replayed (number-of (r .answer)) (r .list) (put (r .answer) replayed-list values)
+unfoldable pub after-replay : ℕ → Ended Replayed → List ℕ → Played
+after-replay k r values = replayed (number-of (r .answer)) (r .list) (put (r .answer) (replayed-list k) values)
 
 unfoldable pub replay-export : List ℕ → List ℕ → List ℕ → List ℕ → List ℕ → Played
 replay-export b calls entries levels values =
-    unless (λ n. replayed n levels values) (first (replay-refusal b calls entries (length levels)) (refusal (room-for 6 values)))
-    (after-replay (replay-session b calls entries levels) values)
+    unless (λ n. replayed n levels values) (first (replay-refusal b calls entries (length levels)) (refusal (room-for (5 + buckets-in b) values)))
+    (after-replay (buckets-in b) (replay-session b calls entries levels) values)
 
 pub record Reported : Type 0 where
   pub number : ℕ
@@ -138,9 +145,13 @@ written n job values = record { number = n; job = job; values = values }
 unfoldable pub after-write : Ended ℕ → List ℕ → Written
 after-write r values = written (number-of (r .answer)) (r .list) (put (r .answer) (λ taken. taken ∷ []) values)
 
--- fields that are not nine are no header
+-- nine fields are a header, or twelve
+unfoldable pub header-fields : ℕ → Bool
+header-fields n = if eqb n 12 then true else eqb n 9
+
+-- another number of them is none
 unfoldable pub write-export : List ℕ → List ℕ → List ℕ → List ℕ → List ℕ → List ℕ → Written
 write-export fields rates sizes distortions job values =
-    guarded (λ n. written n job values) (test 3 (eqb (length fields) 9) ∷ [])
+    guarded (λ n. written n job values) (test 3 (header-fields (length fields)) ∷ [])
     (unless (λ n. written n job values) (first (write-refusal (header-of fields) rates sizes distortions (length job)) (refusal (room-for 1 values)))
     (after-write (write-call (header-of fields) rates sizes distortions job) values))

@@ -1,17 +1,20 @@
 // The planner for programs in other languages: numbers and lists alone. Each function answers 0, or the number of document 01's refusal; its values go to a list that is lent.
 // The job's refusals come first. A list for values that is too short is refused with 12, behind the other lists.
 ghost use mathlib.Core.Path.{_≡_};
-ghost use Prim.Native.Nat.{_≤_};
+ghost use Prim.Native.Nat.{_+_, _*_, _≤_};
 ghost use mathlib.Core.List.{[], _∷_};
-ghost use lib.ListN.{length};
-ghost use Rattle.format.specs.JobBytes.{header-of};
-ghost use Rattle.job.specs.Answers.{plain};
+ghost use lib.ListN.{length, drop, replicate};
+ghost use Rattle.base.specs.If.{one-if};
+ghost use Rattle.format.specs.JobBytes.{policed-by, header-of};
+ghost use Rattle.job.specs.Answers.{extra, policed-of, plain};
 ghost use Rattle.interval.specs.Answers.{violation};
 ghost use Rattle.base.specs.Lent.{over};
-ghost use Rattle.upload.specs.Exports.{opened-values, totals-values, violation-number, opened, open-export, called, calls-export, planned, plan-export, replayed, replay-export, reported, report-export, written, write-export};
+ghost use Rattle.upload.specs.Exports.{buckets-in, header-fields, opened-values, totals-values, violation-number, opened, open-export, called, calls-export, planned, plan-export, replayed, replay-export, reported, report-export, written, write-export};
 use interval::Totals;
 use interval::Violation;
+use job::Bucket;
 use job::Header;
+use job::Reading;
 use job::Verdict;
 use pins::Opening;
 use planner::Planned;
@@ -26,14 +29,17 @@ const OPEN_VALUES: usize = 4;
 
 const CALLS_VALUES: usize = 3;
 
-const PLAN_VALUES: usize = 4;
+// Planning and replay give these, and one more for each bucket.
+const PLAN_VALUES: usize = 3;
 
-const REPLAY_VALUES: usize = 6;
+const REPLAY_VALUES: usize = 5;
 
 const WRITE_VALUES: usize = 1;
 
-// How many fields a header has.
+// How many fields a header has, with one bucket and with two.
 const FIELDS: usize = 9;
+
+const TWO_FIELDS: usize = 12;
 
 // What is answered where a call is not refused.
 const DONE: u32 = 0;
@@ -76,15 +82,28 @@ pub extern "C" fn upload_open(job: &[u8], values: &mut [u64]) -> u32
     }
 }
 
-// Distortion, source size, channel size and unused drain.
+// How many buckets the line of a job has; one where the bytes hold no job.
+fn buckets_in(job: &[u8]) -> usize
+    ensures { λ r. ⌜ r ≡ buckets-in (now (job .entry)) ⌝ }
+{
+    match job::read(job) {
+        Reading::Refused(_) => 1,
+        Reading::Read { header, taken: _ } => { if header.two { 2 } else { 1 } }
+    }
+}
+
+// Distortion, source size, channel size and the unused drain of each bucket.
 fn put_totals(values: &mut [u64], totals: Totals)
-    requires { ⌜ 4 ≤ length (now values) ⌝ }
+    requires { ⌜ length (totals-values totals) ≤ length (now values) ⌝ }
     ensures { λ _. ⌜ now (values .exit) ≡ over (totals-values totals) (now (values .entry)) ⌝ }
 {
     values[0] = totals.distortion as u64;
     values[1] = totals.source as u64;
     values[2] = totals.channel as u64;
     values[3] = totals.unused as u64;
+    if totals.two {
+        values[4] = totals.unused2 as u64;
+    }
 }
 
 // Of pins: how many, the sum of their sizes and the sum of their distortions.
@@ -122,7 +141,7 @@ pub extern "C" fn upload_calls(
     }
 }
 
-// Makes calls as numbers and plans with the pins that they leave. Where there is a plan, each call's number goes to `answers`; 13 writes the table alone. Values: distortion, source size, channel size and unused drain of the plan.
+// Makes calls as numbers and plans with the pins that they leave. Where there is a plan, each call's number goes to `answers`; 13 writes the table alone. Values: distortion, source size and channel size of the plan, then the unused drain of each bucket.
 #[no_mangle]
 pub extern "C" fn upload_plan(
     job: &[u8],
@@ -143,7 +162,8 @@ pub extern "C" fn upload_plan(
     ) {
         return n as u32;
     }
-    if values.len() < PLAN_VALUES {
+    let buckets = buckets_in(job);
+    if values.len() < PLAN_VALUES + buckets {
         return SHORT_LIST;
     }
     match session::plan_after(job, calls, answers, table, entries) {
@@ -155,7 +175,7 @@ pub extern "C" fn upload_plan(
     }
 }
 
-// The numbers are names that callers have stored. They are in document 01's order of tests, and stayed when document 02, E2, changed that order.
+// The numbers are names that callers have stored. 1 to 4 are in document 01's order of tests, and stayed when document 02, E2, changed that order and E5 put a second bucket between.
 fn violation_number(x: Violation) -> u64
     ensures { λ r. ⌜ r ≡ violation-number (violation x) ⌝ }
 {
@@ -164,12 +184,13 @@ fn violation_number(x: Violation) -> u64
         Violation::DecoderOverflow => 2,
         Violation::BucketOverflow => 3,
         Violation::PinNotHeld => 4,
+        Violation::SecondOverflow => 5,
     }
 }
 
 // The violation's number, or 0, its interval, or 0, and the totals, 0 where there is a violation.
 fn put_replayed(values: &mut [u64], violation: u64, interval: u16, totals: Totals)
-    requires { ⌜ 6 ≤ length (now values) ⌝ }
+    requires { ⌜ 2 + length (totals-values totals) ≤ length (now values) ⌝ }
     ensures { λ _. ⌜ now (values .exit) ≡ over (violation ∷ interval ∷ totals-values totals) (now (values .entry)) ⌝ }
 {
     values[0] = violation;
@@ -178,9 +199,27 @@ fn put_replayed(values: &mut [u64], violation: u64, interval: u16, totals: Total
     values[3] = totals.source as u64;
     values[4] = totals.channel as u64;
     values[5] = totals.unused as u64;
+    if totals.two {
+        values[6] = totals.unused2 as u64;
+    }
 }
 
-// Replays a plan with the pins that calls as numbers leave. Values: 0, or the number of the first violation (1 decoder short, 2 decoder over, 3 bucket over, 4 pin not held); its interval, counted from 1, or 0; then distortion, source size, channel size and unused drain, 0 where there is a violation.
+// Totals of zeros over so many buckets.
+fn no_totals(buckets: usize) -> Totals
+    requires { ⌜ (1 ≤ buckets) × (buckets ≤ 2) ⌝ }
+    ensures { λ r. ⌜ totals-values r ≡ replicate (3 + buckets) 0 ⌝ }
+{
+    Totals {
+        distortion: 0,
+        source: 0,
+        channel: 0,
+        unused: 0,
+        two: buckets == 2,
+        unused2: 0,
+    }
+}
+
+// Replays a plan with the pins that calls as numbers leave. Values: 0, or the number of the first violation (1 decoder short, 2 decoder over, 3 bucket over, 4 pin not held, 5 second bucket over); its interval, counted from 1, or 0; then distortion, source size, channel size and the unused drain of each bucket, 0 where there is a violation.
 #[no_mangle]
 pub extern "C" fn upload_replay(
     job: &[u8],
@@ -194,7 +233,8 @@ pub extern "C" fn upload_replay(
     if let Verdict::Refused(n) = session::replay_refusal(job, calls, entries, levels.len()) {
         return n as u32;
     }
-    if values.len() < REPLAY_VALUES {
+    let buckets = buckets_in(job);
+    if values.len() < REPLAY_VALUES + buckets {
         return SHORT_LIST;
     }
     match session::replay_after(job, calls, entries, levels) {
@@ -208,7 +248,7 @@ pub extern "C" fn upload_replay(
             violation,
         } => {
             let number = violation_number(violation);
-            put_replayed(values, number, interval, Totals::none());
+            put_replayed(values, number, interval, no_totals(buckets));
             DONE
         }
     }
@@ -225,25 +265,59 @@ pub extern "C" fn upload_report(job: &[u8], entries: &[u8], sums: &mut [u32]) ->
     }
 }
 
-// The header of nine fields in their order.
-fn header_of(fields: &[u16]) -> Header
-    requires { ⌜ length (now fields) ≡ 9 ⌝ }
+// Whether so many fields are a header.
+fn fields_fit(count: usize) -> bool
+    ensures { λ r. ⌜ r ≡ header-fields count ⌝ }
+{
+    match count {
+        FIELDS => true,
+        TWO_FIELDS => true,
+        _ => false,
+    }
+}
+
+// The second bucket among a header's fields, where there is one.
+fn second_of(fields: &[u16], two: bool) -> Bucket
+    requires { ⌜ length (now fields) ≡ 9 + 3 * extra two ⌝ }
+    ensures { λ r. ⌜ one-if two (policed-of r) ≡ policed-by (drop 9 (now (fields .entry))) ⌝ }
+{
+    if two {
+        return Bucket {
+            size: fields[9],
+            drain: fields[10],
+            fill: fields[11],
+        };
+    }
+    Bucket {
+        size: 0,
+        drain: 0,
+        fill: 0,
+    }
+}
+
+// The header of nine fields in their order, or of twelve.
+fn header_of(fields: &[u16], two: bool) -> Header
+    requires { ⌜ length (now fields) ≡ 9 + 3 * extra two ⌝ }
     ensures { λ r. ⌜ plain r ≡ header-of (now (fields .entry)) ⌝ }
 {
     Header {
         units: fields[0],
         delay: fields[1],
         decoder: fields[2],
-        bucket: fields[3],
-        drain: fields[4],
         level: fields[5],
-        fill: fields[6],
+        first: Bucket {
+            size: fields[3],
+            drain: fields[4],
+            fill: fields[6],
+        },
+        two,
+        second: second_of(fields, two),
         rates: fields[7],
         choices: fields[8],
     }
 }
 
-// Writes a job from the nine fields of its header, its rates, and sizes and distortions by unit and choice, unit after unit. Values: how many bytes the job took. Fields that are not nine are no header.
+// Writes a job from the nine fields of its header, or twelve, its rates, and sizes and distortions by unit and choice, unit after unit. Values: how many bytes the job took. Another number of fields is no header.
 #[no_mangle]
 pub extern "C" fn upload_write(
     fields: &[u16],
@@ -255,10 +329,11 @@ pub extern "C" fn upload_write(
 ) -> u32
     ensures { λ r. ⌜ written r (now (job .exit)) (now (values .exit)) ≡ write-export (now (fields .entry)) (now (rates .entry)) (now (sizes .entry)) (now (distortions .entry)) (now (job .entry)) (now (values .entry)) ⌝ }
 {
-    if fields.len() != FIELDS {
+    if !fields_fit(fields.len()) {
         return NO_HEADER;
     }
-    let header = header_of(fields);
+    let two = fields.len() == TWO_FIELDS;
+    let header = header_of(fields, two);
     if let Verdict::Refused(n) = writer::write_refusal(
         header,
         rates,

@@ -4,24 +4,24 @@ use mathlib.Core.Path.{_≡_, sym, ap, _∙_}
 use mathlib.Core.Option.{none, some}
 use mathlib.Core.List.{List, []}
 use native.Mathlib.Omega.{arith}
-use lib.ListN.{length, replicate}
+use lib.ListN.{length}
 use borrow.Author.Tests.{lt-leb, le-leb}
 use Rattle.base.specs.Answer.{refused, gives}
 use Rattle.base.specs.Refusals.{refusal}
 use Rattle.base.specs.Lent.{refuse, over}
 use Rattle.base.proofs.Refusals.{refusal-here, refusal-last, unless-some, unless-none}
-use Rattle.format.specs.Fields.{spelled}
 use Rattle.format.specs.Limits.{broken}
 use Rattle.format.specs.Parser.{all-bytes}
-use Rattle.format.specs.JobBytes.{Header, unit-bytes, encode}
-use Rattle.format.specs.Places.{job-size}
+use Rattle.format.specs.Records.{record-bytes}
+use Rattle.format.specs.JobBytes.{Header, rates-form, unit-bytes, header-bytes, encode}
+use Rattle.format.specs.Places.{header-size, job-size}
 use Rattle.format.proofs.Limits.{all-kept}
 use Rattle.writing.specs.Lists.{parted, codings-from, job-from}
 use Rattle.writing.specs.Calls.{write-limits, room-tests, write-refusal, write-call}
 use Rattle.writing.proofs.Order.{Accepted, accepted}
 use Rattle.writing.proofs.Writes.{header-given, taken, room-for}
 use Rattle.writing.proofs.Refusals.{size-given, refused-first, limits-kept, room-left}
-use Rattle.writer.specs.Answers.{put-at, front-numbers}
+use Rattle.writer.specs.Answers.{put-at}
 use Rattle.writer.proofs.Records.{put-job}
 
 -- the verdict before writing: the limits, then the room
@@ -58,14 +58,16 @@ module _ (h : Header) (rates sizes distortions out : List ℕ) where
     pub write-room : job-size h ≤ length out
     write-room = room-left h rates sizes distortions out (sym e)
 
-    bytes-are : (m o p : List ℕ) → m ≡ put-at out 0 (spelled (replicate 13 2) (front-numbers h)) → o ≡ put-at m 26 (spelled (replicate (length rates) 2) rates) → p ≡ put-at o (26 + 2 * length rates) (all-bytes (unit-bytes (h .choices)) (parted (h .units) (h .choices) (codings-from sizes distortions))) → length (encode (job-from h rates sizes distortions)) ≤ length out → p ≡ over (encode (job-from h rates sizes distortions)) out
-    unfolding job-from
-    bytes-are m o p a b c fits = put-job h rates (parted (h .units) (h .choices) (codings-from sizes distortions)) (header-given h rates sizes distortions write-accepted) (omega (arith, write-accepted .lengths)) out m o p a b c fits
+    -- the header, the rates and the units, written one behind another, where the header takes w bytes
+    module _ (w : ℕ) (front : w ≡ header-size h) (m o p : List ℕ) (a : m ≡ put-at out 0 (header-bytes h)) (b : o ≡ put-at m w (record-bytes (rates-form (length rates)) rates)) (c : p ≡ put-at o (w + 4 + 2 * length rates) (all-bytes (unit-bytes (h .choices)) (parted (h .units) (h .choices) (codings-from sizes distortions)))) where
+      bytes-are : length (encode (job-from h rates sizes distortions)) ≤ length out → p ≡ over (encode (job-from h rates sizes distortions)) out
+      unfolding job-from
+      bytes-are fits = put-job h rates (parted (h .units) (h .choices) (codings-from sizes distortions)) (header-given h rates sizes distortions write-accepted) (omega (arith, write-accepted .lengths)) w front out m o p a b c fits
 
-    pub write-done : (m o p : List ℕ) → m ≡ put-at out 0 (spelled (replicate 13 2) (front-numbers h)) → o ≡ put-at m 26 (spelled (replicate (length rates) 2) rates) → p ≡ put-at o (26 + 2 * length rates) (all-bytes (unit-bytes (h .choices)) (parted (h .units) (h .choices) (codings-from sizes distortions))) → record { answer = gives (job-size h); list = p } ≡ write-call h rates sizes distortions out
-    write-done m o p a b c =
-        let k = limits-kept h rates sizes distortions out (sym e) in
-        let s = size-given h rates sizes distortions out k in
-        sym (taken h rates sizes distortions out k
-        ∙ room-for (job-from h rates sizes distortions) out s write-room
-        ∙ ap (λ (list : List ℕ). record { answer = gives (job-size h); list = list }) (sym (bytes-are m o p a b c (omega (arith, write-room)))))
+      pub write-done : record { answer = gives (job-size h); list = p } ≡ write-call h rates sizes distortions out
+      write-done =
+          let k = limits-kept h rates sizes distortions out (sym e) in
+          let s = size-given h rates sizes distortions out k in
+          sym (taken h rates sizes distortions out k
+          ∙ room-for (job-from h rates sizes distortions) out s write-room
+          ∙ ap (λ (list : List ℕ). record { answer = gives (job-size h); list = list }) (sym (bytes-are (omega (arith, write-room)))))

@@ -2,17 +2,19 @@
 pub mod refusal;
 
 ghost use mathlib.Core.Path.{_≡_};
+ghost use mathlib.Core.List.{[], _∷_};
 ghost use Prim.Native.Nat.{_+_, _*_, _≤_};
 ghost use lib.ListN.{length, replicate};
 ghost use Rattle.format.specs.Fields.{bytes, spelled};
 ghost use Rattle.format.specs.Limits.{broken, AllKept};
 ghost use Rattle.format.specs.Parser.{all-bytes};
-ghost use Rattle.format.specs.JobBytes.{header-limits, rate-limits, coding-limits, unit-values, entry-widths, unit-bytes};
-ghost use Rattle.format.specs.Places.{job-size, unit-size};
-ghost use Rattle.job.specs.Answers.{plain, verdict};
+ghost use Rattle.format.specs.Records.{record-bytes};
+ghost use Rattle.format.specs.JobBytes.{header-limits, rate-limits, coding-limits, nine-values, unit-values, entry-widths, rates-form, header-bytes, unit-bytes};
+ghost use Rattle.format.specs.Places.{header-size, rates-size, unit-size, job-size};
+ghost use Rattle.job.specs.Answers.{policed-of, plain, verdict};
 ghost use Rattle.writing.specs.Lists.{parted, codings-from};
 ghost use Rattle.writing.specs.Calls.{length-limits, write-limits, write-refusal, write-call};
-ghost use Rattle.writer.specs.Answers.{wrote, put-at, front-numbers};
+ghost use Rattle.writer.specs.Answers.{wrote, put-at};
 use job::Header;
 use job::Verdict;
 
@@ -157,36 +159,60 @@ fn put_units(out: &mut [u8], at: usize, header: Header, sizes: &[u16], distortio
     }
 }
 
-// The header's record, and the head of the rates' record.
-fn put_front(out: &mut [u8], header: Header)
-    requires { ⌜ (header .rates ≤ 16) × (26 ≤ length (now out)) ⌝ }
-    ensures { λ _. ⌜ now (out .exit) ≡ put-at (now (out .entry)) 0 (spelled (replicate 13 2) (front-numbers (plain header))) ⌝ }
+// The head of a header's record, and the nine fields that either kind has.
+fn put_nine(out: &mut [u8], len: u16, kind: u16, header: Header)
+    requires { ⌜ 22 ≤ length (now out) ⌝ }
+    ensures { λ _. ⌜ now (out .exit) ≡ put-at (now (out .entry)) 0 (spelled (replicate 11 2) (len ∷ kind ∷ nine-values (plain header) (policed-of (header .first)) [])) ⌝ }
 {
-    let front = [
-        Header::LENGTH,
-        Header::KIND,
+    let nine = [
+        len,
+        kind,
         header.units,
         header.delay,
         header.decoder,
-        header.bucket,
-        header.drain,
+        header.first.size,
+        header.first.drain,
         header.level,
-        header.fill,
+        header.first.fill,
         header.rates,
         header.choices,
-        2 + 2 * header.rates,
-        Header::RATES_KIND,
     ];
-    put_numbers(out, 0, &front);
+    put_numbers(out, 0, &nine);
+}
+
+// The header's record: of kind 1, or with two buckets of kind 8, where the second's fields stand behind the nine (document 02, E5).
+fn put_header(out: &mut [u8], header: Header)
+    requires { ⌜ header-size (plain header) ≤ length (now out) ⌝ }
+    ensures { λ _. ⌜ now (out .exit) ≡ put-at (now (out .entry)) 0 (header-bytes (plain header)) ⌝ }
+{
+    if !header.two {
+        put_nine(out, Header::LENGTH, Header::KIND, header);
+        return;
+    }
+    let second = [header.second.size, header.second.drain, header.second.fill];
+    put_nine(out, Header::TWO_LENGTH, Header::TWO_KIND, header);
+    put_numbers(out, Header::SIZE, &second);
+}
+
+// The rates' record.
+fn put_rates(out: &mut [u8], at: usize, rates: &[u16])
+    requires { ⌜ (length (now rates) ≤ 1000) × (at + rates-size (length (now rates)) ≤ length (now out)) ⌝ }
+    ensures { λ _. ⌜ now (out .exit) ≡ put-at (now (out .entry)) at (record-bytes (rates-form (length (now (rates .entry)))) (now (rates .entry))) ⌝ }
+{
+    let head = [2 + 2 * (rates.len() as u16), Header::RATES_KIND];
+    let body = at + Header::HEAD;
+    put_numbers(out, at, &head);
+    put_numbers(out, body, rates);
 }
 
 // How many bytes a job with this header takes.
 pub fn job_size(header: Header) -> usize
     ensures { λ r. ⌜ r ≡ job-size (plain header) ⌝ }
 {
+    let front = header.record_size();
     let unit = Header::HEAD + 6 * (header.choices as usize);
     let units = header.units as usize * unit;
-    Header::SIZE + Header::HEAD + 2 * (header.rates as usize) + units
+    front + Header::HEAD + 2 * (header.rates as usize) + units
 }
 
 // What refuses a job to be written to so many bytes: 3, 16, 4 and 5, then 12.
@@ -222,10 +248,10 @@ pub fn write_job(
         return Wrote::Refused(n);
     }
     let size = job_size(header);
-    let body = Header::SIZE + Header::HEAD;
-    let units = body + 2 * rates.len();
-    put_front(out, header);
-    put_numbers(out, body, rates);
+    let front = header.record_size();
+    let units = front + Header::HEAD + 2 * rates.len();
+    put_header(out, header);
+    put_rates(out, front, rates);
     put_units(out, units, header, sizes, distortions);
     Wrote::Done(size)
 }

@@ -18,7 +18,7 @@ writes-a = refl
 
 -- what is wrong, and the number: nothing but the output, a coding, a rate as well, a length as well, the header as well
 unfoldable spoiled : Header
-spoiled = record { units = 2; delay = 65; decoder = 4; bucket = 3; drain = 2; level = 0; fill = 0; rates = 3; choices = 2 }
+spoiled = record { units = 2; delay = 65; decoder = 4; level = 0; buckets = record { size = 3; drain = 2; fill = 0 } ∷ []; rates = 3; choices = 2 }
 
 abbrev number : Header → List ℕ → List ℕ → List ℕ → Answer ℕ
 number h rates sizes distortions = write-call h rates sizes distortions (replicate 63 7) .answer

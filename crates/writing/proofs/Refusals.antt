@@ -16,7 +16,7 @@ use Rattle.format.specs.Limits.{broken, AllKept}
 use Rattle.format.specs.JobBytes.{Header, header-limits, rate-limits, coding-limits, encode}
 use Rattle.format.specs.Places.{job-size}
 use Rattle.format.proofs.Limits.{broken-one, none-broken, all-kept, all-kept-join}
-use Rattle.format.proofs.Orders.{header-number, rates-number, codings-number}
+use Rattle.format.proofs.Opening.{header-number, rates-number, codings-number}
 use Rattle.format.proofs.RoundTrip.{sized}
 use Rattle.writing.specs.Lists.{codings-from, job-from}
 use Rattle.writing.specs.Calls.{length-limits, write-limits, room-tests, write-in, write-refusal, write-call}

@@ -21,7 +21,7 @@ use Rattle.format.specs.Parser.{Each, no-more, one-more}
 use Rattle.format.specs.JobBytes.{Header, job-of, header-in, encode, UnitKept, WellFormed}
 use Rattle.format.proofs.Limits.{all-kept, none-broken}
 use Rattle.format.proofs.Header.{header-back}
-use Rattle.format.proofs.RoundTrip.{job-back, parse-encode, encode-parse}
+use Rattle.format.proofs.RoundTrip.{level-each, job-back, parse-encode, encode-parse}
 use Rattle.writing.specs.Lists.{joined, parted, sizes-in, distortions-in, codings-from, job-from}
 use Rattle.writing.specs.Calls.{write-limits, room-tests, write-in, write-call}
 use Rattle.writing.specs.Claims.{Written, Writes, Rewrites}
@@ -46,8 +46,7 @@ module _ (h : Header) (rates sizes distortions : List ℕ) where
 
     pub well-given : WellFormed (job-from h rates sizes distortions)
     well-given = record {
-      one-bucket = unfold job-from job-of in refl;
-      one-fill = unfold job-from job-of in refl;
+      fills = level-each (job-from h rates sizes distortions) h rates (parted (h .units) (h .choices) cs) (unfold job-from in refl);
       header = rw header-given (a .header);
       rates = unfold job-from job-of in (a .rates-kept);
       units = unfold job-from job-of in (parted-kept (h .units) (h .choices) cs counted (a .codings-kept));

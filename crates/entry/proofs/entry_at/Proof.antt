@@ -1,3 +1,4 @@
+-- `entry::entry_at` meets its contract.
 use Rattle.entry.proofs.Bytes.{entry-read}
 use borrow.Author.Needs.{needs}
 use Rattle.entry.proofs.entry_at.Statement.{statement}

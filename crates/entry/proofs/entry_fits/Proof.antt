@@ -1,3 +1,4 @@
+-- `entry::entry_fits` meets its contract.
 use Rattle.entry.proofs.Shapes.{entry-no-rate, entry-waits, entry-decodes}
 use Rattle.job.specs.Answers.{plain}
 use borrow.Author.Needs.{needs}

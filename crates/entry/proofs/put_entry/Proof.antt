@@ -1,3 +1,4 @@
+-- `entry::put_entry` meets its contract.
 use Rattle.entry.proofs.Bytes.{entry-written}
 use native.Mathlib.Omega.{arith}
 use borrow.Author.Needs.{needs}

@@ -1,3 +1,4 @@
+-- `entry::shaped` meets its contract.
 use Prim.Native.Nat.{ℕ, _≤_, _-_, _*_, _+_}
 use native.Mathlib.Omega.{arith}
 use borrow.Author.Needs.{needs}

@@ -1,3 +1,4 @@
+-- `interval::bucket_step` meets its contract.
 use Rattle.interval.proofs.Steps.{drained-same}
 use Rattle.interval.specs.Answers.{drained}
 use Rattle.model.specs.Step.{bucket-step}

@@ -1,3 +1,4 @@
+-- `interval::decoder_step` meets its contract.
 use mathlib.Core.Path.{sym}
 use native.Mathlib.Omega.{arith}
 use Rattle.model.proofs.Decoder.{decoder-steps}

@@ -1,3 +1,4 @@
+-- `interval::pin_holds` meets its contract.
 use Rattle.interval.proofs.Steps.{no-pin-holds, pin-holds-by}
 use Rattle.interval.proofs.pin_holds.Statement.{statement}
 use Rattle.interval.proofs.pin_holds.Tie as tie

@@ -1,3 +1,4 @@
+-- `layer::clear_words` meets its contract.
 use Rattle.layer.specs.Blocks.{Made}
 use Rattle.layer.proofs.Blocks.{made-none, made-more}
 use mathlib.Core.Path.{_≡_, refl}

@@ -1,3 +1,4 @@
+-- `layer::closed_word` meets its contract.
 use borrow.Author.Tests.{lt-ltb, le-ltb}
 use Rattle.base.specs.If.{if_then_else_}
 use Rattle.layer.specs.Near.{far, closed}

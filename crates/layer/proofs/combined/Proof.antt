@@ -1,3 +1,4 @@
+-- `layer::combined` meets its contract.
 use mathlib.Core.Path.{refl}
 use native.Mathlib.Omega.{arith}
 use Rattle.layer.specs.Answers.{combine}

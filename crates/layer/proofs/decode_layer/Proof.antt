@@ -1,3 +1,4 @@
+-- `layer::decode_layer` meets its contract.
 use mathlib.Core.Path.{sym}
 use lib.Seq.{length-take-le}
 use native.Mathlib.Omega.{arith}

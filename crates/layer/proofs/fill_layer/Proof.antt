@@ -1,3 +1,4 @@
+-- `layer::fill_layer` meets its contract.
 use native.Mathlib.Omega.{arith}
 use Rattle.layer.specs.Answers.{combine, line-is, priced}
 use Rattle.layer.proofs.Sizes.{row-small}

@@ -1,3 +1,4 @@
+-- `layer::lessen` meets its contract.
 use Rattle.layer.proofs.Blocks.{lessened-none, lessened-more}
 use Rattle.layer.specs.Blocks.{Lessened}
 use lib.ListN.{length, getD}

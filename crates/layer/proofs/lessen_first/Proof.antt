@@ -1,3 +1,4 @@
+-- `layer::lessen_first` meets its contract.
 use Rattle.layer.proofs.Blocks.{lessened-none, lessened-more}
 use Rattle.layer.specs.Blocks.{Lessened}
 use mathlib.Core.Path.{_≡_}

@@ -1,3 +1,4 @@
+-- `layer::list_size` meets its contract.
 use Rattle.layer.proofs.Offers.{listed-skip, listed-more}
 use borrow.Author.Needs.{needs}
 use Rattle.layer.proofs.list_size.Statement.{statement}

@@ -1,3 +1,4 @@
+-- `layer::list_sizes` meets its contract.
 use Prim.Native.Nat.{_-_, _≤_}
 use mathlib.Core.Path.{_≡_}
 use Rattle.layer.specs.Near.{Listed}

@@ -1,3 +1,4 @@
+-- `layer::near_word` meets its contract.
 use borrow.Author.Tests.{le-leb, lt-leb}
 use Rattle.base.specs.If.{if_then_else_}
 use Rattle.model.specs.Table.{bound}

@@ -1,3 +1,4 @@
+-- `layer::no_prices` meets its contract.
 use mathlib.Core.Path.{refl}
 use Rattle.layer.specs.Answers.{no-prices}
 use Rattle.layer.proofs.no_prices.Statement.{statement}

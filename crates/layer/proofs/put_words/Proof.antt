@@ -1,3 +1,4 @@
+-- `layer::put_words` meets its contract.
 use native.Mathlib.Nat.{add-zero}
 use Rattle.layer.specs.Blocks.{Made}
 use Rattle.layer.proofs.Blocks.{made-none, made-more}

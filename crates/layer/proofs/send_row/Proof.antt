@@ -1,3 +1,4 @@
+-- `layer::send_row` meets its contract.
 use lib.Seq.{take-all}
 use lib.ListN.{length-drop}
 use Rattle.layer.proofs.Blocks.{blocks-none}

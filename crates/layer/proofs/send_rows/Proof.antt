@@ -1,3 +1,4 @@
+-- `layer::send_rows` meets its contract.
 use Rattle.layer.proofs.Blocks.{made-none}
 use Rattle.layer.proofs.Rows.{row-sent}
 use Rattle.layer.proofs.Sizes.{rows-end, layer-size, layer-small}

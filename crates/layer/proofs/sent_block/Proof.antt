@@ -1,3 +1,4 @@
+-- `layer::sent_block` meets its contract.
 use Rattle.layer.proofs.Blocks.{least-none, least-more}
 use Rattle.layer.specs.Blocks.{LeastOf, rate-read}
 use mathlib.Core.Path.{_≡_}

@@ -1,3 +1,4 @@
+-- `layer::sizes_within` meets its contract.
 use native.Mathlib.Nat.{div-lt-iff-lt-mul}
 use native.Mathlib.Omega.{arith}
 use borrow.Author.Needs.{needs}

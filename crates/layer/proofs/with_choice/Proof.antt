@@ -1,3 +1,4 @@
+-- `layer::with_choice` meets its contract.
 use native.Mathlib.Omega.{arith}
 use Rattle.layer.proofs.Choices.{closed-priced, large-priced, open-priced}
 use borrow.Author.Tests.{not-true, not-false}

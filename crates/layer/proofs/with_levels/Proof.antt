@@ -1,3 +1,4 @@
+-- `layer::with_levels` meets its contract.
 use mathlib.Core.Path.{_∙_}
 use Rattle.layer.proofs.Rates.{moved-fits, levels-made}
 use borrow.Author.Needs.{needs}

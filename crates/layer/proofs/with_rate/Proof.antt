@@ -1,3 +1,4 @@
+-- `layer::with_rate` meets its contract.
 use Prim.Native.Nat.{_+_, _*_, _≤_}
 use lib.ListN.{length}
 use native.Mathlib.Omega.{arith}

@@ -1,3 +1,4 @@
+-- `layer::with_sent` meets its contract.
 use Rattle.layer.proofs.Column.{column-over, column-moved}
 use borrow.Author.Needs.{needs}
 use Rattle.layer.proofs.with_sent.Statement.{statement}

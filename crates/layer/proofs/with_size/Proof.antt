@@ -1,3 +1,4 @@
+-- `layer::with_size` meets its contract.
 use native.Mathlib.Omega.{arith}
 use lib.Seq.{getD-drop}
 use Rattle.layer.proofs.Sizes.{product-small}

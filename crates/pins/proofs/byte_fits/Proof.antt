@@ -1,3 +1,4 @@
+-- `pins::byte_fits` meets its contract: no pin, a unit of the job, or a place behind its units.
 use Rattle.pinning.proofs.Loops.{fits-none, fits-below, fits-past}
 use Rattle.job.specs.Answers.{plain}
 use borrow.Author.Needs.{needs}

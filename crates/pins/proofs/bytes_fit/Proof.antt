@@ -1,3 +1,4 @@
+-- `pins::bytes_fit` meets its contract: the bytes before the place fit, whichever turn the loop is at.
 use mathlib.Core.Path.{sym, _∙_, _≡_}
 use borrow.Author.Tests.{not-true, not-false}
 use Rattle.base.proofs.All.{all-none, all-more, all-stop}

@@ -1,3 +1,4 @@
+-- `pins::check` meets its contract: the job's refusal, or 6, or the header that was read.
 use mathlib.Core.Path.{_≡_}
 use lib.ListN.{length}
 use Rattle.pins.specs.Answers.{set-of}

@@ -1,3 +1,4 @@
+-- `pins::fits` meets its contract: the header, the pin bytes and the totals, in this order.
 use Rattle.pinning.proofs.Agree.{fits-not-header, fits-not-bytes, fits-by-totals}
 use Rattle.pins.specs.Answers.{set-of}
 use Rattle.pinning.specs.Check.{same-totals}

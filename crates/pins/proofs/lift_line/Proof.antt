@@ -1,3 +1,4 @@
+-- `pins::lift_line` meets its contract: 7, then 10, else the pin is lifted and the totals have it.
 use Rattle.pins.proofs.Totals.{held}
 use Rattle.pins.proofs.Calls.{lift-seven, lift-ten, lift-taken, place-below, pinned-below}
 use Rattle.pins.specs.Answers.{set-of, number, handed}

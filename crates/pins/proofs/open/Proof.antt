@@ -1,3 +1,4 @@
+-- `pins::open` meets its contract: the set of no job beside a refusal, else a fresh set of the job that was read.
 use Rattle.pins.proofs.Answering.{open-refused, open-took}
 use Rattle.pinning.specs.PinSet.{fresh}
 use Rattle.job.proofs.Answers.{answer-took, answer-refused}

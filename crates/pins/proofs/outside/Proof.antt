@@ -1,3 +1,4 @@
+-- `pins::outside` meets its contract: below 1 or above the count.
 use Rattle.pins.proofs.Calls.{outside-low, outside-high}
 use Rattle.pins.proofs.outside.Statement.{statement}
 use Rattle.pins.proofs.outside.Tie as tie

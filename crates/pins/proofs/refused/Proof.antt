@@ -1,3 +1,4 @@
+-- `pins::refused` meets its contract: the set is handed back as it came.
 use Rattle.pins.specs.Answers.{number, handed}
 use Rattle.pinning.specs.Calls.{refuse}
 use mathlib.Core.Path.{refl}

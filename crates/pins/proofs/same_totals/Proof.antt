@@ -1,3 +1,4 @@
+-- `pins::same_totals` meets its contract: the three totals are compared in their order.
 use Rattle.pinning.proofs.Agree.{totals-differ-count, totals-differ-size, totals-by-distortion}
 use Rattle.pins.specs.Answers.{set-of, tallied}
 use borrow.Author.Needs.{needs}

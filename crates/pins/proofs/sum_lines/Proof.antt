@@ -1,3 +1,4 @@
+-- `pins::sum_lines` meets its contract: the sums are those of the units before the place, and small, whichever turn the loop is at.
 use Rattle.pinning.proofs.Loops.{lines-more}
 use mathlib.Core.Path.{_≡_}
 use Prim.Native.Nat.{_≤_, _-_, _*_}

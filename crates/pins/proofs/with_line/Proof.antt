@@ -1,3 +1,4 @@
+-- `pins::with_line` meets its contract: a unit without a pin adds nothing, a pinned one its coding.
 use Rattle.pins.proofs.Sums.{added-none, added-pin}
 use borrow.Author.Needs.{needs}
 use Rattle.pins.proofs.with_line.Statement.{statement}

@@ -1,3 +1,4 @@
+-- `plan::print_plan` meets its contract.
 use Rattle.job.proofs.Answers.{answer-took}
 use Rattle.job.specs.Answers.{plain}
 use Rattle.format.proofs.Opened.{opens-by, few-intervals}

@@ -1,3 +1,4 @@
+-- `planner::best_entry` meets its contract.
 use Rattle.planner.proofs.Places.{spans, offered, first-found}
 use mathlib.Core.Path.{refl}
 use native.Mathlib.Omega.{arith}

@@ -1,3 +1,4 @@
+-- `planner::best_move` meets its contract.
 use Rattle.planner.proofs.Moves.{layered, rate-below, choice-below, reached-end, best-move}
 use Rattle.job.specs.Answers.{plain}
 use native.Mathlib.Omega.{arith}

@@ -1,3 +1,4 @@
+-- `planner::charged` meets its contract.
 use Rattle.trellis.specs.Table.{charge}
 use Rattle.model.specs.Table.{bound}
 use Rattle.planning.specs.Passes.{charged}

@@ -1,3 +1,4 @@
+-- `planner::choice_number` meets its contract.
 use Rattle.base.specs.If.{if_then_else_}
 use Rattle.planner.specs.Answers.{chosen}
 use Rattle.job.specs.Answers.{plain}

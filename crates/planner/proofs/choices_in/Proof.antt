@@ -1,3 +1,4 @@
+-- `planner::choices_in` meets its contract.
 use Rattle.planner.proofs.Jobs.{none-chosen, unit-chosen}
 use Rattle.job.specs.Answers.{plain}
 use Rattle.format.proofs.Opened.{job-limits, units-are, delay-is, choices-are}

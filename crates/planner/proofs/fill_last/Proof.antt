@@ -1,3 +1,4 @@
+-- `planner::fill_last` meets its contract.
 use borrow.Author.Fill.{fill-more}
 use lib.ListN.{length, drop, replicate, length-set}
 use mathlib.Core.List.{_++_}

@@ -1,3 +1,4 @@
+-- `planner::fill_layer` meets its contract.
 use Rattle.planner.proofs.Lines.{same-words, layer-made}
 use borrow.Author.Needs.{needs}
 use Rattle.planner.proofs.fill_layer.Statement.{statement}

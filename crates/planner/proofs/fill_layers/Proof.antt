@@ -1,6 +1,7 @@
+-- `planner::fill_layers` meets its contract.
 use Rattle.planner.proofs.Tabling.{Filling, filling-none, filling-all, long, starts, room-for-two, filling-more}
 use Rattle.planner.proofs.Jobs.{chosen-on}
-use Rattle.planner.proofs.Sizes.{layer-small, product-small}
+use Rattle.planner.proofs.Sizes.{layer-small, layer-product}
 use Rattle.planner.specs.Answers.{line-is, job-on}
 use Rattle.pinning.specs.PinSet.{lines}
 use Rattle.job.specs.Answers.{plain}
@@ -29,7 +30,7 @@ mul-start c =
     let a = c .before .before .before in
     let few = few-intervals _ _ (a .pre .starts .opens) in
     let small = layer-small _ (a .pre .starts .line) in
-    omega (arith, product-small (a .args .last) (c .layer-words .result) (omega (arith, few, a .pre .few)) (omega (arith, small, c .layer-words .ensures)))
+    omega (arith, layer-product (a .args .last) (c .layer-words .result) (omega (arith, few, a .pre .few)) (omega (arith, small, c .layer-words .ensures)))
 
 loop-holds : tie.Need-loop-holds Inv-loop μ-loop
 unfolding on-line

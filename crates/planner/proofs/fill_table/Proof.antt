@@ -1,5 +1,6 @@
+-- `planner::fill_table` meets its contract.
 use Rattle.planner.proofs.Tabling.{room-for-last, last-written, table-filled}
-use Rattle.planner.proofs.Sizes.{layer-small, product-small}
+use Rattle.planner.proofs.Sizes.{layer-small, layer-product}
 use Rattle.planner.specs.Answers.{line-is, job-on}
 use Rattle.planning.proofs.Refilling.{last-long}
 use Rattle.pinning.specs.PinSet.{lines}
@@ -47,7 +48,7 @@ start-small c =
     let a = c .before .before .before .before in
     let few = few-intervals _ _ (a .pre .0 .opens) in
     let least = layer-small _ (a .pre .0 .line) in
-    product-small (c .intervals .result) (c .before .layer-words .result) (omega (arith, few, c .intervals .ensures)) (omega (arith, least, c .before .layer-words .ensures))
+    layer-product (c .intervals .result) (c .before .layer-words .result) (omega (arith, few, c .intervals .ensures)) (omega (arith, least, c .before .layer-words .ensures))
 
 layer-words-requires : tie.Need-layer-words-requires
 layer-words-requires c κs = search needs

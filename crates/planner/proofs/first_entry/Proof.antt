@@ -1,3 +1,4 @@
+-- `planner::first_entry` meets its contract.
 use Rattle.planner.proofs.Searching.{pair-passed, row-passed, all-passed, first-found}
 use Rattle.planner.proofs.Offers.{pair-offers}
 use Rattle.planner.proofs.Sizes.{rates-count}
@@ -73,7 +74,7 @@ offer-requires : tie.Need-offer-requires Inv-loop μ-loop Inv-search μ-search
 offer-requires c κs =
     let i = c .before .before .before in
     let a = i .before .before .before .before .before .before .before in
-    (a .pre .0 .whole, a .pre .0 .choices .small _ (i .loop-test .taken))
+    (a .pre .0 .whole, a .pre .0 .count, a .pre .0 .choices .small _ (i .loop-test .taken))
 
 add-choice : tie.Need-add-choice Inv-loop μ-loop Inv-search μ-search
 add-choice c = search needs

@@ -1,28 +1,15 @@
-use Rattle.planner.proofs.Sizes.{product-small, layer-size}
-use Prim.Native.Nat.{_+_}
-use native.Mathlib.Omega.{arith}
+-- `planner::layer_words` meets its contract.
+use mathlib.Core.Path.{_∙_}
+use Rattle.planner.proofs.Sizes.{layer-size}
 use borrow.Author.Needs.{needs}
 use Rattle.planner.proofs.layer_words.Statement.{statement}
 use Rattle.planner.proofs.layer_words.Tie as tie
 
-cast-result : tie.Need-cast-result
-cast-result c = search needs
-
-add-result : tie.Need-add-result
-add-result c = search needs
-
-cast-result-2 : tie.Need-cast-result-2
-cast-result-2 c = search needs
-
-add-result-2 : tie.Need-add-result-2
-add-result-2 c = search needs
-
-mul-result : tie.Need-mul-result
-mul-result c = record { fits = omega (arith, product-small (c .before .before .args .line .buffers .decoder + 1) (c .before .before .args .line .buffers .bucket + 1) (omega arith) (omega arith)) }
+words-each-requires : tie.Need-words-each-requires
+words-each-requires c κs = search needs
 
 returns : tie.Need-returns
-returns c = layer-size (c .before .before .args .line)
+returns c = c .words-each .ensures ∙ layer-size (c .before .args .line)
 
 pub layer-words-spec : {M : Type 1} → statement M
-layer-words-spec =
-    tie.close (tie.spec cast-result add-result cast-result-2 add-result-2 mul-result returns)
+layer-words-spec = tie.close (tie.spec words-each-requires returns)

@@ -1,3 +1,4 @@
+-- `planner::levels_after` meets its contract.
 use Rattle.planner.proofs.Jobs.{not-reached}
 use Rattle.planner.specs.Answers.{step-of}
 use Rattle.interval.specs.Answers.{outcome-is}

@@ -1,3 +1,4 @@
+-- `planner::line_in` meets its contract.
 use Rattle.planner.proofs.Arrays.{Filled, filled-none, filled-more}
 use Rattle.planner.proofs.Jobs.{line-read}
 use Rattle.job.specs.Answers.{plain}
@@ -11,7 +12,7 @@ use Rattle.planner.proofs.line_in.Statement.{statement}
 use Rattle.planner.proofs.line_in.Tie as tie
 
 abbrev Inv-loop : tie.InvT-loop
-Inv-loop job header count rates₀ rate₀ rates rate = (rate ≤ count) × (count ≤ 16) × Filled 0 (rate-at job) 16 rate rates
+Inv-loop job header count rates₀ rate₀ rates rate = (rate ≤ count) × (count ≤ 16) × Filled 0 (rate-at job (plain header)) 16 rate rates
 
 abbrev μ-loop : tie.MeasureT-loop
 μ-loop job header count rates₀ rate₀ rates rate = count - rate

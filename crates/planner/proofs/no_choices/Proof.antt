@@ -1,3 +1,4 @@
+-- `planner::no_choices` meets its contract.
 use Rattle.base.specs.If.{if_then_else_}
 use Rattle.planner.specs.Answers.{coding-if, allowed-is}
 use lib.ListN.{getD-replicate}

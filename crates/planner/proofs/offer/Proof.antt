@@ -1,3 +1,4 @@
+-- `planner::offer` meets its contract.
 use Rattle.planner.proofs.Offers.{barred-offers, violation-offers, reached-below, reached-offers}
 use Rattle.planner.specs.Answers.{step-of}
 use Rattle.interval.specs.Answers.{outcome-is}
@@ -18,7 +19,7 @@ below c =
     let i = m .before .before in
     let a = i .before .before .before .before in
     let h = sym (m .before .step .ensures) ∙ ap outcome-is (c .before .before .to .given .1) in
-    rw (c .word-place .ensures, a .pre .0) (reached-below _ _ _ _ _ _ (i .interval-of .ensures) _ h)
+    rw (c .word-place .ensures, a .pre .0) (reached-below _ _ _ _ _ _ (i .interval-of .ensures) _ (a .pre .1) h)
 
 returns : tie.Need-returns
 returns c = barred-offers _ _ _ _ _ _ _ (not-true _ (c .if1 .taken))

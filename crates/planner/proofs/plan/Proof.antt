@@ -1,3 +1,4 @@
+-- `planner::plan` meets its contract.
 use Rattle.planner.proofs.Answering.{plan-refused}
 use Rattle.planner.specs.Answers.{answered, planned}
 use Rattle.pins.specs.Answers.{set-of}

@@ -1,3 +1,4 @@
+-- `planner::plan_checked` meets its contract.
 use Rattle.job.specs.Answers.{plain}
 use Rattle.planner.proofs.Answering.{plans-from, plan-from-start}
 use Rattle.planner.specs.Answers.{order-is}

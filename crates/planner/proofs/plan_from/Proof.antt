@@ -1,7 +1,8 @@
+-- `planner::plan_from` meets its contract.
 use Rattle.pinning.specs.PinSet.{lines}
 use Rattle.model.specs.Best.{late}
 use mathlib.Core.List.{[]}
-use Rattle.planner.proofs.Answering.{from-11, from-12, searches, from-searched}
+use Rattle.planner.proofs.Answering.{over-fits, from-11, from-12, searches, from-searched}
 use Rattle.planner.specs.Answers.{answered, planned}
 use Rattle.job.specs.Answers.{plain}
 use mathlib.Core.Path.{_∙_}
@@ -11,7 +12,8 @@ use Rattle.planner.proofs.plan_from.Statement.{statement}
 use Rattle.planner.proofs.plan_from.Tie as tie
 
 words-over-requires : tie.Need-words-over-requires
-words-over-requires c κs = search needs
+unfolding plain
+words-over-requires c κs = over-fits _ _ _ _ _ _ [] [] (lines 0 []) late (c .before .before .before .pre)
 
 returns : tie.Need-returns
 unfolding planned answered

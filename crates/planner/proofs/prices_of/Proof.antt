@@ -1,3 +1,4 @@
+-- `planner::prices_of` meets its contract.
 use Rattle.layer.proofs.Blocks.{prices-none, least-more}
 use Rattle.layer.specs.Blocks.{LeastOf}
 use Rattle.layer.specs.Answers.{price-at}

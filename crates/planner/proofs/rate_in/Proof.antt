@@ -1,3 +1,4 @@
+-- `planner::rate_in` meets its contract.
 use Rattle.planner.specs.Answers.{order-is}
 use Rattle.model.specs.Best.{turn}
 use native.Mathlib.Omega.{arith}

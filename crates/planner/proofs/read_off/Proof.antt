@@ -1,13 +1,15 @@
+-- `planner::read_off` meets its contract.
 use Rattle.planner.proofs.Plans.{ReadTo, read-start, read-on, read-end}
-use Rattle.planner.proofs.Jobs.{one-bucket}
+use Rattle.planner.proofs.Jobs.{line-buckets, drains-most}
 use Rattle.planner.specs.Answers.{line-is, job-on, order-is}
 use Rattle.format.specs.JobBytes.{job-in}
 use Rattle.format.proofs.Opened.{few-intervals, intervals-are}
 use Rattle.model.proofs.Lines.{intervals-on}
 use Rattle.job.specs.Answers.{plain}
 use Rattle.pinning.specs.PinSet.{lines}
-use Rattle.interval.specs.Answers.{levels-of}
-use mathlib.Core.Path.{refl}
+use Rattle.interval.specs.Answers.{levels-of, line-of, no-totals}
+use mathlib.Core.Path.{refl, _∙_, ap}
+use Rattle.model.specs.Job.{on-line}
 use Prim.Native.Nat.{_-_, _<_, _≤_}
 use native.Mathlib.Omega.{arith}
 use borrow.Author.Needs.{needs}
@@ -30,7 +32,7 @@ loop-holds : tie.Need-loop-holds Inv-loop μ-loop
 unfolding plain
 loop-holds c =
     let a = c .before .before .before .before .before in
-    (omega arith, omega (arith, c .before .intervals .ensures, a .pre .few), rw (c .none .ensures) (read-start _ _ _ _ _ _ _ (one-bucket _ _) _ refl (a .pre .stands)))
+    (omega arith, omega (arith, c .before .intervals .ensures, a .pre .few), read-start _ _ _ _ _ _ _ _ refl (c .none .ensures ∙ ap no-totals (line-buckets (a .args .job .now) (a .args .line))) (a .pre .stands))
 
 sub-index : tie.Need-sub-index Inv-loop μ-loop
 sub-index c = search needs
@@ -63,7 +65,7 @@ with-interval-requires c κs =
     let b : l .loop .place < 576 = omega (arith, l .before .before .intervals .ensures, few-intervals _ _ (a .pre .starts .opens)) in
     let g = l .loop .inv .2 .sums .small in
     let m = x .best-move .ensures .does .limits in
-    record { distortion = omega arith; source = omega arith; channel = omega arith; unused = omega arith }
+    record { distortion = omega arith; source = omega arith; channel = omega arith; unused = λ k. omega (arith, l .loop .inv .2 .sums .unused-small k) }
 
 add-place : tie.Need-add-place Inv-loop μ-loop
 add-place c = search needs
@@ -72,14 +74,14 @@ loop-less : tie.Need-loop-less Inv-loop μ-loop
 loop-less c = search needs
 
 loop-again : tie.Need-loop-again Inv-loop μ-loop
-unfolding plain
+unfolding plain on-line line-is line-of
 loop-again c =
     let w = c .before in
     let p = w .before .before .before in
     let x = p .before .before in
     let l = x .before .before in
     let a = l .before .before .before .before .before .before in
-    (omega (arith, l .loop .inv .0), omega arith, rw (p .put-entry .ensures) (read-on _ _ _ _ _ _ _ (one-bucket _ _) (l .loop .place) (l .loop .at) (l .loop .sum) _ _ _ (l .loop .inv .2) (x .best-move .ensures) (w .with-interval .ensures) (a .pre .starts .line .drain) (omega (arith, l .before .before .intervals .ensures, a .pre .room, l .loop .inv .0))))
+    (omega (arith, l .loop .inv .0), omega arith, rw (p .put-entry .ensures) (read-on _ _ _ _ _ _ (l .loop .place) (l .loop .at) (l .loop .sum) _ _ _ (l .loop .inv .2) (x .best-move .ensures) (w .with-interval .ensures) (drains-most (a .args .line .buffers) (a .pre .starts .line .buffers)) (omega (arith, l .before .before .intervals .ensures, a .pre .room, l .loop .inv .0))))
 
 same-length : tie.Need-same-length Inv-loop μ-loop
 same-length c = search needs
@@ -89,7 +91,7 @@ unfolding plain
 returns c =
     let l = c .before in
     let a = l .before .before .before .before .before .before in
-    read-end _ _ _ _ _ _ _ (one-bucket _ _) (l .loop .place) (l .loop .at) (l .loop .sum) _ (l .loop .inv .2) (omega (arith, l .before .before .intervals .ensures, intervals-are _ _ (a .pre .starts .opens), intervals-on (job-in (a .args .job .now)) (line-is (a .args .line))))
+    read-end _ _ _ _ _ _ (l .loop .place) (l .loop .at) (l .loop .sum) _ (l .loop .inv .2) (omega (arith, l .before .before .intervals .ensures, intervals-are _ _ (a .pre .starts .opens), intervals-on (job-in (a .args .job .now)) (line-is (a .args .line))))
 
 pub read-off-spec : {M : Type 1} → statement M
 read-off-spec =

@@ -1,5 +1,6 @@
+-- `planner::search` meets its contract.
 use Rattle.planner.proofs.Answering.{tabled, start-low, start-below, start-word, no-value, stands, search-13, search-best}
-use Rattle.planner.proofs.Sizes.{layer-small, product-small}
+use Rattle.planner.proofs.Sizes.{layer-small, layer-product}
 use Rattle.planner.specs.Answers.{job-on, answered, planned, Standing}
 use Rattle.pinning.specs.PinSet.{lines}
 use Rattle.interval.specs.Answers.{levels-of}
@@ -17,13 +18,13 @@ use Rattle.planner.proofs.search.Statement.{statement}
 use Rattle.planner.proofs.search.Tie as tie
 
 -- where the word of the start stands, and what it is
-layer-low : (c : tie.After-layer-words) → (c .before .before .before .before .before .before .before .before .args .first * c .layer-words .result ≤ 8589934592) × (c .layer-words .result ≤ 65536)
+layer-low : (c : tie.After-layer-words) → (c .before .before .before .before .before .before .before .before .args .first * c .layer-words .result ≤ 8589934592) × (c .layer-words .result ≤ 4194304)
 unfolding plain
 layer-low c =
     let a = c .before .before .before .before .before .before .before .before in
     let few = few-intervals _ _ (a .pre .from .starts .opens) in
     let small = layer-small _ (a .pre .from .starts .line) in
-    (product-small (a .args .first) (c .layer-words .result) (omega (arith, few, a .pre .from .few)) (omega (arith, small, c .layer-words .ensures)), omega (arith, small, c .layer-words .ensures))
+    (layer-product (a .args .first) (c .layer-words .result) (omega (arith, few, a .pre .from .few)) (omega (arith, small, c .layer-words .ensures)), omega (arith, small, c .layer-words .ensures))
 
 place-low : (c : tie.After-word-place) → c .word-place .result < c .before .layer-words .result
 unfolding plain

@@ -1,3 +1,4 @@
+-- `planner::unit_choices` meets its contract.
 use Rattle.planner.proofs.Arrays.{Filled, filled-none, filled-more}
 use Rattle.planner.proofs.Jobs.{unit-read}
 use Rattle.job.specs.Answers.{plain, coding-of}

@@ -1,7 +1,9 @@
-use Rattle.planner.proofs.Sizes.{product-small, product-fits}
-use Rattle.planner.specs.Answers.{words-over}
-use Rattle.job.specs.Answers.{plain}
+-- `planner::words_over` meets its contract.
 use native.Mathlib.Omega.{arith}
+use Rattle.job.specs.Answers.{plain}
+use Prim.Native.Nat.{_+_}
+use Rattle.planner.specs.Answers.{words-over}
+use Rattle.planner.proofs.Sizes.{layer-product}
 use borrow.Author.Needs.{needs}
 use Rattle.planner.proofs.words_over.Statement.{statement}
 use Rattle.planner.proofs.words_over.Tie as tie
@@ -12,38 +14,16 @@ intervals-requires c κs = search needs
 add-result : tie.Need-add-result
 add-result c = search needs
 
-cast-result : tie.Need-cast-result
-cast-result c = search needs
-
-add-result-2 : tie.Need-add-result-2
-add-result-2 c = search needs
+words-each-requires : tie.Need-words-each-requires
+words-each-requires c κs = search needs
 
 mul-result : tie.Need-mul-result
-mul-result c = product-fits _ _ (omega arith) (omega arith)
-
-cast-result-2 : tie.Need-cast-result-2
-cast-result-2 c = search needs
-
-add-result-3 : tie.Need-add-result-3
-add-result-3 c = search needs
-
-mul-result-2 : tie.Need-mul-result-2
-mul-result-2 c = product-fits _ _ (product-small _ _ (omega arith) (omega arith)) (omega arith)
+mul-result c = record { fits = omega (arith, layer-product (c .before .intervals .result + 1) (c .words-each .result) (omega (arith, c .before .intervals .ensures, c .before .before .pre .0)) (omega (arith, c .words-each .ensures, c .before .before .pre .1))) }
 
 returns : tie.Need-returns
 unfolding words-over plain
-returns c = rw (c .before .before .intervals .ensures)
+returns c = rw (c .before .intervals .ensures, c .words-each .ensures)
 
 pub words-over-spec : {M : Type 1} → statement M
 words-over-spec =
-    tie.close
-    (tie.spec
-    intervals-requires
-    add-result
-    cast-result
-    add-result-2
-    mul-result
-    cast-result-2
-    add-result-3
-    mul-result-2
-    returns)
+    tie.close (tie.spec intervals-requires add-result words-each-requires mul-result returns)

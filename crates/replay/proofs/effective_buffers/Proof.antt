@@ -1,3 +1,4 @@
+-- `replay::effective_buffers` meets its contract: what reading refuses is handed back, and the rest is `report_read`.
 use Rattle.replay.proofs.Answering.{report-refused}
 use Rattle.replay.specs.Answers.{report-answer, reported}
 use Rattle.format.proofs.Opened.{opens-by}

@@ -1,3 +1,4 @@
+-- `replay::first_sum` meets its contract: the sum is that of the places before, and small, whichever turn the loop is at.
 use Rattle.replay.proofs.Sums.{sent-most, window-most, window-more}
 use Rattle.format.proofs.Opened.{job-limits, delay-is, few-intervals}
 use Rattle.replaying.specs.Entries.{plan-of}

@@ -1,3 +1,4 @@
+-- `replay::pin_in` meets its contract: no pin up to the delay, after it the one in the set.
 use Rattle.replay.specs.Answers.{no-pin, pinned}
 use Rattle.job.specs.Answers.{plain}
 use mathlib.Core.Path.{refl}

@@ -1,3 +1,4 @@
+-- `replay::put_sums` meets its contract: the sums of the places before are written, and the next one is at hand, whichever turn the loop is at.
 use Rattle.replay.proofs.Sums.{sum-small, leaves-less, next-sum, sums-end}
 use Rattle.format.proofs.Opened.{job-limits, units-are, delay-is}
 use Rattle.base.proofs.Builds.{build-more}

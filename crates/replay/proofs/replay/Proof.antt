@@ -1,3 +1,4 @@
+-- `replay::replay` meets its contract: what the check refuses is handed back, and the rest is `replay_checked`.
 use Rattle.replay.proofs.Answering.{replay-refused}
 use Rattle.replay.specs.Answers.{answered, ended}
 use Rattle.pins.specs.Answers.{set-of}

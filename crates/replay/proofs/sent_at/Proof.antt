@@ -1,3 +1,4 @@
+-- `replay::sent_at` meets its contract: the rate that the entry names is what the interval sends.
 use Rattle.replay.proofs.Entries.{entries-size}
 use Rattle.replay.proofs.Sums.{sent-read}
 use Rattle.job.specs.Answers.{plain}

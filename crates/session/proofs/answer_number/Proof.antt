@@ -1,3 +1,4 @@
+-- `session::answer_number` meets its contract.
 use Rattle.calling.specs.Sessions.{answer-number}
 use Rattle.pins.specs.Answers.{number}
 use borrow.Author.Needs.{needs}

@@ -1,3 +1,4 @@
+-- `session::calls_verdict` meets its contract.
 use Rattle.session.proofs.Calling.{KindsFit, kind-not-due, last-cut, whole-calls}
 use Rattle.base.proofs.All.{all-none, all-more}
 use Rattle.calling.specs.Commands.{kind-of}

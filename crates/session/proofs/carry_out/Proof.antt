@@ -1,3 +1,4 @@
+-- `session::carry_out` meets its contract.
 use Rattle.session.proofs.Following.{carry-refused, carry-took, carry-room}
 use Rattle.session.specs.Answers.{command-is}
 use mathlib.Core.Path.{ap}

@@ -1,3 +1,4 @@
+-- `session::follow` meets its contract.
 use Rattle.session.proofs.Following.{Going, going-start, going-further, going-on, going-stop, going-end}
 use Rattle.session.specs.Answers.{step-is}
 use Rattle.pins.specs.Answers.{set-of, number, handed}

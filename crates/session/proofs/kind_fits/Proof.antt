@@ -1,3 +1,4 @@
+-- `session::kind_fits` meets its contract.
 use Rattle.session.proofs.Calling.{kind-pins, kind-lifts, kind-other}
 use Rattle.session.proofs.kind_fits.Statement.{statement}
 use Rattle.session.proofs.kind_fits.Tie as tie

@@ -1,3 +1,4 @@
+-- `session::make_call` meets its contract.
 use Rattle.session.proofs.Calling.{call-pins, call-lifts}
 use Rattle.pinning.specs.Calls.{call}
 use mathlib.Core.Path.{_∙_, ap}

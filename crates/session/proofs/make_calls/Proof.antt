@@ -1,3 +1,4 @@
+-- `session::make_calls` meets its contract.
 use Rattle.session.proofs.Answering.{calls-refused, calls-room, calls-made}
 use Rattle.session.specs.Answers.{called-answer, called}
 use Rattle.base.specs.Lent.{refuse}

@@ -1,3 +1,4 @@
+-- `session::plan_after` meets its contract.
 use Rattle.session.proofs.Answering.{session-refused, session-room, session-none, session-made}
 use Rattle.session.specs.Answers.{session-is}
 use Rattle.planner.specs.Answers.{answered, planned}

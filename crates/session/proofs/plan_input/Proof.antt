@@ -1,3 +1,4 @@
+-- `session::plan_input` meets its contract.
 use Rattle.session.proofs.Inputs.{input-long, input-refused, input-planned}
 use Rattle.planner.specs.Answers.{answered, planned}
 use Rattle.planning.specs.Calls.{refuse}

@@ -1,3 +1,4 @@
+-- `session::put_numbers` meets its contract.
 use Rattle.session.proofs.Sessions.{ran-start, ran-on, Going, going-start, going-on, going-end}
 use Rattle.pins.specs.Answers.{set-of, opening, handed}
 use Rattle.pinning.specs.Calls.{Opening}

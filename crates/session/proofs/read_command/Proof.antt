@@ -1,3 +1,4 @@
+-- `session::read_command` meets its contract.
 use mathlib.Core.Path.{sym, _∙_, ap}
 use Rattle.job.specs.Answers.{verdict}
 use Rattle.session.specs.Answers.{command-is}

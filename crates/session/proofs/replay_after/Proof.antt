@@ -1,3 +1,4 @@
+-- `session::replay_after` meets its contract.
 use Rattle.calling.proofs.Sessions.{replay-refused}
 use Rattle.session.proofs.Answering.{replay-done}
 use Rattle.replay.specs.Answers.{answered, ended}

@@ -1,10 +1,13 @@
-use Rattle.session.proofs.Answering.{replay-not-read, replay-not-due, replay-14, replay-12, replay-fits}
+-- `session::replay_refusal` meets its contract.
+use Rattle.replay.proofs.Levels.{few-levels}
+-- `session::replay_refusal` meets its contract: the job, the calls, the plan and the list, each in its turn.
+use mathlib.Core.Path.{sym, _∙_, ap}
 use borrow.Author.Tests.{not-true, not-false}
 use native.Mathlib.Omega.{arith}
 use Rattle.job.specs.Answers.{plain, verdict}
 use Rattle.job.proofs.Answers.{answer-took, answer-refused}
 use Rattle.format.proofs.Opened.{opens-by}
-use mathlib.Core.Path.{sym, _∙_, ap}
+use Rattle.session.proofs.Answering.{replay-not-read, replay-not-due, replay-14, replay-12, replay-fits}
 use borrow.Author.Needs.{needs}
 use Rattle.session.proofs.replay_refusal.Statement.{statement}
 use Rattle.session.proofs.replay_refusal.Tie as tie
@@ -46,19 +49,27 @@ returns-2 c =
     let o = opens-by _ _ (d .job) _ (d .is) (d .header-is) in
     replay-14 _ _ _ _ _ o (ap verdict (sym (c .before .before .enum-told .given .1)) ∙ c .before .before .before .before .calls-verdict .ensures) (sym (c .before .shaped .ensures) ∙ not-true _ (c .if1 .taken))
 
+levels-each-requires : tie.Need-levels-each-requires
+levels-each-requires c κs = search needs
+
 intervals-requires : tie.Need-intervals-requires
 intervals-requires c κs = search needs
 
 mul-if2 : tie.Need-mul-if2
-mul-if2 c = search needs
+unfolding plain
+mul-if2 c =
+    let read = c .before .before .before .before .before .before .before .before .before .before .read in
+    let d = answer-took _ (read .result) _ _ (read .ensures) (c .before .before .before .before .before .before .before .before .header .given .1) in
+    let o = opens-by _ _ (d .job) _ (d .is) (d .header-is) in
+    record { fits = omega (arith, few-levels _ _ o (c .before .levels-each .result) (c .intervals .result) (c .before .levels-each .ensures) (c .intervals .ensures)) }
 
 returns-3 : tie.Need-returns-3
 unfolding verdict plain
 returns-3 c =
-    let read = c .before .before .before .before .before .before .before .before .before .before .read in
-    let d = answer-took _ (read .result) _ _ (read .ensures) (c .before .before .before .before .before .before .before .before .header .given .1) in
+    let read = c .before .before .before .before .before .before .before .before .before .before .before .read in
+    let d = answer-took _ (read .result) _ _ (read .ensures) (c .before .before .before .before .before .before .before .before .before .header .given .1) in
     let o = opens-by _ _ (d .job) _ (d .is) (d .header-is) in
-    replay-12 _ _ _ _ _ o (ap verdict (sym (c .before .before .before .before .enum-told .given .1)) ∙ c .before .before .before .before .before .before .calls-verdict .ensures) (sym (c .before .before .before .shaped .ensures) ∙ not-false _ (c .before .before .if1 .left)) (omega (arith, c .before .intervals .ensures, c .if2 .taken))
+    replay-12 _ _ _ _ _ o (ap verdict (sym (c .before .before .before .before .before .enum-told .given .1)) ∙ c .before .before .before .before .before .before .before .calls-verdict .ensures) (sym (c .before .before .before .before .shaped .ensures) ∙ not-false _ (c .before .before .before .if1 .left)) _ _ (c .before .before .levels-each .ensures) (c .before .intervals .ensures) (c .if2 .taken)
 
 returns-4 : tie.Need-returns-4
 unfolding verdict
@@ -69,10 +80,10 @@ returns-4 c =
 returns-5 : tie.Need-returns-5
 unfolding verdict plain
 returns-5 c =
-    let read = c .before .before .before .before .before .before .before .before .before .before .read in
-    let d = answer-took _ (read .result) _ _ (read .ensures) (c .before .before .before .before .before .before .before .before .header .given .1) in
+    let read = c .before .before .before .before .before .before .before .before .before .before .before .read in
+    let d = answer-took _ (read .result) _ _ (read .ensures) (c .before .before .before .before .before .before .before .before .before .header .given .1) in
     let o = opens-by _ _ (d .job) _ (d .is) (d .header-is) in
-    replay-fits _ _ _ _ _ o (ap verdict (sym (c .before .before .before .before .enum-told .given .1)) ∙ c .before .before .before .before .before .before .calls-verdict .ensures) (sym (c .before .before .before .shaped .ensures) ∙ not-false _ (c .before .before .if1 .left)) (omega (arith, c .before .intervals .ensures, c .if2 .left))
+    replay-fits _ _ _ _ _ o (ap verdict (sym (c .before .before .before .before .before .enum-told .given .1)) ∙ c .before .before .before .before .before .before .before .calls-verdict .ensures) (sym (c .before .before .before .before .shaped .ensures) ∙ not-false _ (c .before .before .before .if1 .left)) _ _ (c .before .before .levels-each .ensures) (c .before .intervals .ensures) (c .if2 .left)
 
 pub replay-refusal-spec : {M : Type 1} → statement M
 replay-refusal-spec =
@@ -87,6 +98,7 @@ replay-refusal-spec =
     enum-told
     shaped-requires
     returns-2
+    levels-each-requires
     intervals-requires
     mul-if2
     returns-3

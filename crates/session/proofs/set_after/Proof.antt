@@ -1,3 +1,4 @@
+-- `session::set_after` meets its contract.
 use Rattle.session.proofs.Sessions.{Ran, ran-start, ran-on, ran-end}
 use Rattle.pins.specs.Answers.{set-of, opening, handed}
 use Rattle.calling.specs.Sessions.{made}

@@ -1,3 +1,4 @@
+-- `session::take_commands` meets its contract.
 use Rattle.session.proofs.Inputs.{no-job, job-within, then-commands}
 use mathlib.Core.Path.{_∙_}
 use native.Mathlib.Omega.{arith}

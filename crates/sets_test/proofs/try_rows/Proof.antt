@@ -1,13 +1,8 @@
+-- `sets_test::try_rows` meets its contract.
 use borrow.Author.Needs.{needs}
 use Prim.Native.Nat.{_≤_, _-_}
 use Rattle.sets_test.proofs.try_rows.Statement.{statement}
 use Rattle.sets_test.proofs.try_rows.Tie as tie
-use Rattle.sets_test.proofs.try_rows.Reads as reads
-use Rattle.sets_test.proofs.try_rows.Lts as lts
-use Rattle.io.proofs.print_decimal.Reads as print-decimal-reads
-use Rattle.io.proofs.write_all.Reads as write-all-reads
-use Rattle.sets_test.proofs.set_at.Reads as set-at-reads
-use Rattle.sets_test.proofs.try_set.Reads as try-set-reads
 
 abbrev Inv-loop : tie.InvT-loop
 Inv-loop input rows start row₀ t6 t7 row = row ≤ rows
@@ -15,83 +10,63 @@ Inv-loop input rows start row₀ t6 t7 row = row ≤ rows
 abbrev μ-loop : tie.MeasureT-loop
 μ-loop input rows start row₀ t6 t7 row = rows - row
 
--- src/main.rt:113:9
 returns : tie.Need-returns Inv-loop μ-loop
 returns c = search needs
 
--- src/main.rt:115:17
 sub-rows : tie.Need-sub-rows Inv-loop μ-loop
 sub-rows c = search needs
 
--- src/main.rt:117:5
 loop-holds : tie.Need-loop-holds Inv-loop μ-loop
 loop-holds c = search needs
 
--- src/main.rt:118:24
 mul-at : tie.Need-mul-at Inv-loop μ-loop
 mul-at c = search needs
 
--- src/main.rt:118:18
 add-at : tie.Need-add-at Inv-loop μ-loop
 add-at c = search needs
 
--- src/main.rt:119:38
 slice-aggregate-write-all : tie.Need-slice-aggregate-write-all Inv-loop μ-loop
 slice-aggregate-write-all c = search needs
 
--- src/main.rt:119:9
 write-all-requires : tie.Need-write-all-requires Inv-loop μ-loop
 write-all-requires c κs = search needs
 
--- src/main.rt:120:42
 add-print-decimal : tie.Need-add-print-decimal Inv-loop μ-loop
 add-print-decimal c = search needs
 
--- src/main.rt:120:9
 print-decimal-requires : tie.Need-print-decimal-requires Inv-loop μ-loop
 print-decimal-requires c κs = search needs
 
--- src/main.rt:121:17
 sub-try-set : tie.Need-sub-try-set Inv-loop μ-loop
 sub-try-set c = search needs
 
--- src/main.rt:121:17
 part-try-set-start : tie.Need-part-try-set-start Inv-loop μ-loop
 part-try-set-start c = search needs
 
--- src/main.rt:121:17
 part-try-set-end : tie.Need-part-try-set-end Inv-loop μ-loop
 part-try-set-end c = search needs
 
--- src/main.rt:121:37
 set-at-requires : tie.Need-set-at-requires Inv-loop μ-loop
 set-at-requires c κs = search needs
 
--- src/main.rt:121:9
 try-set-requires : tie.Need-try-set-requires Inv-loop μ-loop
 try-set-requires c κs = search needs
 
--- src/main.rt:122:38
 slice-aggregate-write-all-2 : tie.Need-slice-aggregate-write-all-2 Inv-loop μ-loop
 slice-aggregate-write-all-2 c = search needs
 
--- src/main.rt:122:9
 write-all-requires-2 : tie.Need-write-all-requires-2 Inv-loop μ-loop
 write-all-requires-2 c κs = search needs
 
--- src/main.rt:117:9
 add-row : tie.Need-add-row Inv-loop μ-loop
 add-row c = search needs
 
--- src/main.rt:117:5
 loop-less : tie.Need-loop-less Inv-loop μ-loop
 loop-less c = search needs
 
--- src/main.rt:117:5
 loop-again : tie.Need-loop-again Inv-loop μ-loop
 loop-again c = search needs
 
--- src/main.rt:109:1
 returns-2 : tie.Need-returns-2 Inv-loop μ-loop
 returns-2 c = search needs
 

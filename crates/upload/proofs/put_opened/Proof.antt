@@ -1,3 +1,4 @@
+-- `upload::put_opened` meets its contract.
 use Rattle.base.proofs.Lent.{stored}
 use Rattle.upload.specs.Exports.{opened-values}
 use Rattle.job.specs.Answers.{plain}

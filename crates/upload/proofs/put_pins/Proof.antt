@@ -1,3 +1,4 @@
+-- `upload::put_pins` meets its contract.
 use Rattle.base.proofs.Lent.{stored}
 use lib.ListN.{length-set}
 use mathlib.Core.List.{[], _∷_}

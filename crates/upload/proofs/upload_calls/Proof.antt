@@ -1,3 +1,4 @@
+-- `upload::upload_calls` meets its contract.
 use Rattle.upload.proofs.Answering.{calls-before, calls-12, calls-refused, calls-done}
 use Rattle.job.specs.Answers.{verdict}
 use mathlib.Core.Path.{sym, _∙_, ap}

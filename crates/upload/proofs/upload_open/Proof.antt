@@ -1,3 +1,4 @@
+-- `upload::upload_open` meets its contract.
 use Rattle.upload.proofs.Answering.{open-12, open-refused, open-took}
 use borrow.Author.Needs.{needs}
 use Rattle.upload.proofs.upload_open.Statement.{statement}

@@ -1,6 +1,10 @@
-use Rattle.upload.proofs.Answering.{replay-before, replay-12, replay-refused, replay-clean, replay-violated}
-use Rattle.job.specs.Answers.{verdict}
+-- `upload::upload_replay` meets its contract: what refuses, the room for the values, the replay.
 use mathlib.Core.Path.{sym, _∙_, ap}
+use native.Mathlib.Omega.{arith}
+use lib.ListN.{length-replicate}
+use Rattle.job.specs.Answers.{verdict}
+use Rattle.upload.proofs.Answering.{replay-before, replay-12, replay-refused, replay-clean, replay-violated}
+use Rattle.upload.proofs.Lists.{replay-room, few-buckets, zero-room}
 use borrow.Author.Needs.{needs}
 use Rattle.upload.proofs.upload_replay.Statement.{statement}
 use Rattle.upload.proofs.upload_replay.Tie as tie
@@ -21,9 +25,15 @@ returns c = replay-before _ _ _ _ _ _ (ap verdict (sym (c .before .n .given .1))
 enum-told : tie.Need-enum-told
 enum-told c = search needs
 
+buckets-in-requires : tie.Need-buckets-in-requires
+buckets-in-requires c κs = search needs
+
+add-if1 : tie.Need-add-if1
+add-if1 c = record { fits = omega (arith, few-buckets (c .before .before .before .before .before .before .before .before .before .args .job .now), c .buckets-in .ensures) }
+
 returns-2 : tie.Need-returns-2
 unfolding verdict
-returns-2 c = replay-12 _ _ _ _ _ (ap verdict (sym (c .before .enum-told .given .1)) ∙ c .before .before .before .replay-refusal .ensures) (c .if1 .taken)
+returns-2 c = replay-12 _ _ _ _ _ (ap verdict (sym (c .before .before .enum-told .given .1)) ∙ c .before .before .before .before .replay-refusal .ensures) (rw (← c .before .buckets-in .ensures) (c .if1 .taken))
 
 replay-after-requires : tie.Need-replay-after-requires
 replay-after-requires c κs = search needs
@@ -38,7 +48,7 @@ enum-known-totals : tie.Need-enum-known-totals
 enum-known-totals c = search needs
 
 put-replayed-requires : tie.Need-put-replayed-requires
-put-replayed-requires c κs = search needs
+put-replayed-requires c κs = replay-room _ _ _ _ _ _ (c .before .before .before .before .before .before .replay-after .ensures) _ (c .before .before .totals .given .1) _ (rw (← c .before .before .before .before .before .before .before .before .before .buckets-in .ensures) (c .before .before .before .before .before .before .before .before .if1 .left))
 
 enum-known-interval : tie.Need-enum-known-interval
 enum-known-interval c = search needs
@@ -46,18 +56,18 @@ enum-known-interval c = search needs
 violation-number-requires : tie.Need-violation-number-requires
 violation-number-requires c κs = search needs
 
-none-requires : tie.Need-none-requires
-none-requires c κs = search needs
+no-totals-requires : tie.Need-no-totals-requires
+no-totals-requires c κs = rw (c .before .before .before .before .before .before .before .before .before .before .buckets-in .ensures) (few-buckets (c .before .before .before .before .before .before .before .before .before .before .before .before .before .before .before .before .before .before .before .args .job .now))
 
 put-replayed-requires-2 : tie.Need-put-replayed-requires-2
-put-replayed-requires-2 c κs = search needs
+put-replayed-requires-2 c κs = zero-room _ _ _ (c .no-totals .ensures) (c .before .before .before .before .before .before .before .before .before .before .if1 .left)
 
 same-length : tie.Need-same-length
 same-length c = search needs
 
 returns-3 : tie.Need-returns-3
 unfolding verdict
-returns-3 c = replay-refused _ _ _ _ _ (ap verdict (sym (c .before .before .before .before .before .before .before .before .enum-told .given .1)) ∙ c .before .before .before .before .before .before .before .before .before .before .replay-refusal .ensures) (c .before .before .before .before .before .before .before .if1 .left) (c .before .before .before .before .before .replay-after .result) _ (c .before .before .before .before .before .replay-after .ensures) _ (c .before .n2 .given .1)
+returns-3 c = replay-refused _ _ _ _ _ (ap verdict (sym (c .before .before .before .before .before .before .before .before .before .enum-told .given .1)) ∙ c .before .before .before .before .before .before .before .before .before .before .before .replay-refusal .ensures) (rw (← c .before .before .before .before .before .before .before .before .buckets-in .ensures) (c .before .before .before .before .before .before .before .if1 .left)) (c .before .before .before .before .before .replay-after .result) _ (c .before .before .before .before .before .replay-after .ensures) _ (c .before .n2 .given .1)
 
 same-length-2 : tie.Need-same-length-2
 same-length-2 c = search needs
@@ -67,7 +77,7 @@ same-length-3 c = search needs
 
 returns-4 : tie.Need-returns-4
 unfolding verdict
-returns-4 c = replay-clean _ _ _ _ _ (ap verdict (sym (c .before .before .before .before .before .before .before .before .before .before .before .before .enum-told .given .1)) ∙ c .before .before .before .before .before .before .before .before .before .before .before .before .before .before .replay-refusal .ensures) (c .before .before .before .before .before .before .before .before .before .before .before .if1 .left) (c .before .before .before .before .before .before .before .before .before .replay-after .result) _ (c .before .before .before .before .before .before .before .before .before .replay-after .ensures) _ (c .before .before .before .before .before .totals .given .1) _ (c .before .before .put-replayed .ensures)
+returns-4 c = replay-clean _ _ _ _ _ (ap verdict (sym (c .before .before .before .before .before .before .before .before .before .before .before .before .before .enum-told .given .1)) ∙ c .before .before .before .before .before .before .before .before .before .before .before .before .before .before .before .replay-refusal .ensures) (rw (← c .before .before .before .before .before .before .before .before .before .before .before .before .buckets-in .ensures) (c .before .before .before .before .before .before .before .before .before .before .before .if1 .left)) (c .before .before .before .before .before .before .before .before .before .replay-after .result) _ (c .before .before .before .before .before .before .before .before .before .replay-after .ensures) _ (c .before .before .before .before .before .totals .given .1) _ (c .before .before .put-replayed .ensures)
 
 same-length-4 : tie.Need-same-length-4
 same-length-4 c = search needs
@@ -77,7 +87,7 @@ same-length-5 c = search needs
 
 returns-5 : tie.Need-returns-5
 unfolding verdict
-returns-5 c = replay-violated _ _ _ _ _ (ap verdict (sym (c .before .before .before .before .before .before .before .before .before .before .before .before .before .before .enum-told .given .1)) ∙ c .before .before .before .before .before .before .before .before .before .before .before .before .before .before .before .before .replay-refusal .ensures) (c .before .before .before .before .before .before .before .before .before .before .before .before .before .if1 .left) (c .before .before .before .before .before .before .before .before .before .before .before .replay-after .result) _ (c .before .before .before .before .before .before .before .before .before .before .before .replay-after .ensures) _ _ (c .before .before .before .before .before .before .before .interval .given .1) _ (c .before .before .before .before .before .violation-number .ensures) _ (c .before .before .before .none .ensures) _ (c .before .before .put-replayed2 .ensures)
+returns-5 c = replay-violated _ _ _ _ _ (ap verdict (sym (c .before .before .before .before .before .before .before .before .before .before .before .before .before .before .before .enum-told .given .1)) ∙ c .before .before .before .before .before .before .before .before .before .before .before .before .before .before .before .before .before .replay-refusal .ensures) (rw (← c .before .before .before .before .before .before .before .before .before .before .before .before .before .before .buckets-in .ensures) (c .before .before .before .before .before .before .before .before .before .before .before .before .before .if1 .left)) (c .before .before .before .before .before .before .before .before .before .before .before .replay-after .result) _ (c .before .before .before .before .before .before .before .before .before .before .before .replay-after .ensures) _ _ (c .before .before .before .before .before .before .before .interval .given .1) _ (c .before .before .before .before .before .violation-number .ensures) _ (rw (← c .before .before .before .before .before .before .before .before .before .before .before .before .before .before .buckets-in .ensures) (c .before .before .before .no-totals .ensures)) _ (c .before .before .put-replayed2 .ensures)
 
 pub upload-replay-spec : {M : Type 1} → statement M
 upload-replay-spec =
@@ -88,6 +98,8 @@ upload-replay-spec =
     cast-result
     returns
     enum-told
+    buckets-in-requires
+    add-if1
     returns-2
     replay-after-requires
     enum-known-n-2
@@ -96,7 +108,7 @@ upload-replay-spec =
     put-replayed-requires
     enum-known-interval
     violation-number-requires
-    none-requires
+    no-totals-requires
     put-replayed-requires-2
     same-length
     returns-3

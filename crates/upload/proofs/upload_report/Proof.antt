@@ -1,3 +1,4 @@
+-- `upload::upload_report` meets its contract.
 use Rattle.upload.proofs.Answering.{report-refused, report-done}
 use borrow.Author.Needs.{needs}
 use Rattle.upload.proofs.upload_report.Statement.{statement}

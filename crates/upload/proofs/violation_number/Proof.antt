@@ -1,5 +1,6 @@
-use Rattle.upload.specs.Exports.{violation-number}
+-- `upload::violation_number` meets its contract.
 use Rattle.interval.specs.Answers.{violation}
+use Rattle.upload.specs.Exports.{violation-number}
 use borrow.Author.Needs.{needs}
 use Rattle.upload.proofs.violation_number.Statement.{statement}
 use Rattle.upload.proofs.violation_number.Tie as tie
@@ -15,6 +16,9 @@ enum-told-3 c = search needs
 
 enum-told-4 : tie.Need-enum-told-4
 enum-told-4 c = search needs
+
+enum-told-5 : tie.Need-enum-told-5
+enum-told-5 c = search needs
 
 returns : tie.Need-returns
 unfolding violation-number violation
@@ -32,7 +36,21 @@ returns-4 : tie.Need-returns-4
 unfolding violation-number violation
 returns-4 c = rw (c .enum-told4 .given .1)
 
+returns-5 : tie.Need-returns-5
+unfolding violation-number violation
+returns-5 c = rw (c .enum-told5 .given .1)
+
 pub violation-number-spec : {M : Type 1} → statement M
 violation-number-spec =
     tie.close
-    (tie.spec enum-told enum-told-2 enum-told-3 enum-told-4 returns returns-2 returns-3 returns-4)
+    (tie.spec
+    enum-told
+    enum-told-2
+    enum-told-3
+    enum-told-4
+    enum-told-5
+    returns
+    returns-2
+    returns-3
+    returns-4
+    returns-5)

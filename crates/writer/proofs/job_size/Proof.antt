@@ -1,10 +1,14 @@
 -- `writer::job_size` meets its contract.
 use Rattle.writer.proofs.Setting.{product-fits, sum-fits}
 use Rattle.job.specs.Answers.{plain}
+use Rattle.job.proofs.Fields.{small-size}
 use native.Mathlib.Omega.{arith}
 use borrow.Author.Needs.{needs}
 use Rattle.writer.proofs.job_size.Statement.{statement}
 use Rattle.writer.proofs.job_size.Tie as tie
+
+record-size-requires : tie.Need-record-size-requires
+record-size-requires c κs = search needs
 
 cast-unit : tie.Need-cast-unit
 cast-unit c = search needs
@@ -31,19 +35,20 @@ mul-result : tie.Need-mul-result
 mul-result c = search needs
 
 add-result-2 : tie.Need-add-result-2
-add-result-2 c = search needs
+add-result-2 c = omega (arith, small-size _ _ (c .before .before .before .record-size .ensures))
 
 add-result-3 : tie.Need-add-result-3
-add-result-3 c = sum-fits _ _ _ (omega arith) (omega arith) (omega arith)
+add-result-3 c = sum-fits _ _ _ (omega (arith, small-size _ _ (c .before .before .before .record-size .ensures))) (omega arith) (omega arith)
 
 returns : tie.Need-returns
 unfolding plain
-returns c = omega arith
+returns c = omega (arith, c .before .before .before .record-size .ensures)
 
 pub job-size-spec : {M : Type 1} → statement M
 job-size-spec =
     tie.close
     (tie.spec
+    record-size-requires
     cast-unit
     mul-unit
     add-unit

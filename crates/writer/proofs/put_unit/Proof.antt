@@ -1,5 +1,8 @@
 -- `writer::put_unit` meets its contract.
-use Rattle.writer.proofs.Records.{put-unit}
+use Rattle.format.specs.JobBytes.{unit-form, unit-bytes}
+use Rattle.format.proofs.Records.{total-entries}
+use Rattle.writer.proofs.Records.{put-record}
+use native.Mathlib.Omega.{arith}
 use lib.ListN.{length}
 use borrow.Author.Needs.{needs}
 use Rattle.writer.proofs.put_unit.Statement.{statement}
@@ -30,11 +33,13 @@ same-length : tie.Need-same-length
 same-length c = search needs
 
 returns : tie.Need-returns
+unfolding unit-bytes unit-form
 returns c =
     let d = c .before .before in
     let n = d .before .before .before .before in
     let a = n .before .before .before .before .before .before in
-    put-unit (length (a .args .sizes .now)) _ _ _ _ _ (n .put-numbers .ensures) (d .put-codings .ensures)
+    let m = length (a .args .sizes .now) in
+    put-record (unit-form m) _ _ _ _ _ _ (omega (arith, total-entries m)) (n .put-numbers .ensures) (d .put-codings .ensures)
 
 pub put-unit-spec : {M : Type 1} → statement M
 put-unit-spec =

@@ -1,12 +1,13 @@
-use mathlib.Core.Path.{refl}
-use Rattle.job.specs.Answers.{plain}
+-- `interval::Levels::start` meets its contract.
+use Rattle.job.specs.Answers.{policed-of, plain}
 use Rattle.interval.specs.Answers.{levels-of, start-of}
+use Rattle.interval.proofs.Steps.{levels-one}
 use Rattle.interval.proofs.Levels.start.Statement.{statement}
 use Rattle.interval.proofs.Levels.start.Tie as tie
 
 returns : tie.Need-returns
-unfolding levels-of start-of plain
-returns c = refl
+unfolding levels-of start-of plain policed-of
+returns c = levels-one _ (policed-of (c .args .header .first)) (policed-of (c .args .header .second)) _
 
 pub start-spec : {M : Type 1} → statement M
 start-spec = tie.close (tie.spec returns)

@@ -1,3 +1,4 @@
+-- `pins::PinSet::fresh` meets its contract: the fields are those of the definition.
 use Rattle.pins.specs.Answers.{set-of}
 use Rattle.pinning.specs.PinSet.{unpinned, fresh}
 use mathlib.Core.Path.{refl}

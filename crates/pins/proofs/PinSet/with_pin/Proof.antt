@@ -1,3 +1,4 @@
+-- `pins::PinSet::with_pin` meets its contract: the pin is set and the totals grow by the coding.
 use Rattle.pins.specs.Answers.{set-of}
 use Rattle.pinning.specs.Calls.{with-pin}
 use Rattle.job.specs.Answers.{coding-of}

@@ -1,3 +1,4 @@
+-- `pins::PinSet::without_pin` meets its contract: the pin is taken out and the totals shrink by the coding.
 use Rattle.pins.specs.Answers.{set-of}
 use Rattle.pinning.specs.Calls.{without-pin}
 use Rattle.job.specs.Answers.{coding-of}

@@ -1,0 +1,24 @@
+-- `job::header_verdict` meets its contract.
+use Rattle.base.specs.If.{if_then_else_}
+use Rattle.job.specs.Answers.{extra, form-of}
+use borrow.Author.Needs.{needs}
+use Rattle.job.proofs.header_verdict.Statement.{statement}
+use Rattle.job.proofs.header_verdict.Tie as tie
+
+record-verdict-requires : tie.Need-record-verdict-requires
+record-verdict-requires c κs = search needs
+
+record-verdict-requires-2 : tie.Need-record-verdict-requires-2
+record-verdict-requires-2 c κs = search needs
+
+returns : tie.Need-returns
+unfolding extra form-of if_then_else_
+returns c = rw (c .before .if1 .taken) (c .record-verdict .ensures)
+
+returns-2 : tie.Need-returns-2
+unfolding extra form-of if_then_else_
+returns-2 c = rw (c .before .if1 .left) (c .record-verdict2 .ensures)
+
+pub header-verdict-spec : {M : Type 1} → statement M
+header-verdict-spec =
+    tie.close (tie.spec record-verdict-requires record-verdict-requires-2 returns returns-2)

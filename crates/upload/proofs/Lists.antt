@@ -1,0 +1,261 @@
+-- How many values a call gives: one for each bucket of the job's line beside those that every job has.
+use Prim.Native.Nat.{ℕ, zero, suc, _+_, _*_, _≤_, _<_}
+use mathlib.Core.Path.{_≡_, refl, sym, _∙_, ap, subst}
+use mathlib.Core.Bool.{Bool, true, false}
+use mathlib.Core.Option.{Option, none, some}
+use mathlib.Core.Logic.{_⊎_, inl, inr}
+use mathlib.Core.List.{List, [], _∷_, zipWith}
+use native.Mathlib.Omega.{arith}
+use lib.Dec.{eqb}
+use lib.ListN.{length, getD, drop, replicate, length-drop, length-replicate, drop-of-length-le}
+use lib.Seq.{getD-drop}
+use borrow.Author.Tests.{eq-eqb, ne-eqb, eqb-true}
+use Rattle.base.specs.If.{if_then_else_, one-if}
+use Rattle.base.specs.Answer.{Answer, refused, gives}
+use Rattle.base.specs.Refusals.{Test, guarded}
+use Rattle.base.specs.Lent as lent
+use Rattle.base.proofs.Answers.{not-refused, gives-same}
+use Rattle.base.proofs.Refusals.{Guarded, was-refused, was-done, guarded-is}
+use Rattle.model.specs.Job.{Bucket, Levels, Job, Entry}
+use Rattle.model.specs.Pins.{PinMap}
+use Rattle.model.specs.Levels.{unusedTotals}
+use Rattle.model.specs.Replay.{Totals, totals, Result, clean, stopped, replay}
+use Rattle.model.specs.Best.{late, least-total, best-plan}
+use Rattle.format.specs.Parser as P
+use Rattle.format.specs.Parser.{on-read}
+use Rattle.format.specs.JobBytes.{Policed, Header, policed-by, no-header, job-of, parse, job-or-none, job-in}
+use Rattle.format.proofs.Limits.{not-true}
+use Rattle.format.proofs.Places.{well-read}
+use Rattle.format.proofs.Bounds.{limited}
+use Rattle.format.proofs.Opened.{opens-by, held-job}
+use Rattle.job.specs.declared.Header as code
+use Rattle.job.specs.Answers.{extra, policed-of, plain}
+use Rattle.job.proofs.Answers.{Held}
+use Rattle.pinning.specs.PinSet.{PinSet, lines}
+use Rattle.pinning.specs.Check.{checked, accept, fits}
+use Rattle.interval.specs.declared.Totals as sums
+use Rattle.interval.specs.Answers.{totals-of}
+use Rattle.model.proofs.Drains.{zip-length}
+use Rattle.replaying.specs.Calls as r
+use Rattle.replaying.specs.Calls.{Replayed, totals-are, violated, replayed, played, replay-tests, replay-call}
+use Rattle.replaying.specs.Entries.{plan-of}
+use Rattle.replay.proofs.Levels.{bucket-count}
+use Rattle.replay.specs.Answers.{ended, answered}
+use Rattle.replay.specs.declared.Replayed as code-replayed
+use Rattle.replay.specs.declared.Replayed.the-variants as replays
+use Rattle.planning.specs.Calls as p
+use Rattle.planning.specs.Calls.{searched, search-in, plan-tests, plan-in, plan-call}
+use Rattle.planner.specs.declared.Planned as code-planned
+use Rattle.planner.specs.declared.Planned.the-variants as plans
+use Rattle.planner.specs.Answers as planner
+use Rattle.calling.specs.Sessions as s
+use Rattle.calling.specs.Sessions.{made, planned-after, session-tests, session-call, replay-session}
+use Rattle.calling.specs.Commands.{calls-tests}
+use Rattle.session.specs.Answers.{session-is}
+use Rattle.upload.specs.Exports.{buckets-in, totals-list, totals-values, header-fields}
+
+-- a job that opens has one bucket or two, and bytes that do not open stand for one
+module _ (b : List ℕ) where
+  pub none-read : (n : ℕ) → parse b ≡ P.refused n → 1 ≡ buckets-in b
+  unfolding job-in job-or-none job-of
+  none-read n e = rw e
+
+  module _ (h : code.Header) (k : ℕ) (held : Held (parse b) (plain h) k) where
+    told : buckets-in b ≡ length (plain h .buckets)
+    told = bucket-count b (plain h) (opens-by b (plain h) (held .job) k (held .is) (held .header-is))
+
+    pub two-read : h .two ≡ true → 2 ≡ buckets-in b
+    unfolding plain one-if
+    two-read e = sym (told ∙ rw e)
+
+    pub one-read : h .two ≡ false → 1 ≡ buckets-in b
+    unfolding plain one-if
+    one-read e = sym (told ∙ rw e)
+
+  pub few-buckets : (1 ≤ buckets-in b) × (buckets-in b ≤ 2)
+  few-buckets = go (parse b) refl
+    where
+      go : (q : P.Result Job) → parse b ≡ q → (1 ≤ buckets-in b) × (buckets-in b ≤ 2)
+      go (P.refused n) e = (omega (arith, none-read n e), omega (arith, none-read n e))
+      go (P.took j k) e = let w = limited-buckets j k e in (omega (arith, w), omega (arith, w))
+        where
+          limited-buckets : (j : Job) (k : ℕ) → parse b ≡ P.took j k → (1 ≤ buckets-in b) × (buckets-in b ≤ 2)
+          limited-buckets j k e = rw (held-job b j k e) (let l = limited j (well-read b j k e) in (l .buckets .0, l .buckets .1))
+
+-- totals of zeros
+pub zeros-are : (n : ℕ) → 1 ≤ n → n ≤ 2 → _≡_ {A = List ℕ} (0 ∷ 0 ∷ 0 ∷ 0 ∷ one-if (eqb n 2) 0) (replicate (3 + n) 0)
+unfolding one-if
+zeros-are zero h k = absurd (omega arith)
+zeros-are (suc zero) h k = refl
+zeros-are (suc (suc zero)) h k = refl
+zeros-are (suc (suc (suc n))) h k = absurd (omega arith)
+
+-- room for totals, one after another
+module _ (t : sums.Totals) {n : ℕ} where
+  pub four-room : length (totals-values t) ≤ n → 4 ≤ n
+  unfolding totals-values totals-list totals-of
+  four-room h = omega arith
+
+  pub five-room : t .two ≡ true → length (totals-values t) ≤ n → 5 ≤ n
+  unfolding totals-values totals-list totals-of one-if
+  five-room e h = rw e at h
+
+  pub four-room-behind : 2 + length (totals-values t) ≤ n → 6 ≤ n
+  unfolding totals-values totals-list totals-of
+  four-room-behind h = omega arith
+
+  pub five-room-behind : t .two ≡ true → 2 + length (totals-values t) ≤ n → 7 ≤ n
+  unfolding totals-values totals-list totals-of one-if
+  five-room-behind e h = rw e at h
+
+-- fields of a second bucket
+pub twelve : (two : Bool) (n : ℕ) → two ≡ true → n ≡ 9 + 3 * extra two → n ≡ 12
+unfolding extra if_then_else_
+twelve two n e h = rw e at h
+
+pub fields-two : (n : ℕ) → header-fields n ≡ true → n ≡ 9 + 3 * extra (eqb n 12)
+unfolding header-fields if_then_else_ extra
+fields-two n e = go (eqb n 12) refl e
+  where
+    go : (t : Bool) → eqb n 12 ≡ t → (if t then true else eqb n 9) ≡ true → n ≡ 9 + 3 * (if t then 1 else 0)
+    go true q e = eqb-true n 12 q
+    go false q e = eqb-true n 9 e
+
+pub header-told : (n : ℕ) → header-fields n ≡ true → (n ≡ 9) ⊎ (n ≡ 12)
+unfolding header-fields if_then_else_
+header-told n e = go (eqb n 12) refl e
+  where
+    go : (t : Bool) → eqb n 12 ≡ t → (if t then true else eqb n 9) ≡ true → (n ≡ 9) ⊎ (n ≡ 12)
+    go true q e = inr (eqb-true n 12 q)
+    go false q e = inl (eqb-true n 9 e)
+
+pub no-told : (n : ℕ) → header-fields n ≡ false → (n ≡ 9) ⊎ (n ≡ 12) → ⊥
+unfolding header-fields if_then_else_
+no-told n e (inl q) = let z : true ≡ false = rw q at e in absurd (not-true (sym z))
+no-told n e (inr q) = let z : true ≡ false = rw q at e in absurd (not-true (sym z))
+
+three-of : (l : List ℕ) → length l ≡ 3 → l ≡ getD l 0 0 ∷ getD l 1 0 ∷ getD l 2 0 ∷ []
+three-of [] e = absurd (omega arith)
+three-of (a ∷ []) e = absurd (omega arith)
+three-of (a ∷ b ∷ []) e = absurd (omega arith)
+three-of (a ∷ b ∷ c ∷ []) e = refl
+three-of (a ∷ b ∷ c ∷ d ∷ l) e = absurd (omega arith)
+
+pub three-read : (fields : List ℕ) (two : Bool) → two ≡ true → length fields ≡ 12 → one-if two (record { size = getD fields 9 0; drain = getD fields 10 0; fill = getD fields 11 0 }) ≡ policed-by (drop 9 fields)
+unfolding one-if policed-by
+three-read fields two e n = rw (e, three-of (drop 9 fields) (rw length-drop (omega arith)), getD-drop, getD-drop, getD-drop)
+
+pub none-behind : (fields : List ℕ) (two : Bool) (k : Policed) → two ≡ false → length fields ≡ 9 + 3 * extra two → one-if two k ≡ policed-by (drop 9 fields)
+unfolding one-if policed-by extra if_then_else_
+none-behind fields two k e n = let m : length fields ≤ 9 = omega (arith, rw e at n) in rw (e, drop-of-length-le fields m)
+
+-- a header with these buckets behind the first
+pub with-more : (u d b l : ℕ) (k : Policed) (r c : ℕ) (more other : List Policed) → more ≡ other → _≡_ {A = Header} (record { units = u; delay = d; decoder = b; level = l; buckets = k ∷ more; rates = r; choices = c }) (record { units = u; delay = d; decoder = b; level = l; buckets = k ∷ other; rates = r; choices = c })
+with-more u d b l k r c more other e = rw e
+
+-- totals have a number for each bucket
+totals-count : (j : Job) (start : Levels) (q : List Entry) → length (start .buckets) ≡ length (j .line .buckets) → length (totals j 0 start q .unused) ≡ length (j .line .buckets)
+unfolding totals unusedTotals
+totals-count j start q e = zip-length _ (j .line .buckets) (start .buckets) e
+
+abbrev Counts : ℕ → Answer Totals → Type 0
+Counts n a = (t : Totals) → a ≡ gives t → length (t .unused) ≡ n
+
+no-count : (n m : ℕ) → Counts n (refused m)
+no-count n m t e = absurd (not-refused (sym e))
+
+-- a job that the set matches was read
+was-read : (b : List ℕ) (s : PinSet) (q : P.Result Job) (j : Job) (k : ℕ) → parse b ≡ q → accept s q ≡ P.took j k → parse b ≡ P.took j k
+unfolding accept
+was-read b s (P.refused n) j k e a = absurd (let z : _≡_ {A = ℕ} 0 1 = cc in omega arith)
+was-read b s (P.took i m) j k e a = e ∙ go (fits _ _ s) a
+  where
+    go : (t : Bool) → (if t then P.took i m else P.refused 6) ≡ P.took j k → P.took i m ≡ P.took j k
+    go true a = unfold if_then_else_ in a
+    go false a = absurd (let z : _≡_ {A = ℕ} 0 1 = unfold if_then_else_ in cc in omega arith)
+
+-- what holds of every refusal and of the work holds of the answer
+guarded-all : {R : Type 0} (Q : R → Type 0) (refuse : ℕ → R) (ts : List Test) (work : R) → ((n : ℕ) → Q (refuse n)) → Q work → Q (guarded refuse ts work)
+guarded-all {R} Q refuse ts work f g = go (guarded refuse ts work) (guarded-is refuse ts work)
+  where
+    go : (r : R) → Guarded refuse work r → Q r
+    go r (was-refused n) = f n
+    go r was-done = g
+
+read-all : {A R : Type 0} (Q : R → Type 0) (refuse : ℕ → R) (q : P.Result A) (f : A → R) → ((n : ℕ) → Q (refuse n)) → ((a : A) (k : ℕ) → q ≡ P.took a k → Q (f a)) → Q (on-read refuse q f)
+unfolding on-read
+read-all Q refuse (P.refused n) f h g = h n
+read-all Q refuse (P.took a k) f h g = g a k refl
+
+of-job : (b : List ℕ) (j : Job) (k : ℕ) → parse b ≡ P.took j k → length (j .line .buckets) ≡ buckets-in b
+of-job b j k e = sym (ap (λ (i : Job). length (i .line .buckets)) (held-job b j k e))
+
+-- of planning
+search-counts : (j : Job) (m : PinMap) (table entries : List ℕ) → length (j .start .buckets) ≡ length (j .line .buckets) → Counts (length (j .line .buckets)) (search-in j m late 0 (j .start) table entries .answer)
+unfolding search-in
+search-counts j m table entries e = go (least-total j m 0 (j .start))
+  where
+    go : (v : Option ℕ) → Counts (length (j .line .buckets)) (searched j m late 0 (j .start) v table entries .answer)
+    go none = unfold searched in (no-count _ 13)
+    go (some v) = unfold searched in (λ t q. ap (λ (x : Totals). length (x .unused)) (sym (gives-same q)) ∙ totals-count j (j .start) _ e)
+
+module _ (b : List ℕ) where
+  plan-counts : (set : PinSet) (table entries : List ℕ) → Counts (buckets-in b) (plan-call b set table entries .answer)
+  unfolding plan-call plan-in p.refuse checked
+  plan-counts set table entries =
+      read-all (λ (x : p.Planned). Counts (buckets-in b) (x .answer)) (p.refuse table entries) (checked b set) _ (λ n. no-count _ n)
+      (λ j k e.
+      let q : parse b ≡ P.took j k = was-read b set (parse b) j k refl e in
+      guarded-all (λ (x : p.Planned). Counts (buckets-in b) (x .answer)) (p.refuse table entries) _ _ (λ n. no-count _ n)
+      (subst (λ (n : ℕ). Counts n (search-in j (lines (length (j .units)) (set .pins)) late 0 (j .start) table entries .answer)) (of-job b j k q) (search-counts j _ table entries (well-read b j k q .fills))))
+
+  session-counts : (calls answers table entries : List ℕ) → Counts (buckets-in b) (session-call b calls answers table entries .planned .answer)
+  unfolding session-call planned-after s.refuse p.refuse
+  session-counts calls answers table entries =
+      read-all (λ (x : s.Session). Counts (buckets-in b) (x .planned .answer)) (s.refuse answers table entries) (parse b) _ (λ n. no-count _ n)
+      (λ j k e. guarded-all (λ (x : s.Session). Counts (buckets-in b) (x .planned .answer)) (s.refuse answers table entries) _ _ (λ n. no-count _ n) (plan-counts (made b calls .set) table entries))
+
+  -- of a replay
+  abbrev ReplayCounts : Answer Replayed → Type 0
+  ReplayCounts a = (t : Totals) → a ≡ gives (totals-are t) → length (t .unused) ≡ buckets-in b
+
+  no-replay : (n : ℕ) → ReplayCounts (refused n)
+  no-replay n t e = absurd (not-refused (sym e))
+
+  played-counts : (j : Job) (m : PinMap) (entries levels : List ℕ) → length (j .line .buckets) ≡ buckets-in b → length (j .start .buckets) ≡ length (j .line .buckets) → ReplayCounts (played j m entries levels .answer)
+  unfolding played
+  played-counts j m entries levels q e t a = go (replay j m 0 (j .start) (plan-of j entries) .result) (gives-same a)
+    where
+      go : (x : Result) → replayed (totals j 0 (j .start) (plan-of j entries)) x ≡ totals-are t → length (t .unused) ≡ buckets-in b
+      go clean a = ap (λ (y : Totals). length (y .unused)) (sym (same a)) ∙ totals-count j (j .start) (plan-of j entries) e ∙ q
+        where
+          same : replayed (totals j 0 (j .start) (plan-of j entries)) clean ≡ totals-are t → totals j 0 (j .start) (plan-of j entries) ≡ t
+          same a = unfold replayed in cc
+      go (stopped n v) a = absurd (let z : _≡_ {A = ℕ} 0 1 = unfold replayed in cc in omega arith)
+
+  replay-counts : (calls entries levels : List ℕ) → ReplayCounts (replay-session b calls entries levels .answer)
+  unfolding replay-session replay-call lent.refuse checked
+  replay-counts calls entries levels =
+      read-all (λ (x : lent.Ended Replayed). ReplayCounts (x .answer)) (lent.refuse levels) (parse b) _ no-replay
+      (λ j k e. guarded-all (λ (x : lent.Ended Replayed). ReplayCounts (x .answer)) (lent.refuse levels) _ _ no-replay
+      (read-all (λ (x : lent.Ended Replayed). ReplayCounts (x .answer)) (lent.refuse levels) (checked b (made b calls .set)) _ no-replay
+      (λ i m f.
+      let q : parse b ≡ P.took i m = was-read b (made b calls .set) (parse b) i m refl f in
+      guarded-all (λ (x : lent.Ended Replayed). ReplayCounts (x .answer)) (lent.refuse levels) _ _ no-replay (played-counts i _ entries levels (of-job b i m q) (well-read b i m q .fills)))))
+
+  -- so there is room for the values that the code writes
+  pub plan-room : (calls answers table entries : List ℕ) (x : code-planned.Planned) (a t e : List ℕ) → session-is x a t e ≡ session-call b calls answers table entries → (best : sums.Totals) → x ≡ plans.Best best → (n : ℕ) → 3 + buckets-in b ≤ n → length (totals-values best) ≤ n
+  unfolding session-is planner.planned planner.answered totals-values totals-list
+  plan-room calls answers table entries x a t e i best q n h =
+      let c : length (totals-of best .unused) ≡ buckets-in b = session-counts calls answers table entries (totals-of best) (sym (ap (λ (y : s.Session). y .planned .answer) i) ∙ rw q) in
+      omega arith
+
+  pub replay-room : (calls entries levels : List ℕ) (x : code-replayed.Replayed) (l : List ℕ) → ended x l ≡ replay-session b calls entries levels → (t : sums.Totals) → x ≡ replays.Clean t → (n : ℕ) → 5 + buckets-in b ≤ n → 2 + length (totals-values t) ≤ n
+  unfolding ended answered totals-values totals-list
+  replay-room calls entries levels x l i t q n h =
+      let c : length (totals-of t .unused) ≡ buckets-in b = replay-counts calls entries levels (totals-of t) (sym (ap (λ (y : lent.Ended Replayed). y .answer) i) ∙ rw q) in
+      omega arith
+
+-- and for zeros
+pub zero-room : (t : sums.Totals) (k n : ℕ) → totals-values t ≡ replicate (3 + k) 0 → 5 + k ≤ n → 2 + length (totals-values t) ≤ n
+zero-room t k n e h = let c : length (totals-values t) ≡ 3 + k = ap length e ∙ length-replicate (3 + k) 0 in omega arith
