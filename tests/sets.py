@@ -1,7 +1,7 @@
 #!/usr/bin/env python3
 """Writes the rows of crates/sets_test and what document 01 says of each: `tests/sets.py` in the repository's root.
 
-A row is one set for Job A. The set matches the job where its header is the job's, every pin is none or a choice
+A row is one set, offered to Job A and to Job A with a second bucket. The set matches a job where its header is the job's, every pin is none or a choice
 of a unit that the job has, and its three totals are those of its pins; any other set is refused with 6. Of a set
 that matches, the answers are worked out from the table "Where each refusal is checked" and from the plan that is
 replayed: entries 0 and the mark, 2 0, 1 1 of Job A, in which unit 1 has choice 0 and unit 2 choice 1.
@@ -9,8 +9,9 @@ replayed: entries 0 and the mark, 2 0, 1 1 of Job A, in which unit 1 has choice 
 import struct
 
 NINE = [2, 1, 4, 3, 2, 0, 0, 3, 2]
-# no second bucket
+# no second bucket, and one of size 1 that drains 2
 HEADER = NINE + [0, 0, 0, 0]
+TWO = NINE + [1, 1, 2, 0]
 RATES = [0, 2, 4]
 UNITS = [[(4, 10), (2, 30)], [(5, 12), (2, 40)]]
 NO_PIN = 255
@@ -20,8 +21,9 @@ def u16(*numbers):
     return struct.pack("<%dH" % len(numbers), *numbers)
 
 
-def job_a():
-    out = u16(20, 1, *NINE) + u16(2 + 2 * len(RATES), 2, *RATES)
+def job(header):
+    head = u16(26, 8, *NINE, *header[10:]) if header[9] else u16(20, 1, *NINE)
+    out = head + u16(2 + 2 * len(RATES), 2, *RATES)
     for unit in UNITS:
         out += u16(2 + 6 * len(unit), 3)
         for size, distortion in unit:
@@ -36,29 +38,30 @@ def totals(unit, pin):
     return (1, size, distortion)
 
 
-def matches(header, unit, pin, sums):
-    if header != HEADER:
+def matches(job, header, unit, pin, sums):
+    if header != job:
         return False
     if unit != 0 and pin != NO_PIN and not (unit <= len(UNITS) and pin < len(UNITS[unit - 1])):
         return False
     return sums == totals(unit, pin)
 
 
-def answers(header, unit, pin, sums):
+def answers(job, header, unit, pin, sums):
     """The check, a pin of unit 2 at 0, a lift of unit 1, the replay, planning."""
-    if not matches(header, unit, pin, sums):
+    if not matches(job, header, unit, pin, sums):
         return (6, 6, 6, 6, 6)
     pinned = unit if pin != NO_PIN else 0
     # a violated pin is an answer of the replay, not a refusal
-    return (0, 9 if pinned == 2 else 0, 0 if pinned == 1 else 10, 0, 0 if plans(pinned, pin) else 13)
+    return (0, 9 if pinned == 2 else 0, 0 if pinned == 1 else 10, 0, 0 if plans(job, pinned, pin) else 13)
 
 
-def plans(pinned, pin):
+def plans(job, pinned, pin):
     """Whether some plan violates nothing, by trying all of them."""
-    d, capacity, size, drain = HEADER[1], HEADER[2], HEADER[3], HEADER[4]
+    d, capacity = job[1], job[2]
+    buckets = [(job[3], job[4])] + ([(job[10], job[11])] if job[9] else [])
     choices = [[None]] * d + [range(len(u)) for u in UNITS]
 
-    def step(t, level, fill):
+    def step(t, level, fills):
         if t == len(choices):
             return True
         for choice in choices[t]:
@@ -66,12 +69,14 @@ def plans(pinned, pin):
                 continue
             taken = 0 if choice is None else UNITS[t - d][choice][0]
             for rate in RATES:
-                peak, after = level + rate, max(fill + rate - drain, 0)
-                if peak <= capacity and peak >= taken and after <= size and step(t + 1, peak - taken, after):
+                peak = level + rate
+                after = [max(fill + rate - drain, 0) for fill, (_, drain) in zip(fills, buckets)]
+                over = any(fill > size for fill, (size, _) in zip(after, buckets))
+                if taken <= peak <= capacity and not over and step(t + 1, peak - taken, after):
                     return True
         return False
 
-    return step(0, HEADER[5], HEADER[6])
+    return step(0, job[5], [job[6]] + ([job[12]] if job[9] else []))
 
 
 def rows():
@@ -85,9 +90,13 @@ def rows():
         changed = list(HEADER)
         changed[field] += 1
         yield (changed,) + good
-    # a second bucket, which Job A has not: one that never fills, the first one again, one of zeros
-    for second in ([63, 4095, 0], [3, 2, 0], [0, 0, 0]):
+    # a second bucket: that of the other job, each of its numbers by one, one that never fills, the first one again, one of zeros
+    for second in ([1, 2, 0], [2, 2, 0], [1, 1, 0], [1, 2, 1], [63, 4095, 0], [3, 2, 0], [0, 0, 0]):
         yield (NINE + [1] + second,) + good
+    for unit in (1, 2):
+        for pin in (0, 1):
+            yield TWO, unit, pin, totals(unit, pin)
+    yield TWO, 0, NO_PIN, (0, 0, 0)
     # a pin that no unit has, with the totals of no pin and of one, and a pin behind the job's units
     for pin in (2, 30, 31, 254):
         for sums in ((0, 0, 0), (1, 4, 10)):
@@ -111,7 +120,8 @@ def rows():
 
 
 with open("crates/sets_test/stdin", "wb") as data, open("crates/sets_test/stdout", "w") as lines:
-    data.write(job_a())
+    data.write(job(HEADER) + job(TWO))
     for number, (header, unit, pin, sums) in enumerate(rows(), 1):
         data.write(u16(*header, unit, pin, *sums))
-        lines.write("set %d %s\n" % (number, " ".join(map(str, answers(header, unit, pin, sums)))))
+        told = answers(HEADER, header, unit, pin, sums) + answers(TWO, header, unit, pin, sums)
+        lines.write("set %d %s\n" % (number, " ".join(map(str, told))))

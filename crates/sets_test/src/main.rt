@@ -1,5 +1,5 @@
 // Tries sets that do not match their job: refusal 6 of every call that takes a set, which no call for other languages can reach.
-// Standard input has Job A of document 01, 64 bytes, then rows of one set each. A line says what the check, a pin of unit 2 at 0, a lift of unit 1, a replay and planning answer: 0, or the number of the refusal.
+// Standard input has Job A of document 01, 64 bytes, Job A with a second bucket, 70 bytes, then rows of one set each. A line says, for each of the two jobs, what the check, a pin of unit 2 at 0, a lift of unit 1, a replay and planning answer: 0, or the number of the refusal.
 ghost use Prim.Native.Nat.{_≤_};
 ghost use lib.ListN.{length};
 use job::Bucket;
@@ -12,8 +12,10 @@ use pins::PinSet;
 use planner::Planned;
 use replay::Replayed;
 
-// The bytes of Job A, and of a row: the nine fields of the set's header, whether it has a second bucket and that bucket's three, a unit and its pin, which unit 0 leaves out, and the three totals.
+// The bytes of Job A, of both jobs, and of a row: the nine fields of the set's header, whether it has a second bucket and that bucket's three, a unit and its pin, which unit 0 leaves out, and the three totals.
 const JOB: usize = 64;
+
+const BOTH: usize = 134;
 
 const ROW: usize = 36;
 
@@ -110,10 +112,10 @@ fn try_set(job: &[u8], set: PinSet) {
     let lifted = pins::lift(job, set, 1);
     let answer = lifted.answer;
     print_answer(answer);
-    let mut levels = [0u16; 6];
+    let mut levels = [0u16; 9];
     let plan = PLAN;
     print_replayed(replay::replay(job, set, &plan, &mut levels));
-    let mut table = [0u32; 80];
+    let mut table = [0u32; 160];
     let mut entries = [0u8; 6];
     print_planned(planner::plan(job, set, &mut table, &mut entries));
 }
@@ -121,16 +123,18 @@ fn try_set(job: &[u8], set: PinSet) {
 fn try_rows(input: &[u8])
     requires { ⌜ length (now input) ≤ 4096 ⌝ }
 {
-    if input.len() < JOB {
+    if input.len() < BOTH {
         return;
     }
-    let rows = (input.len() - JOB) / ROW;
+    let rows = (input.len() - BOTH) / ROW;
     let start = 0;
     for row in 0..rows {
-        let at = JOB + ROW * row;
+        let at = BOTH + ROW * row;
         io::write_all(STDOUT_FILENO, b"set ");
         io::print_decimal(STDOUT_FILENO, row as u64 + 1);
-        try_set(&input[start..JOB], set_at(input, at));
+        let set = set_at(input, at);
+        try_set(&input[start..JOB], set);
+        try_set(&input[JOB..BOTH], set);
         io::write_all(STDOUT_FILENO, b"\n");
     }
 }

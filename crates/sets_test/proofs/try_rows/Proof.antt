@@ -37,6 +37,9 @@ add-print-decimal c = search needs
 print-decimal-requires : tie.Need-print-decimal-requires Inv-loop μ-loop
 print-decimal-requires c κs = search needs
 
+set-at-requires : tie.Need-set-at-requires Inv-loop μ-loop
+set-at-requires c κs = search needs
+
 sub-try-set : tie.Need-sub-try-set Inv-loop μ-loop
 sub-try-set c = search needs
 
@@ -46,11 +49,20 @@ part-try-set-start c = search needs
 part-try-set-end : tie.Need-part-try-set-end Inv-loop μ-loop
 part-try-set-end c = search needs
 
-set-at-requires : tie.Need-set-at-requires Inv-loop μ-loop
-set-at-requires c κs = search needs
-
 try-set-requires : tie.Need-try-set-requires Inv-loop μ-loop
 try-set-requires c κs = search needs
+
+sub-try-set-2 : tie.Need-sub-try-set-2 Inv-loop μ-loop
+sub-try-set-2 c = search needs
+
+part-try-set-start-2 : tie.Need-part-try-set-start-2 Inv-loop μ-loop
+part-try-set-start-2 c = search needs
+
+part-try-set-end-2 : tie.Need-part-try-set-end-2 Inv-loop μ-loop
+part-try-set-end-2 c = search needs
+
+try-set-requires-2 : tie.Need-try-set-requires-2 Inv-loop μ-loop
+try-set-requires-2 c κs = search needs
 
 slice-aggregate-write-all-2 : tie.Need-slice-aggregate-write-all-2 Inv-loop μ-loop
 slice-aggregate-write-all-2 c = search needs
@@ -85,11 +97,15 @@ try-rows-spec =
     write-all-requires
     add-print-decimal
     print-decimal-requires
+    set-at-requires
     sub-try-set
     part-try-set-start
     part-try-set-end
-    set-at-requires
     try-set-requires
+    sub-try-set-2
+    part-try-set-start-2
+    part-try-set-end-2
+    try-set-requires-2
     slice-aggregate-write-all-2
     write-all-requires-2
     add-row
