@@ -8,7 +8,8 @@
 //!
 //! Planning stands beside two plain programs: four nested loops, with a second
 //! bucket five, and the two passes of the library written plainly. All three must
-//! give the same table, plan and least distortion.
+//! give the same table, plan and least distortion. Loops over 1,000 choices would
+//! take minutes, and are left out.
 
 use std::hint::black_box;
 use std::time::{Duration, Instant};
@@ -18,9 +19,15 @@ use upload_planner::{numbers, Call};
 #[allow(dead_code)]
 #[path = "../tests/reference.rs"]
 mod reference;
-use reference::{u16_at, u32_at, Draft, Lists, Rng, Size, FULL};
+use reference::{u16_at, u32_at, Draft, Lists, Rng, Size, FULL, MOST_CHOICES};
 
 const NEVER: u32 = u32::MAX;
+
+/// The choice of an interval that decodes no unit.
+const NO_UNIT: u16 = 65_535;
+
+/// The largest job of 31 choices.
+const FEWER: Size = Size { choices: 31, ..FULL };
 
 // ---------------------------------------------------------------------------
 // The plain programs.
@@ -83,7 +90,7 @@ fn plain_open(job: &[u8]) -> Option<Read<'_>> {
 
 /// Whether all fields are in range.
 fn plain_header(header: &[usize; 9]) -> bool {
-    let limits = [512, 64, 255, 255, 4095, header[2], header[3], 16, 31];
+    let limits = [512, 64, 255, 255, 4095, header[2], header[3], 16, MOST_CHOICES];
     let [units, .., rates, choices] = *header;
     header.iter().zip(limits).all(|(field, high)| *field <= high)
         && units > 0
@@ -127,14 +134,14 @@ impl Read<'_> {
     }
 
     /// What interval t, from 1, may decode: choice, grains, distortion.
-    fn options(&self, pins: &[Option<usize>], t: usize) -> Vec<(u8, usize, u32)> {
+    fn options(&self, pins: &[Option<usize>], t: usize) -> Vec<(u16, usize, u32)> {
         let Some(unit) = t.checked_sub(self.header[1] + 1) else {
-            return vec![(255, 0, 0)];
+            return vec![(NO_UNIT, 0, 0)];
         };
         let held = |choice: &usize| pins[unit].map_or(true, |pinned| pinned == *choice);
         let with = |choice| {
             let (grains, distortion) = self.choice(unit, choice);
-            (choice as u8, grains, distortion)
+            (choice as u16, grains, distortion)
         };
         (0..self.header[8]).filter(held).map(with).collect()
     }
@@ -205,7 +212,7 @@ impl PlainLine {
     }
 
     /// Every state with every rate and choice.
-    fn loops(&self, options: &[(u8, usize, u32)], layer: &mut [u32], next: &[u32]) {
+    fn loops(&self, options: &[(u16, usize, u32)], layer: &mut [u32], next: &[u32]) {
         let [row, width] = self.widths();
         for b in 0..=self.decoder {
             for l in 0..=self.outer.size {
@@ -231,7 +238,7 @@ impl PlainLine {
     }
 
     /// The least distortion of each size that the decoder holds, by size.
-    fn prices(&self, options: &[(u8, usize, u32)]) -> Vec<(usize, i32)> {
+    fn prices(&self, options: &[(u16, usize, u32)]) -> Vec<(usize, i32)> {
         let mut least = [FAR; 256];
         for &(_, grains, distortion) in options {
             if grains <= self.decoder {
@@ -264,7 +271,7 @@ impl Passes {
     fn fill(
         &mut self,
         line: &PlainLine,
-        options: &[(u8, usize, u32)],
+        options: &[(u16, usize, u32)],
         layer: &mut [u32],
         next: &[u32],
     ) {
@@ -343,7 +350,7 @@ fn plain_plan(
         let options = read.options(&pins, t);
         let (entry, after, distortion) =
             plain_entry(&line, &options, levels, due, &table[t * layer..])?;
-        entries[2 * t - 2..2 * t].copy_from_slice(&entry);
+        entries[3 * t - 3..3 * t].copy_from_slice(&entry);
         total += distortion as u64;
         levels = after;
     }
@@ -354,11 +361,11 @@ fn plain_plan(
 /// distortion that it leads to.
 fn plain_entry(
     line: &PlainLine,
-    options: &[(u8, usize, u32)],
+    options: &[(u16, usize, u32)],
     [b, l, m]: [usize; 3],
     due: u32,
     next: &[u32],
-) -> Option<([u8; 2], [usize; 3], u32)> {
+) -> Option<([u8; 3], [usize; 3], u32)> {
     let [row, width] = line.widths();
     for (rate, &sent) in line.rates.iter().enumerate() {
         let Some(one) = plain_filled(l, sent, &line.outer) else { continue };
@@ -367,7 +374,8 @@ fn plain_entry(
             let Some(level) = plain_level(b, sent, grains, line.decoder) else { continue };
             let rest = next[level * row + one * width + two];
             if rest != NEVER && rest + distortion == due {
-                return Some(([rate as u8, choice], [level, one, two], distortion));
+                let [low, high] = choice.to_le_bytes();
+                return Some(([rate as u8, low, high], [level, one, two], distortion));
             }
         }
     }
@@ -376,11 +384,12 @@ fn plain_entry(
 
 fn plain_shape(read: &Read, entries: &[u8]) -> bool {
     let fits = |(t, entry): (usize, &[u8])| {
-        let choice = entry[1] as usize;
-        let chosen = if t < read.header[1] { choice == 255 } else { choice < read.header[8] };
+        let choice = u16_at(entry, 1);
+        let waits = t < read.header[1];
+        let chosen = if waits { choice == NO_UNIT } else { (choice as usize) < read.header[8] };
         (entry[0] as usize) < read.header[7] && chosen
     };
-    entries.len() == 2 * read.intervals() && entries.chunks_exact(2).enumerate().all(fits)
+    entries.len() == 3 * read.intervals() && entries.chunks_exact(3).enumerate().all(fits)
 }
 
 fn plain_replay(job: &[u8], calls: &[u16], entries: &[u8], levels: &mut [u16]) -> Option<u64> {
@@ -394,14 +403,15 @@ fn plain_replay(job: &[u8], calls: &[u16], entries: &[u8], levels: &mut [u16]) -
     let (mut l, mut m) = (outer.level, inner.level);
     let mut rest = levels.iter_mut();
     let mut total = 0;
-    for (t, entry) in entries.chunks_exact(2).enumerate() {
+    for (t, entry) in entries.chunks_exact(3).enumerate() {
         let sent = read.rate(entry[0] as usize);
         let mut taken = 0;
         if let Some(unit) = t.checked_sub(delay) {
-            let (grains, distortion) = read.choice(unit, entry[1] as usize);
+            let choice = u16_at(entry, 1) as usize;
+            let (grains, distortion) = read.choice(unit, choice);
             taken = grains;
             total += distortion as u64;
-            if pins[unit].is_some_and(|pinned| pinned != entry[1] as usize) {
+            if pins[unit].is_some_and(|pinned| pinned != choice) {
                 return None;
             }
         }
@@ -420,7 +430,7 @@ fn plain_report(job: &[u8], entries: &[u8], sums: &mut [u32]) -> Option<()> {
         return None;
     }
     let [units, delay, ..] = read.header;
-    let sent = |t: usize| read.rate(entries[2 * t] as usize) as u32;
+    let sent = |t: usize| read.rate(entries[3 * t] as usize) as u32;
     sums[0] = (0..delay).map(sent).sum();
     for i in 0..units {
         sums[i + 1] = sums[i] + sent(i + delay) - sent(i);
@@ -472,10 +482,12 @@ fn plain_write(lists: &Lists, job: &mut [u8]) -> Option<usize> {
 // ---------------------------------------------------------------------------
 
 impl Size {
-    /// States times rates and choices, over all intervals: the steps of two passes.
+    /// States times rates and sizes, over all intervals: the steps of two passes. Of
+    /// many choices the first pass has no more sizes than the decoder has levels.
     fn steps(&self) -> f64 {
         let layer = (self.decoder + 1) * (self.bucket + 1);
-        (layer * (self.units * self.choices + self.delay + self.intervals() * self.rates)) as f64
+        let sizes = self.choices.min(self.decoder + 1);
+        (layer * (self.units * sizes + self.delay + self.intervals() * self.rates)) as f64
     }
 
     /// States times rates times choices: the moves that loops try.
@@ -520,6 +532,26 @@ fn draft_of(size: &Size) -> Draft {
     let units: Vec<_> = (0..size.units).map(&mut unit).collect();
     let levels = [size.delay, size.decoder, size.bucket, 20, size.decoder / 3, size.bucket / 2];
     Draft::new(levels.map(|level| level as u16), &rates, &units)
+}
+
+/// Units whose choices have all sizes that the decoder holds, or as many of them as there
+/// are choices, in any order: the first pass has as much to do as it can have. Larger
+/// ones lose less, more or less.
+fn spread_draft(size: &Size) -> Draft {
+    let mut rng = Rng(3);
+    let mut draft = draft_of(size);
+    for unit in &mut draft.units {
+        let last = size.choices - 1;
+        for (choice, coding) in unit.iter_mut().enumerate() {
+            let grains = choice * size.decoder / last;
+            let lost = size.decoder - grains;
+            *coding = (grains as u16, (lost * lost * rng.from(3, 9) + rng.from(0, 60)) as u32);
+        }
+        for at in (1..=last).rev() {
+            unit.swap(at, rng.from(0, at));
+        }
+    }
+    draft
 }
 
 /// A programme as an encoder gives it: each quantizer takes about a tenth less
@@ -669,7 +701,7 @@ fn time_plan(job: &[u8], with_loops: bool) -> [Option<f64>; PROGRAMS] {
     let opened = upload_planner::open(job).expect("a job");
     let fresh = || Left {
         table: vec![0; opened.table_words],
-        entries: vec![0; 2 * opened.intervals],
+        entries: vec![0; opened.plan_bytes()],
         total: None,
     };
     let (mut ours, mut plain) = (fresh(), fresh());
@@ -744,7 +776,7 @@ impl Plans {
 
 /// Whether loops over so many moves take seconds at most.
 fn loops_are_short(moves: f64) -> bool {
-    moves * 4.0 < FULL.moves()
+    moves * 4.0 < FEWER.moves()
 }
 
 fn plan_tables(with_full: bool) {
@@ -752,7 +784,12 @@ fn plan_tables(with_full: bool) {
     println!("loops to: the time of nested loops, four or with a second bucket five, over the");
     println!("library's, how many times faster it is");
     let mut plans = Plans::new("planning, the largest job that opens", false);
-    plans.add("512 units, delay 64, decoder 255", FULL.steps(), &job_of(&FULL), with_full);
+    plans.add("512 units, 1,000 choices", FULL.steps(), &job_of(&FULL), false);
+    if with_full {
+        let job = spread_draft(&FULL).bytes();
+        plans.add("the same, of all sizes", FULL.steps(), &job, false);
+    }
+    plans.add("512 units, 31 choices", FEWER.steps(), &job_of(&FEWER), with_full);
 
     let mut plans = Plans::new("planning, a programme of 512 units, 31 quantizers", false);
     for decoder in [255, 127, 60, 51, 25, 12] {
@@ -764,14 +801,14 @@ fn plan_tables(with_full: bool) {
     let mut plans =
         Plans::new("planning, a row or a column of one word: 512 units, delay 64", false);
     for (decoder, bucket) in [(255, 0), (60, 0), (0, 255), (0, 60), (0, 0)] {
-        let size = Size { decoder, bucket, ..FULL };
+        let size = Size { decoder, bucket, ..FEWER };
         let name = format!("decoder {decoder}, bucket {bucket}");
         plans.add(name, size.steps(), &job_of(&size), true);
     }
 
     let mut plans = Plans::new("planning, four units, delay 1", false);
     for grains in [255, 60, 25, 12, 4] {
-        let size = Size { units: 4, delay: 1, decoder: grains, bucket: grains, ..FULL };
+        let size = Size { units: 4, delay: 1, decoder: grains, bucket: grains, ..FEWER };
         plans.add(format!("decoder and bucket of {grains}"), size.steps(), &job_of(&size), true);
     }
     let size = Size { units: 2, delay: 1, decoder: 4, bucket: 3, rates: 3, choices: 2 };
@@ -779,7 +816,7 @@ fn plan_tables(with_full: bool) {
 
     let mut plans = Plans::new("planning, by length (1 is 512 units, delay 64)", true);
     for part in [64, 32, 16, 8, 4, 2, 1] {
-        let size = FULL.part(part);
+        let size = FEWER.part(part);
         let name = format!("1/{part}: {} units, delay {}", size.units, size.delay);
         plans.add(name, size.steps(), &job_of(&size), loops_are_short(size.moves()));
     }
@@ -809,8 +846,8 @@ fn plan_tables(with_full: bool) {
 /// all from each.
 fn two_bucket_tables(with_full: bool) {
     let [units, delays] = if with_full { [[483, 120], [32, 8]] } else { [[123, 30], [8, 2]] };
-    let one = Size { units: units[0], delay: delays[0], ..FULL };
-    let two = Size { units: units[1], delay: delays[1], bucket: 63, ..FULL };
+    let one = Size { units: units[0], delay: delays[0], ..FEWER };
+    let two = Size { units: units[1], delay: delays[1], bucket: 63, ..FEWER };
     let with_one = job_of(&one);
     let with_two = |drain| draft_of(&two).doubled(half_full(15, drain)).bytes();
     let opened = [&with_one, &with_two(30)].map(|job| upload_planner::open(job).expect("a job"));
@@ -825,8 +862,8 @@ fn two_bucket_tables(with_full: bool) {
 
     println!("  the library alone, the least of five in turn, for a word of the table and a rate;");
     println!("  two buckets are to take at most 1.50 times what one takes:");
-    let pairs = (words * FULL.rates) as f64;
-    let room = 2 * opened[0].intervals;
+    let pairs = (words * FEWER.rates) as f64;
+    let room = opened[0].plan_bytes();
     let mut lent = [(vec![0; words], vec![0; room]), (vec![0; words], vec![0; room])];
     let plan = |job: &[u8], (table, entries): &mut (Vec<u32>, Vec<u8>)| {
         upload_planner::plan(job, &[], &mut [], table, entries).expect("a plan");
@@ -858,9 +895,9 @@ fn call_tables() {
     );
     for count in [2, 64, 1024, 16_384, 262_144] {
         let calls: Vec<u16> = [[6, 1, 0], [7, 1, 0]].concat().repeat(count / 2);
-        let (mut answers, mut words, mut entries) = (vec![0; count], [0; 2], [0; 2]);
+        let (mut answers, mut words, mut entries) = (vec![0; count], [0; 2], [0; 3]);
         let mut values = [0; numbers::PLAN_VALUES];
-        let mut spare = (vec![0; count], [0; 2], [0; 2]);
+        let mut spare = (vec![0; count], [0; 2], [0; 3]);
         let times = short_in_turn(
             || {
                 let lent = (&mut answers, &mut words, &mut entries, &mut values);
@@ -881,7 +918,7 @@ fn call_tables() {
         "call",
     );
     for part in [64, 8, 1] {
-        let size = FULL.part(part);
+        let size = FEWER.part(part);
         let job = job_of(&size);
         let entries = some_entries(&size);
         let units = size.units as u16;
@@ -902,10 +939,23 @@ fn call_tables() {
     }
 }
 
+/// A plan's bytes: for each interval, from 0, a rate and the choice of its unit.
+fn entries_of(
+    size: &Size,
+    rate: impl Fn(usize) -> usize,
+    choice: impl Fn(usize) -> usize,
+) -> Vec<u8> {
+    let entry = |t: usize| {
+        let choice = if t < size.delay { NO_UNIT } else { choice(t) as u16 };
+        let [low, high] = choice.to_le_bytes();
+        [rate(t) as u8, low, high]
+    };
+    (0..size.intervals()).flat_map(entry).collect()
+}
+
 /// A well-shaped plan: for the report any will do.
 fn some_entries(size: &Size) -> Vec<u8> {
-    let choice = |t: usize| if t < size.delay { 255 } else { size.choices as u8 - 1 };
-    (0..size.intervals()).flat_map(|t| [(t % size.rates) as u8, choice(t)]).collect()
+    entries_of(size, |t| t % size.rates, |_| size.choices - 1)
 }
 
 /// An easy job: every interval sends one grain or none, and what waits for the
@@ -915,8 +965,7 @@ fn even_job(size: &Size) -> (Draft, Vec<u8>) {
     let rates: Vec<u16> = (0..size.rates).map(|i| i as u16).collect();
     let levels = [size.delay as u16, 255, 255, 1, 0, 0];
     let job = Draft::new(levels, &rates, &vec![unit; size.units]);
-    let choice = |t: usize| if t < size.delay { 255 } else { (t % size.choices) as u8 };
-    (job, (0..size.intervals()).flat_map(|t| [1, choice(t)]).collect())
+    (job, entries_of(size, |_| 1, |t| 389 * t % size.choices))
 }
 
 fn other_tables() {
@@ -946,16 +995,7 @@ fn other_tables() {
     for part in [64, 8, 1] {
         let size = FULL.part(part);
         let job = job_of(&size);
-        let mut values = [0; 4];
-        let times = short_in_turn(
-            || {
-                black_box(numbers::open(&job, &mut values));
-            },
-            || {
-                black_box(plain_open(black_box(&job)).map(|read| (read.taken, read.words())));
-            },
-        );
-        table.add(line(format!("{} units", size.units), job.len() as f64, times));
+        table.add(line(format!("{} units", size.units), job.len() as f64, time_open(&job)));
     }
 
     let mut table = Table::new("replay, the job's reading included", "byte");
@@ -984,6 +1024,103 @@ fn other_tables() {
         let times = time_report(&size, &job_of(&size));
         table.add(line(format!("delay {delay}"), size.units as f64, times));
     }
+}
+
+/// Planning with as many choices as there may be beside fewer.
+fn many_choice_tables() {
+    let base = Size { units: 400, delay: 8, decoder: 127, bucket: 127, ..FULL };
+    let mut plans = Plans::new("planning, by choices of all sizes that the decoder holds", true);
+    for choices in [31, 125, 500, 1000] {
+        let size = Size { choices, ..base };
+        let job = spread_draft(&size).bytes();
+        plans.add(format!("{choices} choices"), size.steps(), &job, false);
+    }
+
+    println!("  the library alone, the least of seven in turn; 1,000 choices are to take at most");
+    println!("  4.00 times what 31 take, and hardly more than 500, which have all sizes too:");
+    for (units, grains) in [(400, 63), (400, 127), (128, 255)] {
+        let base = Size { units, decoder: grains, bucket: grains, ..base };
+        let jobs = [31, 500, 1000].map(|choices| spread_draft(&Size { choices, ..base }).bytes());
+        let opened = upload_planner::open(&jobs[0]).expect("a job");
+        let (mut table, mut entries) = (vec![0; opened.table_words], vec![0; opened.plan_bytes()]);
+        let mut least = [f64::MAX; 3];
+        for _ in 0..7 {
+            for (job, best) in jobs.iter().zip(&mut least) {
+                let start = Instant::now();
+                let planned = upload_planner::plan(job, &[], &mut [], &mut table, &mut entries);
+                *best = best.min(start.elapsed().as_secs_f64());
+                planned.expect("a plan");
+            }
+        }
+        let [few, half, most] = least;
+        let times = least.map(shown).join(", ");
+        let [to_few, to_half] = [few, half].map(|time| most / time);
+        println!(
+            "  {units} units, decoder and bucket of {grains}: 31, 500 and 1,000 choices {times}; \
+             1,000 to 31 x{to_few:.2}, to 500 x{to_half:.2}"
+        );
+    }
+}
+
+/// Opening, a pin and a replay take as long for each byte of the largest job as for each
+/// byte of a job of half its bytes or a quarter of them.
+fn largest_tables() {
+    let fewer = |choices| Size { choices, ..FULL };
+    for (by, sizes) in
+        [("units", [FULL.part(4), FULL.part(2), FULL]), ("choices", [fewer(250), fewer(500), FULL])]
+    {
+        let named =
+            |what: &str| format!("{what}, a quarter, half and all of the largest job, by {by}");
+        let mut table = Table::new(&named("opening"), "byte");
+        for size in &sizes {
+            let job = job_of(size);
+            table.add(line(sized(size), job.len() as f64, time_open(&job)));
+        }
+        let mut table = Table::new(&named("a pin"), "byte");
+        for size in &sizes {
+            let job = job_of(size);
+            let call = [6, size.units as u16, size.choices as u16 - 1];
+            table.add(line(sized(size), job.len() as f64, time_pin(&job, &call)));
+        }
+        let mut table = Table::new(&named("replay"), "byte");
+        for size in &sizes {
+            let (draft, entries) = even_job(size);
+            let job = draft.bytes();
+            table.add(line(sized(size), job.len() as f64, time_replay(&job, &entries)));
+        }
+    }
+}
+
+fn sized(size: &Size) -> String {
+    format!("{} units of {} choices", size.units, size.choices)
+}
+
+fn time_open(job: &[u8]) -> [f64; 2] {
+    let mut values = [0; numbers::OPEN_VALUES];
+    short_in_turn(
+        || {
+            black_box(numbers::open(job, &mut values));
+        },
+        || {
+            black_box(plain_open(black_box(job)).map(|read| (read.taken, read.words())));
+        },
+    )
+}
+
+fn time_pin(job: &[u8], call: &[u16; 3]) -> [f64; 2] {
+    let (mut answers, mut values) = ([[9], [9]], [0; numbers::CALLS_VALUES]);
+    let [ours, plain] = &mut answers;
+    let times = short_in_turn(
+        || {
+            black_box(numbers::calls(job, call, ours, &mut values));
+        },
+        || {
+            let read = plain_open(black_box(job)).expect("a job");
+            black_box(plain_calls(&read, call, plain));
+        },
+    );
+    assert!(answers == [[0], [0]] && values[0] == 1, "the pin is refused");
+    times
 }
 
 fn time_replay(job: &[u8], entries: &[u8]) -> [f64; 2] {
@@ -1015,22 +1152,29 @@ fn time_report(size: &Size, job: &[u8]) -> [f64; 2] {
 }
 
 fn main() {
-    let (mut with_full, mut all) = (true, true);
+    let (mut with_full, mut all, mut choices_alone) = (true, true, false);
     for argument in std::env::args().skip(1) {
         match argument.as_str() {
             "--no-full" => with_full = false,
             "--planning" => all = false,
+            "--choices" => choices_alone = true,
             _ => {
-                println!("usage: bench/run [--planning] [--no-full]");
+                println!("usage: bench/run [--planning | --choices] [--no-full]");
                 std::process::exit(2);
             }
         }
     }
     println!("ratio: the library's time over that of a plain program; below 1 it is faster");
-    if all {
+    if all && !choices_alone {
         call_tables();
         other_tables();
     }
-    plan_tables(with_full);
-    two_bucket_tables(with_full);
+    if all {
+        largest_tables();
+    }
+    if !choices_alone {
+        plan_tables(with_full);
+        two_bucket_tables(with_full);
+    }
+    many_choice_tables();
 }

@@ -45,6 +45,14 @@ static unsigned rate_of(const uint8_t *job, unsigned index)
     return rate[0] | (unsigned)rate[1] << 8;
 }
 
+/* An entry is a rate's index, then a choice as two bytes, the lower first. */
+enum { ENTRY = 3 };
+
+static unsigned choice_of(const uint8_t *entry)
+{
+    return entry[1] | (unsigned)entry[2] << 8;
+}
+
 static void print_interval(unsigned t, unsigned sent, unsigned choice, const uint16_t *levels,
                            size_t levels_len)
 {
@@ -73,7 +81,7 @@ static uint32_t plan(const uint8_t *job, size_t job_len, const uint16_t *calls, 
     /* no list is empty, so that no pointer is null */
     uint8_t *answers = malloc(calls_len / 3 + 1);
     uint32_t *table = malloc(words * sizeof *table);
-    uint8_t *entries = malloc(2 * intervals);
+    uint8_t *entries = malloc(ENTRY * intervals);
     uint16_t *levels = malloc(each * intervals * sizeof *levels);
     if (answers == NULL || table == NULL || entries == NULL || levels == NULL) {
         fprintf(stderr, "no memory\n");
@@ -81,15 +89,17 @@ static uint32_t plan(const uint8_t *job, size_t job_len, const uint16_t *calls, 
     }
 
     refusal = upload_plan(job, job_len, calls, calls_len, answers, calls_len / 3, table, words,
-                          entries, 2 * intervals, totals, 3 + buckets);
+                          entries, ENTRY * intervals, totals, 3 + buckets);
     if (refusal == UPLOAD_OK)
-        refusal = upload_replay(job, job_len, calls, calls_len, entries, 2 * intervals, levels,
-                                each * intervals, replayed, 5 + buckets);
+        refusal = upload_replay(job, job_len, calls, calls_len, entries, ENTRY * intervals,
+                                levels, each * intervals, replayed, 5 + buckets);
     if (refusal == UPLOAD_OK) {
         printf("plan %" PRIu64 " %zu %zu\n", opened[1], intervals, words);
-        for (size_t i = 0; i < intervals; i++)
-            print_interval((unsigned)i + 1, rate_of(job, entries[2 * i]), entries[2 * i + 1],
+        for (size_t i = 0; i < intervals; i++) {
+            const uint8_t *entry = entries + ENTRY * i;
+            print_interval((unsigned)i + 1, rate_of(job, entry[0]), choice_of(entry),
                            levels + each * i, each);
+        }
         printf("total");
         for (size_t i = 0; i < 3 + buckets; i++)
             printf(" %" PRIu64, totals[i]);

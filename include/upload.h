@@ -71,7 +71,9 @@ enum upload_refusal {
     UPLOAD_TABLE_TOO_SHORT = 11,/* the table has fewer words than planning needs */
     UPLOAD_LIST_TOO_SHORT = 12, /* another list that is to be filled is too short */
     UPLOAD_NO_PLAN = 13,        /* no plan is admissible */
-    UPLOAD_NOT_A_PLAN = 14,     /* the entries are not 2 x T bytes, or one is out of range */
+    UPLOAD_NOT_A_PLAN = 14,     /* the entries are not 3 x T bytes, or one is out of range;
+                                   upload_turn: the job has more than 31 choices, or the bytes
+                                   were no plan of two bytes an interval */
     UPLOAD_INPUT_TOO_LONG = 15, /* the program `plan` alone: more than 32,768 bytes of input */
     UPLOAD_LENGTHS = 16         /* a list's length is not what the header calls for */
 };
@@ -90,8 +92,8 @@ enum upload_header {
     UPLOAD_TWO_BUCKETS = 8
 };
 
-/* The choice byte of an interval that decodes no unit. */
-#define UPLOAD_NO_UNIT 255
+/* The choice of an interval that decodes no unit. */
+#define UPLOAD_NO_UNIT 65535
 
 /* The word of a state from which no plan can be completed. */
 #define UPLOAD_NEVER UINT32_C(4294967295)
@@ -167,8 +169,9 @@ uint32_t upload_calls(const uint8_t *job, size_t job_len,
             they cannot be completed. With two buckets it is word ((t x (decoder
             size + 1) + b) x (bucket size + 1) + l) x (second bucket's size + 1)
             + m, for level m of the second.
-   entries: 2 x T bytes written, two an interval: the index of its rate, then
-            that of its unit's choice, or UPLOAD_NO_UNIT for the first d.
+   entries: 3 x T bytes written, three an interval: the index of its rate, then
+            that of its unit's choice as two bytes, the lower first, or
+            UPLOAD_NO_UNIT for the first d.
    values:  3 numbers and one for each bucket written, 4 or 5: total distortion,
             source grains (what the units take), channel grains (what the
             intervals send), then for each bucket its unused grains (in each
@@ -190,7 +193,7 @@ uint32_t upload_plan(const uint8_t *job, size_t job_len,
 /* Makes the calls as upload_calls does, then follows a plan interval by interval
    up to its first violation.
 
-   entries: exactly 2 x T bytes, as upload_plan writes them.
+   entries: exactly 3 x T bytes, as upload_plan writes them.
    levels:  room for 2 x T numbers, with two buckets for 3 x T: after each
             interval, when its unit has left, the decoder's level, the bucket's,
             and the second bucket's where there is one. Only those before the
@@ -210,7 +213,7 @@ uint32_t upload_replay(const uint8_t *job, size_t job_len,
 
 /* The effective buffer sizes of a plan, admissible or not.
 
-   entries: exactly 2 x T bytes, as upload_plan writes them.
+   entries: exactly 3 x T bytes, as upload_plan writes them.
    sums:    N + 1 numbers written: for i from 0 to N the grains that intervals
             i + 1 to i + d send.
 
@@ -218,6 +221,21 @@ uint32_t upload_replay(const uint8_t *job, size_t job_len,
 uint32_t upload_report(const uint8_t *job, size_t job_len,
                        const uint8_t *entries, size_t entries_len,
                        uint32_t *sums, size_t sums_len);
+
+/* Turns a stored plan of two bytes an interval, as plans were while a job had at
+   most 31 choices, into entries. The rate and the choice of each interval are
+   kept, and 255, which stood for no unit, becomes UPLOAD_NO_UNIT; so the entries
+   replay to the levels of the old plan.
+
+   old:     exactly 2 x T bytes, two an interval: the index of its rate, below P,
+            then that of its unit's choice, below M, or 255 for the first d.
+   entries: 3 x T bytes written, as upload_plan writes them.
+
+   Refusals in order: 1 to 5; 14 where the job has more than 31 choices or `old`
+   is anything else; 12 where `entries` is too short. */
+uint32_t upload_turn(const uint8_t *job, size_t job_len,
+                     const uint8_t *old, size_t old_len,
+                     uint8_t *entries, size_t entries_len);
 
 /* Writes a job's bytes from its header and lists: the record of the header, that
    of the rates, then one for each unit. What is written opens and holds this
@@ -227,9 +245,9 @@ uint32_t upload_report(const uint8_t *job, size_t job_len,
    fields:      exactly UPLOAD_FIELDS numbers, the header's in their order: N
                 (1 to 512), d (0 to 64), decoder size and bucket size (0 to 255
                 each), drain (0 to 4,095), the starting levels of decoder and
-                bucket (each from 0 to its size), P (1 to 16), M (1 to 31). For
-                two buckets exactly UPLOAD_FIELDS_MOST numbers: these nine, then
-                the second bucket's size (0 to 63), drain (0 to 4,095) and
+                bucket (each from 0 to its size), P (1 to 16), M (1 to 1,000).
+                For two buckets exactly UPLOAD_FIELDS_MOST numbers: these nine,
+                then the second bucket's size (0 to 63), drain (0 to 4,095) and
                 starting level (0 to its size).
    rates:       exactly P numbers, each at most 4,095, strictly rising.
    sizes:       exactly N x M numbers by unit and choice, unit after unit: the
@@ -237,7 +255,7 @@ uint32_t upload_report(const uint8_t *job, size_t job_len,
    distortions: exactly N x M numbers in the order of `sizes`, each at most
                 1,000,000.
    job:         26 + 2 x P + N x (4 + 6 x M) bytes written, 6 more with two
-                buckets; never more than 97,344.
+                buckets; never more than 3,074,112.
    values:      1 number written: how many bytes the job took.
 
    Refusals in order: 3 where `fields` is not nine or twelve numbers or one of

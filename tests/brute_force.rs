@@ -86,10 +86,10 @@ enum ByHand {
     Unused(Vec<i64>),
     Refused(Refusal),
     Text(&'static str),
-    /// The text of a file that lies beside the input.
-    Filed(String),
+    /// A text with a number put in, or that of a file that lies beside the input.
+    Made(String),
 }
-use ByHand::{APlan, Filed, Nothing, Refused, Text, Unused};
+use ByHand::{APlan, Made, Nothing, Refused, Text, Unused};
 
 impl ByHand {
     fn holds(&self, text: &str) -> bool {
@@ -99,7 +99,7 @@ impl ByHand {
             Unused(sums) => APlan.holds(text) && text.ends_with(&format!(" {}\n", spaced(sums))),
             Refused(number) => text == refused(*number),
             Text(said) => text == *said,
-            Filed(said) => text == said,
+            Made(said) => text == said,
         }
     }
 
@@ -110,7 +110,7 @@ impl ByHand {
             Unused(sums) => format!("a plan that leaves {} grains unused", spaced(sums)),
             Refused(number) => refused(*number),
             Text(said) => said.to_string(),
-            Filed(said) => said.clone(),
+            Made(said) => said.clone(),
         }
     }
 }
@@ -226,6 +226,23 @@ fn random_groups(new_seed: u64) -> Vec<Group> {
         let make = random_double_job;
         groups.extend(telling_groups("two-bucket", DOUBLE_MISTAKES, seed, &DOUBLE, make));
     }
+    for seed in [Fixed(9), New(new_seed)] {
+        groups.extend(many_groups(seed));
+    }
+    groups
+}
+
+/// Jobs of up to 1,000 choices that fit in the input: of one unit, all of whose plans are
+/// tried, and of a few.
+fn many_groups(seed: Seed) -> Vec<Group> {
+    let asked = if matches!(seed, Fixed(_)) { 5 } else { 0 };
+    let sizes = [("jobs of many choices", 300), ("medium jobs of many choices", 80)];
+    let mut groups = Vec::new();
+    for (&(name, count), shape) in sizes.iter().zip(&MANY) {
+        let make = |rng: &mut Rng| random_many_job(rng, shape).bytes();
+        let group = random_group(name, seed, count, 2, make);
+        groups.push(Group { told_in: Some((choice_mistakes, asked)), ..group });
+    }
     groups
 }
 
@@ -308,7 +325,7 @@ fn header_group() -> Group {
     for (buckets, (line, a)) in (1..).zip(both_lines()) {
         for &(field, low, high) in &LIMITS[..FIELDS[buckets - 1]] {
             let label = |value: u16| format!("{line}, field {field} is {value}");
-            for value in [low, low + 1, high - 1, high] {
+            for value in values_in(field, low, high) {
                 let by_hand = if takes_plan(field) { APlan } else { Nothing };
                 cases.push(case(label(value), sized(buckets, field, value), by_hand));
             }
@@ -409,6 +426,21 @@ fn entries_group() -> Group {
     }
     let alike = Draft::new([1, 4, 3, 2, 0, 0], &[0, 2, 4], &vec![vec![(2, 7); 31]; 3]);
     cases.push(case("equal entries", alike.bytes(), APlan));
+    // The same in a unit of as many choices as there may be.
+    for choice in [0, 255, 256, MOST_CHOICES - 1] {
+        for (coding, by_hand) in [
+            ((4095, 1_000_000), APlan),
+            ((4096, 0), Refused(5)),
+            ((0, 1_000_001), Refused(5)),
+            ((0, 0), APlan),
+        ] {
+            let mut unit = vec![(2, 7); MOST_CHOICES];
+            unit[choice] = coding;
+            let draft = Draft::new([1, 4, 3, 2, 0, 0], &[0, 2, 4], &[unit]);
+            let label = format!("choice {choice} of 1,000 is {coding:?}");
+            cases.push(case(label, draft.bytes(), by_hand));
+        }
+    }
     group("sizes and distortions", cases)
 }
 
@@ -636,7 +668,7 @@ fn command_numbers_group() -> Group {
         add(&[Pin(1, 0), Pin(unit, 0)], Refused(7));
         add(&[Pin(1, 0), Lift(unit)], Refused(7));
     }
-    for choice in [2, 3, 31, 254, 255, 256, 257, 0x0100, 0x8000, 0xff01, 0xffff] {
+    for choice in [2, 3, 31, 254, 255, 256, 257, 999, 1000, 0x8000, 0xff01, 0xfffe, 0xffff] {
         add(&[Pin(1, choice)], Refused(8));
         add(&[Pin(2, choice)], Refused(8));
         add(&[Pin(1, 0), Pin(1, choice)], Refused(8));
@@ -694,6 +726,9 @@ fn input_length_group() -> Group {
             then(full.clone(), &command_record(Pin(512, 0))),
             Refused(15),
         ),
+        // 26 + 2 + 5 or 6 x 6,004 bytes.
+        case("five units of 1,000 choices", many_choices(5).bytes(), APlan),
+        case("six units of 1,000 choices", many_choices(6).bytes(), Refused(15)),
         case("32,768 zero bytes", vec![0; INPUT_LIMIT], Refused(2)),
         case("32,768 bytes, Job A and zeros", padded(job_a().bytes(), INPUT_LIMIT), Refused(2)),
     ];
@@ -710,6 +745,12 @@ fn input_length_group() -> Group {
         }
     }
     group("input length", cases)
+}
+
+/// Units of as many choices as there may be, of which the last is the best.
+fn many_choices(units: usize) -> Draft {
+    let unit: Vec<(u16, u32)> = (0..MOST_CHOICES as u32).rev().map(|more| (1, more)).collect();
+    Draft::new([0, 2, 2, 1, 0, 0], &[1], &vec![unit; units])
 }
 
 fn padded(mut input: Vec<u8>, length: usize) -> Vec<u8> {
@@ -868,9 +909,11 @@ fn large_numbers_group() -> Group {
     wide[15] = 4095;
     let unit: Vec<(u16, u32)> = (0..31).map(|i| (i * 10, 1_000_000 - 33_333 * i as u32)).collect();
     let widest = Draft::new([1, 255, 9, 4095, 100, 7], &wide, &vec![unit; 4]);
+    let unit = (0..1000).map(|i| (i % 90, 1_000_000 - 997 * i as u32)).collect();
+    let thousand = Draft::new([1, 31, 3, 4095, 20, 3], &wide, &vec![unit; 2]);
     let open = most(17, 31, [0, 31, 0, 4095, 0, 0]);
     let top = Draft::new([0, 127, 0, 4095, 127, 0], &[0], &[vec![(127, 0)]]);
-    let rows: [(&str, Draft, ByHand); 15] = [
+    let rows: [(&str, Draft, ByHand); 16] = [
         (
             "512 units of the largest distortion, two buckets",
             most(512, 0, [0, 0, 0, 4095, 0, 0]).doubled([0, 4095, 0]),
@@ -894,12 +937,125 @@ fn large_numbers_group() -> Group {
         ("a delay the decoder cannot hold", most(1, 255, [1, 255, 0, 4095, 0, 0]), Refused(13)),
         ("both levels start at the top", full, APlan),
         ("16 rates and 31 choices", widest, APlan),
+        ("16 rates and 1,000 choices", thousand, APlan),
     ];
     let mut cases = Vec::new();
     for (label, draft, by_hand) in rows {
         cases.push(case(label, draft.bytes(), by_hand));
     }
     group("large numbers", cases)
+}
+
+/// Choices past 31 and past what a byte counts: made best, equal, pinned and lifted.
+fn thousand_group() -> Group {
+    let mut cases = Vec::new();
+    // One interval sends 2, all but which goes by of a drain of 4,095.
+    let text = |choice: usize, distortion: u32| {
+        Made(format!("plan 1 1 8\n1 2 {choice} 0 0\ntotal {distortion} 2 2 4093\n"))
+    };
+    for choice in EDGES {
+        for choices in [choice + 1, MOST_CHOICES] {
+            let draft = chosen_among(choices, &[choice]);
+            let label = format!("{choice} of {choices}");
+            cases.push(case(format!("{label} is best"), draft.bytes(), text(choice, 5)));
+            let pin = Pin(1, choice as u16);
+            let plain = chosen_among(choices, &[]).commanded(&[pin]);
+            cases.push(case(format!("{label} pinned"), plain.bytes(), text(choice, 9)));
+            let twice = plain.commanded(&[pin]);
+            cases.push(case(format!("{label} pinned twice"), twice.bytes(), Refused(9)));
+            let lifted = plain.commanded(&[Lift(1)]);
+            cases.push(case(format!("{label} pinned and lifted"), lifted.bytes(), text(0, 9)));
+            let again = lifted.commanded(&[Lift(1)]);
+            cases.push(case(format!("{label} lifted twice"), again.bytes(), Refused(10)));
+            // The lower byte of the first ones is a choice.
+            for beyond in [choices, choices + 256, 0x8000 | choice, NO_CHOICE - 1, NO_CHOICE] {
+                let wrong = draft.commanded(&[Pin(1, beyond as u16)]);
+                cases.push(case(format!("{label}, pin {beyond}"), wrong.bytes(), Refused(8)));
+            }
+        }
+        // Equal ones: the first, whatever their lower bytes.
+        for &other in EDGES.iter().filter(|other| **other > choice) {
+            let draft = chosen_among(MOST_CHOICES, &[choice, other]);
+            let label = format!("{choice} and {other} are equal");
+            cases.push(case(label.clone(), draft.bytes(), text(choice, 5)));
+            let pinned = draft.commanded(&[Pin(1, other as u16)]);
+            cases.push(case(format!("{label}, {other} pinned"), pinned.bytes(), text(other, 5)));
+        }
+    }
+    cases.extend(sizes_of_choices());
+    group("a thousand choices", cases)
+}
+
+/// Sizes that differ, a delay, and a second unit.
+fn sizes_of_choices() -> Vec<Case> {
+    // Of three sizes the best is where it is, and another is worse before it and
+    // behind it. 3 grains are not to be had; 1 and 2 leave the same to nobody.
+    let mut unit = vec![(2, 30); MOST_CHOICES];
+    for (choice, coding) in [
+        (10, (1, 40)),
+        (255, (1, 21)),
+        (256, (1, 22)),
+        (257, (2, 21)),
+        (511, (2, 20)),
+        (700, (2, 21)),
+        (998, (3, 0)),
+        (999, (1, 20)),
+    ] {
+        unit[choice] = coding;
+    }
+    let of = |levels, rates: &[u16], units| Draft::new(levels, rates, units);
+    let one = [unit.clone()];
+    let two = [unit.clone(), unit];
+    let rows: [(&str, Draft, ByHand); 8] = [
+        // The first of the two that have 20; with one grain there is but one; from a
+        // level of 2 no grain need be sent.
+        (
+            "two grains come",
+            of([0, 2, 0, 9, 0, 0], &[2], &one),
+            Text("plan 1 1 6\n1 2 511 0 0\ntotal 20 2 2 7\n"),
+        ),
+        (
+            "one grain comes",
+            of([0, 2, 0, 9, 0, 0], &[1], &one),
+            Text("plan 1 1 6\n1 1 999 0 0\ntotal 20 1 1 8\n"),
+        ),
+        (
+            "one or two grains come",
+            of([0, 2, 0, 9, 0, 0], &[1, 2], &one),
+            Text("plan 1 1 6\n1 1 999 0 0\ntotal 20 1 1 8\n"),
+        ),
+        (
+            "from a level of 2",
+            of([0, 2, 0, 9, 2, 0], &[0, 1], &one),
+            Text("plan 1 1 6\n1 0 511 0 0\ntotal 20 2 0 9\n"),
+        ),
+        (
+            "256 pinned",
+            of([0, 2, 0, 9, 0, 0], &[0, 1, 2], &one).commanded(&[Pin(1, 256)]),
+            Text("plan 1 1 6\n1 1 256 0 0\ntotal 22 1 1 8\n"),
+        ),
+        (
+            "998 pinned",
+            of([0, 2, 0, 9, 0, 0], &[0, 1, 2], &one).commanded(&[Pin(1, 998)]),
+            Refused(13),
+        ),
+        // The delay, then unit 1, then unit 2, which has what is left.
+        (
+            "a delay of 1",
+            of([1, 2, 0, 9, 0, 0], &[1], &two),
+            Text("plan 2 3 12\n1 1 - 1 0\n2 1 511 0 0\n3 1 999 0 0\ntotal 40 3 3 24\n"),
+        ),
+        (
+            "a delay of 1, unit 1 pinned at 255",
+            of([1, 2, 0, 9, 0, 0], &[1], &two).commanded(&[Pin(1, 255)]),
+            Text("plan 2 3 12\n1 1 - 1 0\n2 1 255 1 0\n3 1 511 0 0\ntotal 41 3 3 24\n"),
+        ),
+    ];
+    let mut cases = Vec::new();
+    for (label, draft, by_hand) in rows {
+        cases.push(case(label, draft.bytes(), by_hand));
+    }
+    cases
 }
 
 /// What the decoder may hold just before a unit leaves: up to its size, with one
@@ -1036,7 +1192,7 @@ fn examples_group(directory: &Path) -> Result<Group, String> {
     for (path, input) in example_inputs(directory)? {
         let text_path = path.with_extension("txt");
         let text = std::fs::read_to_string(&text_path).map_err(|_| cannot_read(&text_path))?;
-        cases.push(case(path.display().to_string(), input, Filed(text)));
+        cases.push(case(path.display().to_string(), input, Made(text)));
     }
     for (name, input) in examples() {
         let there = cases
@@ -1261,18 +1417,19 @@ fn told_apart(mistakes: Mistakes, cases: &[Case]) -> Told {
 }
 
 /// The dynamic program against the enumeration, on tiny jobs and tight ones, of one
-/// bucket and of two. It also asks that the jobs be worth something: plans, jobs
+/// bucket and of two, and on units of many choices. It also asks that the jobs be worth something: plans, jobs
 /// without one, and many ties.
 fn searches_agree(new_seed: u64) -> bool {
     let (mut jobs, mut plans, mut ties) = (0, 0, 0);
     for seed in [1, 2, 3, new_seed] {
         let mut rng = Rng(seed);
-        for index in 1..=4000 {
+        for index in 1..=4100 {
             let draft = match index {
                 1..=1500 => random_job(&mut rng, &TINY),
                 1501..=2000 => random_tight_job(&mut rng, &TIGHT[0]),
                 2001..=3500 => random_tiny_double(&mut rng),
-                _ => random_double_job(&mut rng, &DOUBLE[0]),
+                3501..=4000 => random_double_job(&mut rng, &DOUBLE[0]),
+                _ => random_many_job(&mut rng, &MANY[0]),
             };
             let input = draft.bytes();
             let Ok((job, pins)) = read_input(&input) else {
@@ -1377,6 +1534,7 @@ fn run_all(path: String, new_seed: u64, example_directory: Option<&Path>) -> boo
         large_numbers_group(),
         peaks_group(),
         unused_group(),
+        thousand_group(),
         parts_group(),
         command_lists_group(),
     ];

@@ -28,11 +28,14 @@ use std::process::ExitCode;
 use std::sync::atomic::{AtomicBool, Ordering};
 use std::time::{Duration, Instant};
 
-use upload_planner::{numbers, Call, Header, PinTotals, Replayed, Violation};
+use upload_planner::{numbers, Call, Entry, Header, PinTotals, Replayed, Violation};
 
 #[allow(dead_code)]
 mod reference;
 use reference::*;
+
+/// An entry as the searches have it: the index of a rate and that of a choice.
+type Pair = reference::Entry;
 
 /// The word of a state that cannot be completed.
 const NEVER: u32 = 4_294_967_295;
@@ -202,7 +205,7 @@ impl Asked {
     /// The lengths that planning needs: answers, table, entries, values.
     fn needs(&self) -> [usize; 4] {
         let job = &self.job;
-        [self.answers.len(), job.words(), 2 * job.intervals(), plan_values(job)]
+        [self.answers.len(), job.words(), ENTRY_BYTES * job.intervals(), plan_values(job)]
     }
 
     fn typed_calls(&self) -> Vec<Call> {
@@ -239,10 +242,6 @@ fn make_call(job: &Job, pins: &mut Pins, call: &[u16]) -> u8 {
         _ => lift(pins, unit),
     };
     taken.err().unwrap_or(0)
-}
-
-fn plan_bytes(plan: &Plan) -> Vec<u8> {
-    plan.iter().flat_map(|&(rate, choice)| [rate as u8, choice as u8]).collect()
 }
 
 /// The totals of an admissible plan, step by step.
@@ -398,15 +397,20 @@ fn fast_table(job: &Job, pins: &Pins) -> Vec<u32> {
     table
 }
 
-/// Row r: the decoder's peak is r, and a unit leaves it for a row of `next`.
+/// Row r: the decoder's peak is r, and a unit leaves it for a row of `next`. Choices of
+/// one size leave it for the same row, so that the least of them stands for all.
 fn decode_layer(options: &[(usize, i64, i64)], next: &[u32], width: usize) -> Vec<u32> {
+    let mut prices: BTreeMap<usize, u32> = BTreeMap::new();
+    for &(_, grains, distortion) in options {
+        let price = prices.entry(grains as usize).or_insert(u32::MAX);
+        *price = (*price).min(distortion as u32);
+    }
     let mut decoded = vec![FAR; next.len()];
     for (peak, best) in decoded.chunks_mut(width).enumerate() {
-        for &(_, grains, distortion) in options {
-            let Some(left) = peak.checked_sub(grains as usize) else { continue };
-            let from = &next[left * width..(left + 1) * width];
+        for (&grains, &price) in prices.range(..=peak) {
+            let from = &next[(peak - grains) * width..(peak - grains + 1) * width];
             for (held, value) in best.iter_mut().zip(from) {
-                *held = (*held).min(value + distortion as u32);
+                *held = (*held).min(value + price);
             }
         }
     }
@@ -570,8 +574,9 @@ fn check_open(rng: &mut Rng, asked: &Asked) -> Checked {
     let opened = upload_planner::open(&asked.bytes).map_err(|refusal| refusal.to_string())?;
     let found = [opened.bytes, opened.units, opened.intervals, opened.table_words];
     same("typed open", due, found)?;
-    let found = (opened.buckets, opened.level_numbers());
-    same("buckets and levels of open", (job.buckets.len(), level_numbers(job)), found)
+    let found = (opened.buckets, opened.level_numbers(), opened.plan_bytes());
+    let due = (job.buckets.len(), level_numbers(job), ENTRY_BYTES * job.intervals());
+    same("buckets, levels and plan of open", due, found)
 }
 
 /// The typed functions give what the numbers give.
@@ -580,7 +585,7 @@ fn check_typed(asked: &Asked, table: &[u32], plan: &Option<Plan>) -> Checked {
     let opened = upload_planner::open(&asked.bytes).map_err(|refusal| refusal.to_string())?;
     let mut answers = vec![99; calls.len()];
     let mut words = vec![0; opened.table_words];
-    let mut entries = vec![0; 2 * opened.intervals];
+    let mut entries = vec![0; ENTRY_BYTES * opened.intervals];
     let found = upload_planner::plan(&asked.bytes, &calls, &mut answers, &mut words, &mut entries);
     let owned = upload_planner::best_plan(&asked.bytes, &calls);
     ensure!(words == table, "the typed table is another");
@@ -594,11 +599,23 @@ fn check_typed(asked: &Asked, table: &[u32], plan: &Option<Plan>) -> Checked {
     let totals = totals_of(asked, plan).map(|totals| typed_totals(&totals));
     same("typed totals", totals, Some(found))?;
     same("typed answers", &asked.answers, &answers)?;
+    let named = typed_entries(plan);
+    let bytes = named.iter().flat_map(|entry| entry.bytes()).collect();
+    same("an entry's bytes", plan_bytes(plan), bytes)?;
+    same("entries by name", named, Entry::each(&entries).collect())?;
     same("typed entries", plan_bytes(plan), entries)?;
     same("owned totals", found, owned.totals)?;
     same("owned entries", plan_bytes(plan), owned.entries)?;
     ensure!(owned.table == table, "the owned table is another");
     same("owned answers", &asked.answers, &answer_numbers(&owned.answers))
+}
+
+fn typed_entries(plan: &Plan) -> Vec<Entry> {
+    let typed = |&(rate, choice): &Pair| Entry {
+        rate: rate as u8,
+        choice: (choice != NO_CHOICE).then_some(choice as u16),
+    };
+    plan.iter().map(typed).collect()
 }
 
 /// Each job's table by trying all completions, its plan by trying all plans;
@@ -771,15 +788,19 @@ fn violated(job: &Job, violation: u64, interval: usize) -> Vec<u64> {
 }
 
 fn check_replay(rng: &mut Rng, asked: &Asked, plan: &Plan) -> Checked {
+    check_replay_of(rng, asked, plan, &plan_bytes(plan))
+}
+
+/// Replays these bytes, which are to be the plan's.
+fn check_replay_of(rng: &mut Rng, asked: &Asked, plan: &Plan, entries: &[u8]) -> Checked {
     let due = follow(&asked.job, &asked.pins, plan);
     let totals = (due.values[0] == 0).then_some(due.values[2..].to_vec());
     same("step by step", totals, totals_of(asked, plan))?;
-    let entries = plan_bytes(plan);
     let needs = [level_numbers(&asked.job), replay_values(&asked.job)];
     let [room, more] = one_short(needs, rng.from(0, 1)).expect("needed");
     let mut levels: Lent<u16> = Lent::new(rng, room);
     let mut values: Lent<u64> = Lent::new(rng, more);
-    let found = numbers::replay(&asked.bytes, &asked.calls, &entries, levels.list(), values.list());
+    let found = numbers::replay(&asked.bytes, &asked.calls, entries, levels.list(), values.list());
     same("replay, a list one short", 12, found)?;
     levels.kept("levels after 12")?;
     values.kept("values of replay after 12")?;
@@ -787,16 +808,16 @@ fn check_replay(rng: &mut Rng, asked: &Asked, plan: &Plan) -> Checked {
     let [room, more] = needs.map(|need| need + slack(rng));
     let mut levels = Lent::new(rng, room);
     let mut values = Lent::new(rng, more);
-    let found = numbers::replay(&asked.bytes, &asked.calls, &entries, levels.list(), values.list());
+    let found = numbers::replay(&asked.bytes, &asked.calls, entries, levels.list(), values.list());
     same("replay", 0, found)?;
     values.wrote("values of replay", &due.values)?;
     levels.wrote("levels", &due.levels)?;
     check_balance(&asked.job, values.list(), levels.list())?;
     let mut levels = vec![0; needs[0]];
     let calls = asked.typed_calls();
-    let typed = upload_planner::replay(&asked.bytes, &calls, &entries, &mut levels);
+    let typed = upload_planner::replay(&asked.bytes, &calls, entries, &mut levels);
     same("typed replay", Ok(typed_replay(&due.values)), typed)?;
-    let owned = upload_planner::replayed(&asked.bytes, &calls, &entries);
+    let owned = upload_planner::replayed(&asked.bytes, &calls, entries);
     let levels = typed_levels(&asked.job, &due.levels);
     same("owned replay", Ok((levels, typed_replay(&due.values))), owned)
 }
@@ -859,7 +880,7 @@ fn check_report(rng: &mut Rng, asked: &Asked, plan: &Plan) -> Checked {
     sums.wrote("sums", &due)
 }
 
-fn random_entry(rng: &mut Rng, job: &Job, t: usize) -> Entry {
+fn random_entry(rng: &mut Rng, job: &Job, t: usize) -> Pair {
     let choice = if t > job.delay { rng.from(0, job.choices() - 1) } else { NO_CHOICE };
     (rng.from(0, job.rates.len() - 1), choice)
 }
@@ -956,36 +977,45 @@ fn replay_jobs(
 
 /// The plan with one thing wrong in its shape: 14, and nothing is written.
 fn check_misshapen(rng: &mut Rng, asked: &Asked, plan: &Plan) -> Checked {
-    let (entries, how) = misshapen(rng, &asked.job, plan_bytes(plan));
-    let mut levels = Lent::new(rng, level_numbers(&asked.job));
-    let mut values = Lent::new(rng, replay_values(&asked.job));
-    let mut sums = Lent::new(rng, asked.job.units.len() + 1);
-    let found = numbers::replay(&asked.bytes, &asked.calls, &entries, levels.list(), values.list());
-    same(&format!("replay, {how}"), 14, found)?;
+    let (entries, how) = misshapen(rng, &asked.job, plan);
+    check_no_plan(rng, asked, &entries).map_err(|trouble| format!("{how}: {trouble}"))
+}
+
+/// Bytes that are no plan of the job.
+fn check_no_plan(rng: &mut Rng, asked: &Asked, entries: &[u8]) -> Checked {
+    let mut levels = Lent::<u16>::new(rng, level_numbers(&asked.job));
+    let mut values = Lent::<u64>::new(rng, replay_values(&asked.job));
+    let mut sums = Lent::<u32>::new(rng, asked.job.units.len() + 1);
+    let found = numbers::replay(&asked.bytes, &asked.calls, entries, levels.list(), values.list());
+    same("replay", 14, found)?;
     levels.kept("levels after 14")?;
     values.kept("values after 14")?;
-    let found = numbers::report(&asked.bytes, &entries, sums.list());
-    same(&format!("report, {how}"), 14, found)?;
+    same("report", 14, numbers::report(&asked.bytes, entries, sums.list()))?;
     sums.kept("sums after 14")
 }
 
-fn misshapen(rng: &mut Rng, job: &Job, mut entries: Vec<u8>) -> (Vec<u8>, &'static str) {
+fn misshapen(rng: &mut Rng, job: &Job, plan: &Plan) -> (Vec<u8>, &'static str) {
+    let mut entries = plan_bytes(plan);
     let t = rng.from(0, job.intervals() - 1);
-    let how = match rng.from(0, 7) {
+    let mut put = |t: usize, choice: usize| {
+        let choice = (choice as u16).to_le_bytes();
+        entries[ENTRY_BYTES * t + 1..ENTRY_BYTES * (t + 1)].copy_from_slice(&choice);
+    };
+    let how = match rng.from(0, 9) {
         0 => {
-            entries.pop();
-            "a byte short"
+            entries.truncate(entries.len() - rng.from(1, 2));
+            "a byte or two short"
         }
         1 => {
-            entries.truncate(entries.len() - 2);
+            entries.truncate(entries.len() - ENTRY_BYTES);
             "an entry short"
         }
         2 => {
-            entries.push(0);
-            "a byte more"
+            entries.extend([0, 0].iter().take(rng.from(1, 2)));
+            "a byte or two more"
         }
         3 => {
-            entries.extend_from_slice(&[0, 0]);
+            entries.extend([0; ENTRY_BYTES]);
             "an entry more"
         }
         4 => {
@@ -993,20 +1023,29 @@ fn misshapen(rng: &mut Rng, job: &Job, mut entries: Vec<u8>) -> (Vec<u8>, &'stat
             "no entries"
         }
         5 => {
-            entries[2 * t] = rng.from(job.rates.len(), 255) as u8;
-            "a rate out of range"
-        }
-        6 if t < job.delay => {
-            entries[2 * t + 1] = rng.from(0, 254) as u8;
-            "a choice before the first unit"
+            entries = former_bytes(plan);
+            "two bytes an entry"
         }
         6 => {
-            entries[2 * t + 1] = rng.from(job.choices(), 255) as u8;
+            entries[ENTRY_BYTES * t] = rng.from(job.rates.len(), 255) as u8;
+            "a rate out of range"
+        }
+        7 if t < job.delay => {
+            put(t, rng.pick(&[0, 255, 256, 999, 0xff00, NO_CHOICE - 1]));
+            "a choice before the first unit"
+        }
+        7 => {
+            // The lower byte of the first is a choice's.
+            let near = plan[t].1 + 256 * rng.from(4, 250);
+            put(t, rng.pick(&[near, job.choices(), MOST_CHOICES, NO_CHOICE - 1]));
             "a choice out of range"
         }
+        8 => {
+            put(t, if t < job.delay { rng.from(0, NO_CHOICE - 1) } else { NO_CHOICE });
+            "the mark in the wrong place"
+        }
         _ => {
-            let last = entries.len() - 1;
-            entries[last] = 255;
+            put(job.intervals() - 1, NO_CHOICE);
             "no choice for the last unit"
         }
     };
@@ -1293,6 +1332,8 @@ fn tight_group(seed: u64, asks: bool) -> Result<String, String> {
 /// Jobs of three sizes that tell a rule from mistaken ones.
 struct TellingJobs {
     shapes: &'static [Shape; 3],
+    /// How many of each size.
+    jobs: [usize; 3],
     make: fn(&mut Rng, &Shape) -> Draft,
     /// For each size.
     mistakes: [&'static [Mistakes]; 3],
@@ -1303,6 +1344,7 @@ struct TellingJobs {
 
 const TIGHT_JOBS: TellingJobs = TellingJobs {
     shapes: &TIGHT,
+    jobs: [600, 120, 20],
     make: random_tight_job,
     mistakes: [&[decoder_mistakes]; 3],
     bold: 0,
@@ -1341,7 +1383,7 @@ fn telling_jobs(
 ) -> Result<Telling, String> {
     let mut rng = Rng(seed);
     let (mut plans, mut told) = (0, Told::default());
-    let counts = [scaled(600), scaled(120), scaled(20)];
+    let counts = of.jobs.map(scaled);
     let jobs: usize = counts.iter().sum();
     for index in 1..=jobs {
         let shape = (index > counts[0]) as usize + (index > counts[0] + counts[1]) as usize;
@@ -1506,8 +1548,10 @@ fn second_group() -> Result<String, String> {
     let mut rng = Rng(1);
     let a = job_a();
     // Each line: the second bucket, the pins, what planning gives.
-    let (same_plan, other, coarse) = (BEST_A, [1, 255, 1, 0, 1, 1], [0, 255, 1, 1, 1, 1]);
-    let rows: [([u16; 3], &[Command], Option<([u8; 6], [u64; 5])>); 15] = [
+    let same_plan = BEST_A;
+    let other = [1, 255, 255, 1, 0, 0, 1, 1, 0];
+    let coarse = [0, 255, 255, 1, 1, 0, 1, 1, 0];
+    let rows: [([u16; 3], &[Command], Option<([u8; 9], [u64; 5])>); 15] = [
         // No rate is over 4, so the bucket stays empty; or it never fills.
         ([63, 4, 0], &[], Some((same_plan, [50, 6, 6, 2, 6]))),
         ([0, 4, 0], &[], Some((same_plan, [50, 6, 6, 2, 6]))),
@@ -1563,7 +1607,7 @@ fn second_group() -> Result<String, String> {
 fn check_second_replays(rng: &mut Rng) -> Checked {
     let best = [(0, NO_CHOICE), (2, 0), (1, 1)];
     let early = [(1, NO_CHOICE), (2, 1), (1, 1)];
-    let rows: [([[u16; 3]; 2], [Entry; 3], &[u16], &[u64]); 12] = [
+    let rows: [([[u16; 3]; 2], [Pair; 3], &[u16], &[u64]); 12] = [
         ([[3, 2, 0], [63, 4, 0]], best, &[0, 0, 0, 0, 2, 0, 0, 2, 0], &[0, 0, 50, 6, 6, 2, 6]),
         ([[3, 2, 0], [63, 1, 9]], best, &[0, 0, 8, 0, 2, 11, 0, 2, 12], &[0, 0, 50, 6, 6, 2, 0]),
         // The second is over, the first is not, and just holds.
@@ -1613,17 +1657,17 @@ fn check_second_sizes(rng: &mut Rng) -> Checked {
     for (draft, due) in [
         (job_a().doubled([63, 4, 0]), [70, 2, 3, 5120]),
         (job_a().doubled([0, 0, 0]), [70, 2, 3, 80]),
-        (largest.clone(), [97_338, 512, 576, 37_814_272]),
-        (largest.doubled([0, 4095, 0]), [97_344, 512, 576, 37_814_272]),
-        (largest.doubled([1, 4095, 1]), [97_344, 512, 576, 75_628_544]),
-        (largest.doubled([63, 4095, 63]), [97_344, 512, 576, 2_420_113_408]),
+        (largest.clone(), [3_074_106, 512, 576, 37_814_272]),
+        (largest.doubled([0, 4095, 0]), [3_074_112, 512, 576, 37_814_272]),
+        (largest.doubled([1, 4095, 1]), [3_074_112, 512, 576, 75_628_544]),
+        (largest.doubled([63, 4095, 63]), [3_074_112, 512, 576, 2_420_113_408]),
     ] {
         let asked = Asked::new(rng, &draft);
         let mut values = Lent::new(rng, 4);
         same("open", 0, numbers::open(&asked.bytes, values.list()))?;
         values.wrote("values of open", &due)?;
         check_open(rng, &asked)?;
-        let mut lent = PlanLists::new(rng, [0, 79, 2 * asked.intervals(), 5]);
+        let mut lent = PlanLists::new(rng, [0, 79, ENTRY_BYTES * asked.intervals(), 5]);
         same("a table of 79", 11, lent.plan(&asked.bytes, &[]))?;
         lent.kept()?;
     }
@@ -1655,6 +1699,7 @@ fn layout_mistakes(job: &Job, pins: &Pins, _: Option<&Plan>) -> Vec<(&'static st
 
 const DOUBLE_JOBS: TellingJobs = TellingJobs {
     shapes: &DOUBLE,
+    jobs: TIGHT_JOBS.jobs,
     make: random_double_job,
     mistakes: [
         &[second_mistakes, layout_mistakes],
@@ -1770,6 +1815,706 @@ fn check_lines(rng: &mut Rng, draft: &Draft, asked: &Asked) -> Result<[PlannedNu
 }
 
 // ---------------------------------------------------------------------------
+// Many choices.
+// ---------------------------------------------------------------------------
+
+/// The two bytes of a choice, worked out by hand: its lower one first.
+fn two_bytes(choice: usize) -> [u8; 2] {
+    [(choice % 256) as u8, (choice / 256) as u8]
+}
+
+/// Choices past 31 and past what a byte counts: made best, equal, pinned and lifted,
+/// and entries of them.
+fn thousand_group() -> Result<String, String> {
+    let mut rng = Rng(1);
+    let mut jobs = 0;
+    for choice in EDGES {
+        for (choices, delay) in [(choice + 1, 1), (MOST_CHOICES, 0)] {
+            let what = format!("{choice} of {choices}, delay {delay}");
+            let draft = chosen_among(choices, &[choice]).with(DELAY, delay);
+            check_chosen(&mut rng, &draft, choice, 5).map_err(|t| format!("{what}: {t}"))?;
+            // Where all are equal, the pinned one; lifted again, the first.
+            let pin = [Pin(1, choice as u16), Lift(1)];
+            let even = chosen_among(choices, &[]).with(DELAY, delay);
+            for (made, due) in [(&pin[..1], choice), (&pin[..], 0)] {
+                let draft = even.commanded(made);
+                check_chosen(&mut rng, &draft, due, 9)
+                    .map_err(|trouble| format!("{what}, {} calls: {trouble}", made.len()))?;
+            }
+            jobs += 3;
+        }
+        for other in EDGES.into_iter().filter(|other| *other > choice) {
+            let what = format!("{choice} and {other} are equal");
+            let draft = chosen_among(MOST_CHOICES, &[choice, other]);
+            check_chosen(&mut rng, &draft, choice, 5).map_err(|t| format!("{what}: {t}"))?;
+            let draft = draft.commanded(&[Pin(1, other as u16)]);
+            check_chosen(&mut rng, &draft, other, 5)
+                .map_err(|trouble| format!("{what}, the second pinned: {trouble}"))?;
+            jobs += 2;
+        }
+    }
+    check_pins_of_many(&mut rng)?;
+    let entries = check_entries_of_many(&mut rng)?;
+    // Two units, and every plan of theirs is tried.
+    for (choices, places) in [(300, [255, 299]), (MOST_CHOICES, [999, 256])] {
+        let mut units = vec![vec![(2, 9); choices]; 2];
+        (units[0][places[0]], units[1][places[1]]) = ((2, 3), (1, 4));
+        let draft = Draft::new([0, 2, 2, 1, 0, 0], &[2], &units);
+        let asked = Asked::new(&mut rng, &draft);
+        let all = enumerate(&asked.job, &asked.pins).best;
+        same("two units", Some(vec![(0, places[0]), (0, places[1])]), all.clone())?;
+        check_plan(&mut rng, &asked, &fast_table(&asked.job, &asked.pins), &all)?;
+        jobs += 1;
+    }
+    Ok(format!("{jobs} jobs by hand, {entries} plans"))
+}
+
+/// `chosen_among`, of which this choice is to be made, at this distortion. A unit's
+/// interval sends 2 and takes 2; the one before it, if there is one, sends nothing.
+fn check_chosen(rng: &mut Rng, draft: &Draft, choice: usize, distortion: u64) -> Checked {
+    let asked = Asked::new(rng, draft);
+    let delay = asked.job.delay;
+    let [low, high] = two_bytes(choice);
+    let mut entries = vec![[0, 255, 255]; delay];
+    entries.push([1, low, high]);
+    let mut lent = PlanLists::new(rng, asked.needs().map(|need| need + 4));
+    same("plan", 0, lent.plan(&asked.bytes, &asked.calls))?;
+    lent.entries.wrote("entries by hand", &entries.concat())?;
+    let unused = 4095 * delay as u64 + 4093;
+    lent.values.wrote("values by hand", &[distortion, 2, 2, unused])?;
+    let table = brute_table(&asked.job, &asked.pins);
+    let best = enumerate(&asked.job, &asked.pins).best;
+    same("all plans", entries.concat(), best.as_ref().map_or(vec![], plan_bytes))?;
+    check_plan(rng, &asked, &table, &best)?;
+    check_typed(&asked, &table, &best)
+}
+
+/// What calls meet with in a job of 300 choices and one of 1,000: choice c takes c / 100
+/// grains at a distortion of 2 c.
+fn check_pins_of_many(rng: &mut Rng) -> Checked {
+    let rows: [(usize, &[[u16; 3]], &[u8], [u64; 3]); 14] = [
+        (300, &[[6, 1, 254]], &[0], [1, 2, 508]),
+        (300, &[[6, 1, 255]], &[0], [1, 2, 510]),
+        (300, &[[6, 1, 256]], &[0], [1, 2, 512]),
+        (300, &[[6, 1, 299], [6, 2, 44]], &[0, 0], [2, 2, 686]),
+        // 255 is a pin: it is there a second time, and can be lifted once.
+        (300, &[[6, 1, 255], [6, 1, 255]], &[0, 9], [1, 2, 510]),
+        (300, &[[6, 1, 255], [7, 1, 0], [7, 1, 0]], &[0, 0, 10], [0; 3]),
+        (300, &[[6, 1, 255], [7, 1, 255], [6, 1, 256]], &[0, 0, 0], [1, 2, 512]),
+        // Of these the lower byte is a choice; the last are near the mark, or it.
+        (300, &[[6, 1, 300], [6, 1, 512], [6, 1, 555]], &[8, 8, 8], [0; 3]),
+        (300, &[[6, 1, 0xff00], [6, 1, 0xff2b]], &[8, 8], [0; 3]),
+        (300, &[[6, 1, 65_534], [6, 1, 65_535]], &[8, 8], [0; 3]),
+        (300, &[[6, 1, 255], [6, 1, 65_535], [7, 1, 0]], &[0, 8, 0], [0; 3]),
+        (1000, &[[6, 1, 999], [6, 2, 256]], &[0, 0], [2, 11, 2510]),
+        (1000, &[[6, 1, 1000], [6, 2, 65_535]], &[8, 8], [0; 3]),
+        (1000, &[[6, 1, 999], [6, 1, 231], [7, 1, 0]], &[0, 9, 0], [0; 3]),
+    ];
+    for (choices, calls, answers, totals) in rows {
+        let unit: Vec<(u16, u32)> =
+            (0..choices).map(|choice| ((choice / 100) as u16, 2 * choice as u32)).collect();
+        let draft = Draft::new([0; 6], &[0], &[unit.clone(), unit]);
+        check_totals(rng, &draft, calls, answers, totals)
+            .map_err(|trouble| format!("{choices} choices, calls {calls:?}: {trouble}"))?;
+    }
+    Ok(())
+}
+
+/// Plans of a job of 300 choices with a delay of 1, in which 255 has a distortion of 5
+/// and all others have 9. Gives the number of plans.
+fn check_entries_of_many(rng: &mut Rng) -> Result<usize, String> {
+    const REFUSED: u64 = 0;
+    let draft = chosen_among(300, &[255]).with(DELAY, 1);
+    // Each line: a plan, and its distortion or `REFUSED`.
+    let rows: [(&[u8], u64); 29] = [
+        (&[0, 255, 255, 1, 255, 0], 5),
+        (&[0, 255, 255, 1, 254, 0], 9),
+        (&[0, 255, 255, 1, 0, 1], 9),
+        (&[0, 255, 255, 1, 43, 1], 9),
+        (&[0, 255, 255, 1, 0, 0], 9),
+        // 300, 512, 767, 65,280, 65,534 and the mark.
+        (&[0, 255, 255, 1, 44, 1], REFUSED),
+        (&[0, 255, 255, 1, 0, 2], REFUSED),
+        (&[0, 255, 255, 1, 255, 2], REFUSED),
+        (&[0, 255, 255, 1, 0, 255], REFUSED),
+        (&[0, 255, 255, 1, 254, 255], REFUSED),
+        (&[0, 255, 255, 1, 255, 255], REFUSED),
+        // In the delay only the mark: not the former one, not half of it.
+        (&[0, 255, 0, 1, 255, 0], REFUSED),
+        (&[0, 0, 255, 1, 255, 0], REFUSED),
+        (&[0, 254, 255, 1, 255, 0], REFUSED),
+        (&[0, 255, 254, 1, 255, 0], REFUSED),
+        (&[0, 0, 0, 1, 255, 0], REFUSED),
+        (&[0, 1, 0, 1, 255, 0], REFUSED),
+        // Rates.
+        (&[2, 255, 255, 1, 255, 0], REFUSED),
+        (&[0, 255, 255, 2, 255, 0], REFUSED),
+        (&[255, 255, 255, 1, 255, 0], REFUSED),
+        (&[0, 255, 255, 255, 255, 0], REFUSED),
+        // A byte, two and three short or more, and two bytes an entry.
+        (&[0, 255, 255, 1, 255], REFUSED),
+        (&[0, 255, 255, 1], REFUSED),
+        (&[0, 255, 255], REFUSED),
+        (&[], REFUSED),
+        (&[0, 255, 255, 1, 255, 0, 0], REFUSED),
+        (&[0, 255, 255, 1, 255, 0, 0, 0], REFUSED),
+        (&[0, 255, 255, 1, 255, 0, 1, 255, 0], REFUSED),
+        (&[0, 255, 1, 255], REFUSED),
+    ];
+    for (entries, distortion) in rows {
+        let what = format!("entries {entries:?}");
+        let asked = Asked::new(rng, &draft);
+        let mut check = || -> Checked {
+            match read_plan(&asked.job, entries) {
+                Ok(plan) => {
+                    let totals = totals_of(&asked, &plan).ok_or("not admissible")?;
+                    same("distortion by hand", distortion, totals[0])?;
+                    check_replay_of(rng, &asked, &plan, entries)?;
+                    check_report(rng, &asked, &plan)
+                }
+                Err(number) => {
+                    same("by hand", (REFUSED, 14), (distortion, number))?;
+                    check_no_plan(rng, &asked, entries)
+                }
+            }
+        };
+        check().map_err(|trouble| format!("{what}: {trouble}"))?;
+    }
+    // A pin is held by its own choice alone, not by one with the same lower byte.
+    for (pinned, chosen) in [(255, 511), (0, 256), (256, 0), (999, 231), (231, 999), (999, 999)] {
+        let draft = chosen_among(MOST_CHOICES, &[]).commanded(&[Pin(1, pinned as u16)]);
+        let asked = Asked::new(rng, &draft);
+        let plan = vec![(1, chosen)];
+        let due = if pinned == chosen { 0 } else { NOT_HELD };
+        same("held by hand", due, follow(&asked.job, &asked.pins, &plan).values[0])?;
+        check_replay(rng, &asked, &plan)
+            .map_err(|trouble| format!("{pinned} pinned, {chosen} chosen: {trouble}"))?;
+    }
+    Ok(rows.len() + 6)
+}
+
+/// Every number that two bytes can hold as a choice: in an entry, in the delay, and in a
+/// pin. Then every choice as the best one.
+fn every_choice_group() -> Result<String, String> {
+    let mut rng = Rng(1);
+    let mut asked_of = 0;
+    for choices in [1, 2, 31, 32, 255, 256, 257, 300, MOST_CHOICES] {
+        // Every choice can be had without a grain sent, and has its own distortion.
+        let unit: Vec<(u16, u32)> =
+            (0..choices).map(|choice| (choice as u16 % 3, 100 + 7 * choice as u32)).collect();
+        let draft = Draft::new([0, 2, 0, 9, 2, 0], &[0, 2], &[unit]);
+        let asked = [0, 1].map(|delay| Asked::new(&mut rng, &draft.with(DELAY, delay)));
+        // All of them; or those near the choices and near the mark, and some others.
+        let [near, step] = match (small(), choices) {
+            (true, _) => [64, 2111],
+            (false, MOST_CHOICES) => [2048, 7],
+            _ => [0, 1],
+        };
+        let numbers = (0..near).chain(EDGES).chain((near..65_536).step_by(step));
+        for number in numbers.chain(65_536 - near..65_536) {
+            check_number(&asked, number)
+                .map_err(|trouble| format!("{choices} choices, {number}: {trouble}"))?;
+            asked_of += 1;
+        }
+    }
+    let mut plans = 0;
+    for choices in [31, 32, 255, 256, 257, MOST_CHOICES] {
+        let job = chosen_among(choices, &[]).bytes();
+        for choice in (0..choices).step_by(if small() { 101 } else { 1 }) {
+            // The first distortion stands behind the header, the rates, the unit's head
+            // and a size: 22 + 8 + 4 + 2.
+            let job = patched(&job, 36 + 6 * choice, &5_u32.to_le_bytes());
+            let (mut table, mut entries, mut values) = ([7; 8], [7; 3], [7; 4]);
+            let found = numbers::plan(&job, &[], &mut [], &mut table, &mut entries, &mut values);
+            let [low, high] = two_bytes(choice);
+            let what = format!("{choice} of {choices} is best");
+            same(&what, (0, [1, low, high], [5, 2, 2, 4093]), (found, entries, values))?;
+            plans += 1;
+        }
+    }
+    Ok(format!("{asked_of} numbers, {plans} plans"))
+}
+
+/// The number as a choice of the job without a delay and as what that with one has in its
+/// delay.
+fn check_number([asked, waiting]: &[Asked; 2], number: usize) -> Checked {
+    let codings = &asked.job.units[0];
+    let due = codings.get(number).map(|choice| [choice.grains, choice.distortion]);
+    let [low, high] = two_bytes(number);
+    let (mut levels, mut values) = ([7; 2], [7; 6]);
+    let found = numbers::replay(&asked.bytes, &[], &[0, low, high], &mut levels, &mut values);
+    let due_values = due.map(|[grains, distortion]| [0, 0, distortion as u64, grains as u64, 0, 9]);
+    let refused = |held: bool, number| if held { 0 } else { number };
+    same("replay", refused(due.is_some(), 14), found)?;
+    same("values of replay", due_values.unwrap_or([7; 6]), values)?;
+    same("levels", due.map_or([7; 2], |[grains, _]| [2 - grains as u16, 0]), levels)?;
+    let mut sums = [7; 2];
+    let found = numbers::report(&asked.bytes, &[0, low, high], &mut sums);
+    same("report", refused(due.is_some(), 14), found)?;
+
+    let (mut answers, mut values) = ([7], [7; 3]);
+    let found = numbers::calls(&asked.bytes, &[6, 1, number as u16], &mut answers, &mut values);
+    same("calls", 0, found)?;
+    let pinned = due.map(|[grains, distortion]| [1, grains as u64, distortion as u64]);
+    same("answer", refused(due.is_some(), 8) as u8, answers[0])?;
+    same("pins", pinned.unwrap_or([0; 3]), values)?;
+
+    let (mut levels, mut values) = ([7; 4], [7; 6]);
+    let entries = [0, low, high, 0, 0, 0];
+    let found = numbers::replay(&waiting.bytes, &[], &entries, &mut levels, &mut values);
+    same("replay in the delay", refused(number == NO_CHOICE, 14), found)
+}
+
+const MANY_JOBS: TellingJobs = TellingJobs {
+    shapes: &MANY,
+    jobs: [240, 90, 9],
+    make: random_many_job,
+    mistakes: [&[choice_mistakes]; 3],
+    bold: 8,
+};
+
+/// Jobs of up to 1,000 choices, and plans of them with choices past a byte's range.
+fn many_group(seed: u64, asks: bool) -> Result<String, String> {
+    let (mut clean, mut high) = (0, 0);
+    let see = |asked: &Asked, plan: &Plan| {
+        if totals_of(asked, plan).is_some() {
+            clean += 1;
+            high += plan[asked.job.delay..].iter().any(|entry| entry.1 > 255) as usize;
+        }
+    };
+    let telling = telling_jobs(seed, &MANY_JOBS, see)?;
+    let text = format!("{}: {clean} clean, of which {high} have a choice over 255", telling.show());
+    ensure!(telling.worthwhile(&[clean, high]) || !asks, "too little in it: {text}");
+    Ok(text)
+}
+
+/// Jobs of few choices or many, whose plans the next groups harm.
+fn random_planned_job(rng: &mut Rng) -> Draft {
+    match rng.from(1, 6) {
+        1 => random_many_job(rng, &MANY[0]),
+        2 => random_tiny_double(rng),
+        // As many choices as plans of two bytes had, or one more.
+        3 => {
+            let units = rng.from(1, 3);
+            let choices = rng.from(31, 32);
+            let units: Vec<Vec<(u16, u32)>> = (0..units)
+                .map(|_| (0..choices).map(|_| (rng.from(0, 3) as u16, 1)).collect())
+                .collect();
+            let delay = rng.from(0, 2) as u16;
+            Draft::new([delay, 9, 9, 2, 0, 0], &[0, 1, 2], &units)
+        }
+        _ => random_job(rng, &TINY),
+    }
+}
+
+/// Changes something in a plan's bytes, mostly in a choice of so many, where an entry has
+/// so many bytes.
+fn harm_plan(rng: &mut Rng, entries: &mut Vec<u8>, choices: usize, each: usize) {
+    if entries.len() < each || rng.one_in(4) {
+        return harm(rng, entries);
+    }
+    let at = each * rng.from(0, entries.len() / each - 1);
+    let number = match rng.from(1, 4) {
+        1 => 65_535 - rng.pick(&[0, 0, 1, 255, 256]),
+        2 => rng.pick(&[0, 30, 31, 32, 254, 255, 256, 257, 299, 512, 999, 1000, 1023, 65_279]),
+        _ => rng.from(0, choices - 1),
+    };
+    let choice = two_bytes(number);
+    entries[at + 1..at + each].copy_from_slice(&choice[..each - 1]);
+    if rng.one_in(8) {
+        entries[at] = rng.pick(&[0, 1, 2, 3, 15, 16, 255]);
+    }
+}
+
+/// Plans with harmed bytes: they are replayed and reported as what they have become, or
+/// are no plan.
+fn harmed_plans_group(seed: u64, asks: bool) -> Result<String, String> {
+    let mut rng = Rng(seed);
+    let (mut plans, mut clean, mut others) = (0, 0, 0);
+    let inputs = scaled(20_000);
+    for index in 1..=inputs {
+        let draft = random_planned_job(&mut rng);
+        let asked = Asked::new(&mut rng, &draft);
+        let plan = random_plan(&mut rng, &asked.job, &asked.pins);
+        let mut entries = plan_bytes(&plan);
+        for _ in 0..rng.pick(&[1, 1, 1, 2, 3]) {
+            harm_plan(&mut rng, &mut entries, asked.job.choices(), ENTRY_BYTES);
+        }
+        entries.shrink_to_fit();
+        let mut check = || -> Checked {
+            let Ok(read) = read_plan(&asked.job, &entries) else {
+                return check_no_plan(&mut rng, &asked, &entries);
+            };
+            plans += 1;
+            others += (read != plan) as usize;
+            clean += totals_of(&asked, &read).is_some() as usize;
+            check_replay_of(&mut rng, &asked, &read, &entries)?;
+            check_report(&mut rng, &asked, &read)
+        };
+        let named = |trouble: String| format!("{trouble}\n  entries {}", hex(&entries));
+        check().map_err(named).map_err(|trouble| failed(seed, index, &trouble, &asked))?;
+    }
+    let counts = format!("{inputs} inputs: {plans} plans, {others} other ones, {clean} clean");
+    let worthwhile = plans * 10 > inputs && others * 10 > inputs && clean * 50 > inputs;
+    ensure!(worthwhile && plans * 4 < inputs * 3 || !asks, "too little in it: {counts}");
+    Ok(counts)
+}
+
+// ---------------------------------------------------------------------------
+// Stored plans of two bytes an interval.
+// ---------------------------------------------------------------------------
+
+/// Has a stored plan turned, to a list of this length, and compares all that it holds
+/// afterwards. Gives the number due.
+fn check_turn(rng: &mut Rng, asked: &Asked, old: &[u8], room: usize) -> Result<Refusal, String> {
+    let due = turn(&asked.job, old, room);
+    let number = due.as_ref().err().copied().unwrap_or(0);
+    let mut entries = Lent::new(rng, room);
+    same("turn", number as u32, numbers::turn(&asked.bytes, old, entries.list()))?;
+    let written = due.unwrap_or_default();
+    entries.wrote("entries of turning", &written)?;
+
+    let mut entries = Lent::new(rng, room);
+    let found = upload_planner::turn(&asked.bytes, old, entries.list());
+    let typed = if number > 0 { Err(number as u32) } else { Ok(()) };
+    same("typed turning", typed, found.map_err(|refusal| refusal.number()))?;
+    entries.wrote("entries of typed turning", &written)?;
+    Ok(number)
+}
+
+/// The same to lists that are just enough, somewhat more, and too short; and of what was a
+/// plan, that the entries are replayed under the calls as it was. Gives the plan, if there
+/// was one.
+fn check_turned(rng: &mut Rng, asked: &Asked, old: &[u8]) -> Result<Option<Plan>, String> {
+    let plan = read_former(&asked.job, old).ok();
+    let need = ENTRY_BYTES * asked.intervals();
+    let [was, short] = if plan.is_some() { [0, 12] } else { [14, 14] };
+    let more = rng.from(1, 9);
+    for (room, due) in [(need, was), (need + more, was), (need - 1, short)] {
+        let found = check_turn(rng, asked, old, room)?;
+        same(&format!("number for {room} bytes"), due, found)?;
+    }
+    let less = rng.from(0, need - 1);
+    same("number for fewer bytes", short, check_turn(rng, asked, old, less)?)?;
+    let owned = upload_planner::turned(&asked.bytes, old).map_err(|refusal| refusal.number());
+    let Some(plan) = plan else {
+        same("owned turning", Err(14), owned)?;
+        return Ok(None);
+    };
+    let entries = owned.map_err(|number| format!("owned turning: {number}"))?;
+    same("entries by name", typed_entries(&plan), Entry::each(&entries).collect())?;
+    check_replay_of(rng, asked, &plan, &entries)?;
+    Ok(Some(plan))
+}
+
+/// Plans turned, and bytes that were no plan, by hand.
+fn turning_group() -> Result<String, String> {
+    let mut rng = Rng(1);
+    let a = job_a();
+    let double = a.doubled(SECOND_A);
+    let no_delay = a.with(DELAY, 0);
+    // As many rates and choices as a plan of two bytes had; one choice more; more yet.
+    let of = |choices: usize| {
+        let unit = (0..choices).map(|choice| (choice as u16 % 3, choice as u32)).collect();
+        let rates: Vec<u16> = (0..16).collect();
+        Draft::new([1, 9, 9, 9, 0, 0], &rates, &[unit])
+    };
+    const NONE: &[u8] = &[];
+    // Each line: the job, what was stored, and what it is turned into or `NONE`.
+    let rows: [(&Draft, &[u8], &[u8]); 46] = [
+        // The best plan; that of 42 from document 01, which the decoder does not hold any
+        // more; plans with other violations. Turning asks for none of it.
+        (&a, &[0, 255, 2, 0, 1, 1], &[0, 255, 255, 2, 0, 0, 1, 1, 0]),
+        (&a, &[1, 255, 1, 1, 2, 0], &[1, 255, 255, 1, 1, 0, 2, 0, 0]),
+        (&a, &[2, 255, 2, 1, 0, 0], &[2, 255, 255, 2, 1, 0, 0, 0, 0]),
+        (&a, &[0, 255, 0, 1, 0, 1], &[0, 255, 255, 0, 1, 0, 0, 1, 0]),
+        (&a, &[2, 255, 0, 0, 0, 0], &[2, 255, 255, 0, 0, 0, 0, 0, 0]),
+        (&double, &[0, 255, 2, 0, 1, 1], &[0, 255, 255, 2, 0, 0, 1, 1, 0]),
+        (&no_delay, &[0, 0, 2, 1], &[0, 0, 0, 2, 1, 0]),
+        (&no_delay, &[2, 1, 1, 0], &[2, 1, 0, 1, 0, 0]),
+        // Lengths; three bytes an entry are none of the former shape.
+        (&a, &[], NONE),
+        (&a, &[0, 255, 2, 0, 1], NONE),
+        (&a, &[0, 255, 2, 0], NONE),
+        (&a, &[0, 255], NONE),
+        (&a, &[0, 255, 2, 0, 1, 1, 1], NONE),
+        (&a, &[0, 255, 2, 0, 1, 1, 1, 1], NONE),
+        (&a, &[0, 255, 255, 2, 0, 0, 1, 1, 0], NONE),
+        (&a, &[0, 255, 0, 255, 2, 0, 1, 1], NONE),
+        (&no_delay, &[0, 0, 2, 1, 0, 1], NONE),
+        // Rates.
+        (&a, &[3, 255, 2, 0, 1, 1], NONE),
+        (&a, &[0, 255, 3, 0, 1, 1], NONE),
+        (&a, &[0, 255, 2, 0, 3, 1], NONE),
+        (&a, &[255, 255, 2, 0, 1, 1], NONE),
+        (&a, &[0, 255, 2, 0, 255, 1], NONE),
+        // Choices in the delay.
+        (&a, &[0, 0, 2, 0, 1, 1], NONE),
+        (&a, &[0, 1, 2, 0, 1, 1], NONE),
+        (&a, &[0, 254, 2, 0, 1, 1], NONE),
+        // Choices out of range, and no choice, behind it.
+        (&a, &[0, 255, 2, 2, 1, 1], NONE),
+        (&a, &[0, 255, 2, 0, 1, 2], NONE),
+        (&a, &[0, 255, 2, 255, 1, 1], NONE),
+        (&a, &[0, 255, 2, 0, 1, 255], NONE),
+        (&a, &[0, 255, 2, 254, 1, 1], NONE),
+        (&a, &[255, 0, 0, 2, 1, 1], NONE),
+        (&no_delay, &[0, 255, 2, 1], NONE),
+        (&no_delay, &[0, 0, 2, 255], NONE),
+        // The ends of the ranges.
+        (&of(31), &[15, 255, 15, 30], &[15, 255, 255, 15, 30, 0]),
+        (&of(31), &[0, 255, 0, 0], &[0, 255, 255, 0, 0, 0]),
+        (&of(31), &[0, 255, 16, 30], NONE),
+        (&of(31), &[16, 255, 0, 30], NONE),
+        (&of(31), &[0, 255, 0, 31], NONE),
+        (&of(1), &[7, 255, 8, 0], &[7, 255, 255, 8, 0, 0]),
+        (&of(1), &[7, 255, 8, 1], NONE),
+        // Jobs that had no such plan.
+        (&of(32), &[0, 255, 0, 0], NONE),
+        (&of(32), &[15, 255, 15, 31], NONE),
+        (&of(32), &[0, 255, 255, 0, 0, 0], NONE),
+        (&of(256), &[0, 255, 0, 255], NONE),
+        (&of(300), &[0, 255, 0, 30], NONE),
+        (&of(1000), &[0, 255, 0, 0], NONE),
+    ];
+    for (row, (draft, old, due)) in (1..).zip(rows) {
+        let asked = Asked::new(&mut rng, draft);
+        let what = format!("line {row}, stored {old:?}");
+        let found = turn(&asked.job, old, usize::MAX).unwrap_or_default();
+        same(&what, due, &found)?;
+        check_turned(&mut rng, &asked, old).map_err(|trouble| format!("{what}: {trouble}"))?;
+    }
+    // What the replays come to, and a pin that one of them does not hold.
+    for (calls, old, levels, named) in [
+        (vec![], [0, 255, 2, 0, 1, 1], &LEVELS_A[..], &[0, 0, 50, 6, 6, 2]),
+        (vec![6, 1, 1], [0, 255, 2, 0, 1, 1], &[0, 0], &[NOT_HELD, 2, 0, 0, 0, 0]),
+        (vec![], [1, 255, 1, 1, 2, 0], &[2, 0, 2, 0], &[OVER, 3, 0, 0, 0, 0]),
+        (vec![6, 2, 1], [1, 255, 1, 1, 2, 0], &[2, 0, 2, 0], &[OVER, 3, 0, 0, 0, 0]),
+        (vec![], [0, 255, 0, 1, 0, 1], &[0, 0], &[SHORT, 2, 0, 0, 0, 0]),
+    ] {
+        let job = a.bytes();
+        let entries = upload_planner::turned(&job, &old).map_err(|refusal| refusal.to_string())?;
+        let (mut reached, mut values) = (Lent::new(&mut rng, 6), Lent::new(&mut rng, 6));
+        let found = numbers::replay(&job, &calls, &entries, reached.list(), values.list());
+        same("replay by hand", 0, found)?;
+        reached.wrote("levels by hand", levels)?;
+        values.wrote("values by hand", named)?;
+    }
+    // The longest plan, of which each interval has another entry.
+    let units = vec![vec![(0, 0); 31]; 512];
+    let rates: Vec<u16> = (0..16).collect();
+    let asked = Asked::new(&mut rng, &Draft::new([64, 0, 0, 0, 0, 0], &rates, &units));
+    let entry = |t: usize| (t % 16, if t < 64 { NO_CHOICE } else { t % 31 });
+    let plan: Plan = (0..576).map(entry).collect();
+    let old = former_bytes(&plan);
+    same("bytes of the longest plan", (1152, 1728), (old.len(), plan_bytes(&plan).len()))?;
+    same("the longest plan", Some(plan), check_turned(&mut rng, &asked, &old)?)?;
+    Ok(format!("{} plans by hand", rows.len() + 6))
+}
+
+/// In how many ways `check_turning_order` has a wrong plan and a list too short.
+const TURN_DEFECTS: [usize; 2] = [11, 4];
+
+/// Every set of defects at once, each in each of its ways, of a job of the first five
+/// numbers, a job of 32 choices, the plan and the list.
+fn turning_order_group() -> Result<String, String> {
+    let mut rng = Rng(1);
+    let mut sets = 0;
+    let lines = [job_a(), job_a().doubled(SECOND_A)];
+    for (a, wrong) in lines.iter().flat_map(|a| (0..=5).map(move |wrong| (a, wrong))) {
+        for bits in 0..1 << 3 {
+            let has: [bool; 3] = std::array::from_fn(|bit| bits >> bit & 1 == 1);
+            for number in 0..TURN_DEFECTS.iter().product() {
+                let way = [number % TURN_DEFECTS[0], number / TURN_DEFECTS[0]];
+                check_turning_order(&mut rng, a, wrong, has, way).map_err(|trouble| {
+                    format!("job {wrong}, defects {has:?} in ways {way:?}: {trouble}")
+                })?;
+                sets += 1;
+            }
+        }
+    }
+    Ok(format!("{sets} sets of defects"))
+}
+
+fn check_turning_order(
+    rng: &mut Rng,
+    a: &Draft,
+    wrong: Refusal,
+    [many, shape, short]: [bool; 3],
+    way: [usize; 2],
+) -> Checked {
+    let mut draft = a.clone();
+    if many {
+        draft.header[CHOICES] = 32;
+        draft.units.iter_mut().for_each(|unit| unit.resize(32, (1, 1)));
+    }
+    let job = wrong_job(&draft, wrong);
+    let mut old = vec![0, 255, 2, 0, 1, 1];
+    if shape {
+        match way[0] {
+            0 => old.clear(),
+            1 => old.truncate(5),
+            2 => old.push(1),
+            3 => old = BEST_A.to_vec(),
+            4 => old[0] = 3,
+            5 => old[4] = 3,
+            6 => old[1] = 0,
+            7 => old[1] = 254,
+            8 => old[3] = 32,
+            9 => old[5] = 255,
+            _ => old[3] = 255,
+        }
+    }
+    old.shrink_to_fit();
+    let room = if short { [8, 6, 1, 0][way[1]] } else { 9 + way[1] };
+    let mut entries = Lent::new(rng, room);
+    let due = first_of(&[(wrong > 0, wrong), (many, 14), (shape, 14), (short, 12)]);
+    same("turn", due, numbers::turn(&job, &old, entries.list()))?;
+    entries.wrote("entries", if due == 0 { &BEST_A } else { &[] })
+}
+
+/// Every plan of tiny jobs, and every pair of bytes that a job of one interval could have
+/// stored; of one of two intervals, every two of its bytes.
+fn former_plans_group() -> Result<String, String> {
+    let mut rng = Rng(1);
+    let (mut plans, mut strings, mut held) = (0, 0, 0);
+    for (units, delay, rates, choices) in
+        [(1, 0, 1, 1), (1, 2, 3, 3), (2, 1, 3, 2), (2, 0, 2, 5), (3, 0, 2, 2), (1, 1, 4, 31)]
+    {
+        let unit: Vec<(u16, u32)> = (0..choices).map(|c| (c % 4, 1 + c as u32)).collect();
+        let rates: Vec<u16> = (0..rates).collect();
+        let draft = Draft::new([delay, 3, 2, 1, 1, 0], &rates, &vec![unit; units]);
+        let first = |t| (0, if t > delay { 0 } else { NO_CHOICE });
+        let mut plan: Plan = (1..=units as u16 + delay).map(first).collect();
+        loop {
+            // Pins of all kinds, and none.
+            let mut draft = draft.clone();
+            draft.commands = random_commands(&mut rng, &draft, 2);
+            let asked = Asked::new(&mut rng, &draft);
+            let found = check_turned(&mut rng, &asked, &former_bytes(&plan));
+            let found = found.map_err(|trouble| format!("{trouble}\n  {}", asked.show()))?;
+            same("the plan turned", Some(&plan), found.as_ref())?;
+            plans += 1;
+            let jump = if small() { 60 } else { 1 };
+            if !(0..jump).all(|_| next_plan(&asked.job, &mut plan)) {
+                break;
+            }
+        }
+    }
+    for (rates, choices) in [(1, 1), (2, 3), (16, 31), (16, 32)] {
+        let unit: Vec<(u16, u32)> = (0..choices).map(|c| (0, c)).collect();
+        let draft = Draft::new([0; 6], &(0..rates).collect::<Vec<u16>>(), &[unit]);
+        let jobs = [0, 1].map(|delay| Asked::new(&mut rng, &draft.with(DELAY, delay)));
+        for two in (0..=0xffff_u16).step_by(if small() { 257 } else { 1 }) {
+            let [one, other] = two.to_le_bytes();
+            held += check_stored(&jobs[0], &[one, other])? as usize;
+            strings += 1;
+            for [from, to] in [[0, 1], [0, 2], [0, 3], [1, 2], [1, 3], [2, 3]] {
+                let mut old = [0, 255, 0, 0];
+                (old[from], old[to]) = (one, other);
+                held += check_stored(&jobs[1], &old)? as usize;
+                strings += 1;
+            }
+        }
+    }
+    let counts = format!("{plans} plans, {strings} strings of bytes, of which {held} were plans");
+    ensure!(held > 0 && plans > 0, "too little in it: {counts}");
+    Ok(counts)
+}
+
+/// Whether the bytes were a plan.
+fn check_stored(asked: &Asked, old: &[u8]) -> Result<bool, String> {
+    let due = turn(&asked.job, old, 6);
+    let mut entries = [7; 6];
+    let found = numbers::turn(&asked.bytes, old, &mut entries);
+    let mut left = due.clone().unwrap_or_default();
+    left.resize(6, 7);
+    let number = due.as_ref().err().map_or(0, |number| *number as u32);
+    ensure!(
+        (number, &left[..]) == (found, &entries[..]),
+        "stored {old:?}: due {number} {left:?}, instead {found} {entries:?}\n  {}",
+        asked.show()
+    );
+    Ok(due.is_ok())
+}
+
+/// Random plans of all kinds of jobs, as they were stored, with pins that they hold or do
+/// not hold.
+fn turned_group(seed: u64, asks: bool) -> Result<String, String> {
+    let mut rng = Rng(seed);
+    let (mut tally, mut many) = ([0; 6], 0);
+    let jobs = scaled(1200);
+    for index in 1..=jobs {
+        let draft = match index % 12 {
+            0 => random_medium_double(&mut rng),
+            1 if index % 60 == 1 => random_long_job(&mut rng),
+            1..=3 => random_job(&mut rng, &MEDIUM),
+            4 | 5 => random_tight_job(&mut rng, &TIGHT[0]),
+            6 => random_double_job(&mut rng, &DOUBLE[1]),
+            7 | 8 => random_tiny_double(&mut rng),
+            9 | 10 => random_job(&mut rng, &Shape { choices: FORMER_CHOICES, ..TINY }),
+            _ => random_job(&mut rng, &TINY),
+        };
+        let asked = Asked::new(&mut rng, &draft);
+        for _ in 0..4 {
+            let plan = random_plan(&mut rng, &asked.job, &asked.pins);
+            let check = |rng: &mut Rng| -> Checked {
+                let found = check_turned(rng, &asked, &former_bytes(&plan))?;
+                same("the plan turned", Some(&plan), found.as_ref())
+            };
+            let named = |trouble: String| format!("{trouble}\n  plan {plan:?}");
+            let checked = check(&mut rng).map_err(named);
+            checked.map_err(|trouble| failed(seed, index, &trouble, &asked))?;
+            tally[follow(&asked.job, &asked.pins, &plan).values[0] as usize] += 1;
+            many += (asked.job.choices() > 8) as usize;
+        }
+    }
+    let [clean, short, over, bucket, pin, second] = tally;
+    let counts = format!(
+        "{} plans: {clean} clean, {short} decoder short, {over} decoder over, {bucket} bucket \
+         over, {second} second bucket over, {pin} pin not held; {many} of more than 8 choices",
+        4 * jobs
+    );
+    let worthwhile = tally.iter().chain([&many]).all(|count| count * 50 > jobs);
+    ensure!(worthwhile || !asks, "too little in it: {counts}");
+    Ok(counts)
+}
+
+/// Stored plans with harmed bytes, also of jobs that had none.
+fn harmed_stored_group(seed: u64, asks: bool) -> Result<String, String> {
+    let mut rng = Rng(seed);
+    let (mut plans, mut others, mut many) = (0, 0, 0);
+    let inputs = scaled(20_000);
+    for index in 1..=inputs {
+        let draft = random_planned_job(&mut rng);
+        let asked = Asked::new(&mut rng, &draft);
+        let plan = random_plan(&mut rng, &asked.job, &asked.pins);
+        let mut old = former_bytes(&plan);
+        for _ in 0..rng.pick(&[0, 1, 1, 1, 2, 3]) {
+            harm_plan(&mut rng, &mut old, asked.job.choices(), FORMER_BYTES);
+        }
+        if rng.one_in(50) {
+            old = plan_bytes(&plan);
+        }
+        old.shrink_to_fit();
+        let found = check_turned(&mut rng, &asked, &old);
+        let named = |trouble: String| format!("{trouble}\n  stored {}", hex(&old));
+        let found =
+            found.map_err(named).map_err(|trouble| failed(seed, index, &trouble, &asked))?;
+        plans += found.is_some() as usize;
+        others += found.is_some_and(|found| found != plan) as usize;
+        many += (asked.job.choices() > FORMER_CHOICES) as usize;
+    }
+    let counts = format!(
+        "{inputs} inputs: {plans} were plans, {others} other ones; {many} of jobs of more than 31 \
+         choices"
+    );
+    let worthwhile = [plans, others, many].iter().all(|count| count * 20 > inputs);
+    ensure!(worthwhile && plans * 4 < inputs * 3 || !asks, "too little in it: {counts}");
+    Ok(counts)
+}
+
+// ---------------------------------------------------------------------------
 // Long sessions.
 // ---------------------------------------------------------------------------
 
@@ -1829,6 +2574,8 @@ fn bad_call(rng: &mut Rng, job: &Job, pins: &Pins) -> [u16; 3] {
     let choices = job.choices() as u16;
     let choice = rng.from(0, choices as usize - 1) as u16;
     let no_choice = rng.pick(&[choices, choices + 1, 255, choice + 256, 0xffff]);
+    // Many choices may make one of these a choice after all.
+    let no_choice = no_choice.max(choices);
     match rng.from(0, 3) {
         0 => [rng.pick(&[6, 7]), beyond, rng.pick(&[choice, no_choice])],
         1 => [6, unit, no_choice],
@@ -2011,6 +2758,7 @@ fn calls_group(seed: u64, asks: bool) -> Result<String, String> {
     for index in 1..=jobs {
         let large = index % 30 == 7;
         let draft = match large {
+            true if small() => random_job(&mut rng, &WIDE),
             true => random_job(&mut rng, &LARGE),
             false => random_mixed_job(&mut rng, index),
         };
@@ -2071,7 +2819,7 @@ const WIDE: Shape = Shape {
     decoder: 255,
     bucket: 255,
     rates: 16,
-    choices: 31,
+    choices: MOST_CHOICES,
     grains: 4095,
     heavy: &[2],
     commands: 3,
@@ -2104,7 +2852,7 @@ fn second_size(shape: &Shape) -> usize {
 fn harm_head(rng: &mut Rng, bytes: &mut [u8]) {
     let field = 4 + 2 * rng.from(0, 14);
     let limits: [u16; 17] =
-        [0, 1, 2, 16, 17, 31, 32, 63, 64, 65, 255, 256, 512, 513, 4095, 4096, 0xffff];
+        [0, 1, 2, 16, 17, 63, 64, 65, 255, 256, 512, 513, 1000, 1001, 4095, 4096, 0xffff];
     if field + 2 <= bytes.len() {
         bytes[field..field + 2].copy_from_slice(&rng.pick(&limits).to_le_bytes());
     }
@@ -2157,7 +2905,7 @@ fn check_bytes(rng: &mut Rng, bytes: &[u8]) -> Result<Refusal, String> {
     let calls = [6, 1, 0, 7, 1, 0];
     match read {
         Err(_) => {
-            check_no_job(rng, bytes, number, &calls, [4, 2, 3, 20, 12, 5, 18, 7, 4])?;
+            check_no_job(rng, bytes, number, &calls, [4, 2, 3, 20, 18, 5, 18, 7, 4])?;
             let any = std::array::from_fn(|_| rng.from(0, 7));
             let cut = rng.from(0, calls.len());
             check_no_job(rng, bytes, number, &calls[..cut], any)?;
@@ -2186,8 +2934,8 @@ fn check_bytes(rng: &mut Rng, bytes: &[u8]) -> Result<Refusal, String> {
 }
 
 /// Every function refuses bytes that are no job. `lengths`: values of opening;
-/// answers of calls and of planning; values of calls; table, entries and values of
-/// planning; levels and values of replay; sums.
+/// answers of calls and of planning; values of calls; table, entries, also of turning,
+/// and values of planning; levels and values of replay; sums.
 fn check_no_job(
     rng: &mut Rng,
     bytes: &[u8],
@@ -2196,7 +2944,7 @@ fn check_no_job(
     lengths: [usize; 9],
 ) -> Checked {
     let number = number as u32;
-    let [open, answers, made, table, entries, planned, levels, replayed, sums] = lengths;
+    let [open, answers, made, table, room, planned, levels, replayed, sums] = lengths;
     let mut values: Lent<u64> = Lent::new(rng, open);
     same("open", number, numbers::open(bytes, values.list()))?;
     values.kept("values of open")?;
@@ -2210,11 +2958,11 @@ fn check_no_job(
     let found = upload_planner::called(bytes, &typed);
     same("owned calls", Some(number), found.err().map(|refusal| refusal.number()))?;
 
-    let mut lent = PlanLists::new(rng, [answers, table, entries, planned]);
+    let mut lent = PlanLists::new(rng, [answers, table, room, planned]);
     same("plan", number, lent.plan(bytes, calls))?;
     lent.kept()?;
 
-    let entries: Vec<u8> = (0..2 * rng.from(0, 4)).map(|_| rng.next() as u8).collect();
+    let entries: Vec<u8> = (0..rng.from(0, 12)).map(|_| rng.next() as u8).collect();
     let mut levels: Lent<u16> = Lent::new(rng, levels);
     let mut values: Lent<u64> = Lent::new(rng, replayed);
     let found = numbers::replay(bytes, calls, &entries, levels.list(), values.list());
@@ -2224,18 +2972,27 @@ fn check_no_job(
 
     let mut sums: Lent<u32> = Lent::new(rng, sums);
     same("report", number, numbers::report(bytes, &entries, sums.list()))?;
-    sums.kept("sums")
+    sums.kept("sums")?;
+
+    let mut turned: Lent<u8> = Lent::new(rng, room);
+    same("turn", number, numbers::turn(bytes, &entries, turned.list()))?;
+    turned.kept("entries of turning")?;
+    let found = upload_planner::turned(bytes, &entries);
+    same("owned turning", Some(number), found.err().map(|refusal| refusal.number()))
 }
 
-/// A job cut at every byte, and with other bytes after it.
+/// A job cut at every byte, and with other bytes after it; one of many choices cut at
+/// some.
 fn cuts_group() -> Result<String, String> {
     let mut rng = Rng(1);
     let mut inputs = 0;
-    let mut wide = random_job(&mut rng, &WIDE);
+    let mut wide = random_job(&mut rng, &Shape { choices: 31, ..WIDE });
     wide.commands.clear();
     let doubles = [job_a(), wide.clone()].map(|draft| draft.doubled([63, 4095, 63]).bytes());
-    for whole in [vec![job_a().bytes(), wide.bytes()], doubles.to_vec()].concat() {
-        for cut in 0..=whole.len() {
+    let many = chosen_among(MOST_CHOICES, &[]).bytes();
+    for whole in [vec![job_a().bytes(), wide.bytes(), many], doubles.to_vec()].concat() {
+        let step = if whole.len() > 4096 { 251 } else { 1 };
+        for cut in (0..whole.len()).step_by(step).chain([whole.len() - 1, whole.len()]) {
             let bytes = whole[..cut].to_vec();
             let due = check_bytes(&mut rng, &bytes).map_err(|t| format!("cut to {cut}: {t}"))?;
             same(&format!("cut to {cut}"), (cut < whole.len()) as u8, due)?;
@@ -2262,7 +3019,7 @@ fn limits_group() -> Result<String, String> {
     for buckets in 1..=MOST_BUCKETS {
         for &(field, low, high) in &LIMITS[..FIELDS[buckets - 1]] {
             let what = |value: u16| format!("{buckets} buckets, field {field} is {value}");
-            for value in [low, low + 1, high - 1, high] {
+            for value in values_in(field, low, high) {
                 check(&sized(buckets, field, value), 0, what(value))?;
             }
             for value in [low.wrapping_sub(1), high + 1, high + 256, 0x8000, 0xffff] {
@@ -2292,7 +3049,7 @@ fn limits_group() -> Result<String, String> {
         check(&draft.bytes(), due, format!("second size {size}, drain {drain}, start {start}"))?;
     }
     // The first nine fields and the last three are held to their limits together.
-    for (field, value) in [(UNITS, 0), (DELAY, 65), (START_BUCKET, 4), (CHOICES, 32)] {
+    for (field, value) in [(UNITS, 0), (DELAY, 65), (START_BUCKET, 4), (CHOICES, 1001)] {
         let draft = job_a().doubled([63, 4095, 63]).with(field, value);
         check(&draft.bytes(), 3, format!("two buckets, field {field} is {value}"))?;
     }
@@ -2340,7 +3097,7 @@ fn limits_group() -> Result<String, String> {
 /// choice 0 takes 5 grains and the decoder holds 4. Unit 1 at choice 0 takes 4,
 /// so the decoder is just full before it leaves. Interval 1 sends nothing, and its
 /// drain of 2 goes by.
-const BEST_A: [u8; 6] = [0, 255, 2, 0, 1, 1];
+const BEST_A: [u8; 9] = [0, 255, 255, 2, 0, 0, 1, 1, 0];
 const LEVELS_A: [u16; 6] = [0, 0, 0, 2, 0, 2];
 const TOTALS_A: [u64; 4] = [50, 6, 6, 2];
 
@@ -2394,7 +3151,7 @@ fn job_a_group() -> Result<String, String> {
     let (other, lifted) = (Call::Pin { unit: 1, choice: 1 }, Call::Lift { unit: 1 });
     let best = |calls: &[Call]| best_plan(&job, calls).map(|best| (best.entries, best.totals));
     let found = (BEST_A.to_vec(), typed_totals(&TOTALS_A));
-    let coarse = (vec![0, 255, 1, 1, 1, 1], typed_totals(&[70, 4, 4, 2]));
+    let coarse = (vec![0, 255, 255, 1, 1, 0, 1, 1, 0], typed_totals(&[70, 4, 4, 2]));
 
     let opened = open(&job).map_err(|refusal| refusal.to_string())?;
     let opened = (opened.bytes, opened.units, opened.intervals, opened.table_words);
@@ -2425,9 +3182,11 @@ fn job_a_group() -> Result<String, String> {
     let sized = |words: usize, bytes: usize| {
         plan(&job, &[], &mut [], &mut vec![0; words], &mut vec![0; bytes])
     };
-    same("79 words", Err(Refusal::TableTooShort), sized(79, 6))?;
-    same("five plan bytes", Err(Refusal::ListTooShort), sized(80, 5))?;
-    same("80 words, six bytes", Ok(found.1), sized(80, 6))?;
+    same("79 words", Err(Refusal::TableTooShort), sized(79, 9))?;
+    for bytes in [0, 5, 6, 8] {
+        same("too few plan bytes", Err(Refusal::ListTooShort), sized(80, bytes))?;
+    }
+    same("80 words, nine bytes", Ok(found.1), sized(80, 9))?;
 
     let replayed = |calls: &[Call], entries: &[u8]| {
         let mut levels = [9; 6];
@@ -2436,15 +3195,15 @@ fn job_a_group() -> Result<String, String> {
     let violated = |violation, interval, levels: [u16; 6]| {
         Ok((Replayed::Violated { violation, interval }, levels))
     };
-    let over = replayed(&[], &[2, 255, 2, 1, 0, 0]);
+    let over = replayed(&[], &[2, 255, 255, 2, 1, 0, 0, 0, 0]);
     same("decoder over", violated(Violation::DecoderOver, 2, [4, 2, 9, 9, 9, 9]), over)?;
-    let short = replayed(&[], &[0, 255, 0, 1, 0, 1]);
+    let short = replayed(&[], &[0, 255, 255, 0, 1, 0, 0, 1, 0]);
     same("decoder short", violated(Violation::DecoderShort, 2, [0, 0, 9, 9, 9, 9]), short)?;
     let clean = Ok((Replayed::Clean(found.1), LEVELS_A));
     same("the best plan", clean, replayed(&[], &BEST_A))?;
     // Of distortion 42, but with 2 + 4 grains in a decoder of 4 before unit 2
     // leaves with 5 of them.
-    let finer = [1, 255, 1, 1, 2, 0];
+    let finer = [1, 255, 255, 1, 1, 0, 2, 0, 0];
     let over = replayed(&[], &finer);
     same("over before unit 2", violated(Violation::DecoderOver, 3, [2, 0, 2, 0, 9, 9]), over)?;
     for (pinned, entries, levels) in
@@ -2593,7 +3352,7 @@ fn check_plan_order(
     let lengths = [
         cut_to(2, answers, by_all),
         cut_to(known.table.len(), table, by_all),
-        cut_to(6, entries, by_all),
+        cut_to(BEST_A.len(), entries, by_all),
         cut_to(known.totals.len(), values, by_all),
     ];
     let mut lent = PlanLists::new(rng, lengths);
@@ -2636,8 +3395,8 @@ fn check_other_orders(
     let mut entries = BEST_A.to_vec();
     if shape {
         match has(5) {
-            true => entries[2] = 3,
-            false => entries.truncate(5),
+            true => entries[3] = 3,
+            false => entries.truncate(8),
         }
     }
     entries.shrink_to_fit();
@@ -2684,7 +3443,7 @@ fn lengths_group() -> Result<String, String> {
 fn check_lengths(rng: &mut Rng, known: &Known) -> Result<usize, String> {
     let job = known.draft.bytes();
     let calls = [6, 1, 1, 7, 1, 0, 7, 1, 0, 6, 2, 1];
-    let needs = [4, known.table.len(), 6, known.totals.len()];
+    let needs = [4, known.table.len(), BEST_A.len(), known.totals.len()];
     let mut lists = 0;
     for (which, need) in needs.into_iter().enumerate() {
         for length in 0..=need + 2 {
@@ -2720,7 +3479,7 @@ fn check_lengths(rng: &mut Rng, known: &Known) -> Result<usize, String> {
     let needs = [known.levels.len(), 2 + known.totals.len()];
     // The second interval breaks off, yet room is asked for all of them. What the
     // first sends leaves 2 in each bucket.
-    let entries = [2, 255, 2, 1, 0, 0];
+    let entries = [2, 255, 255, 2, 1, 0, 0, 0, 0];
     let reached: Vec<u16> = [4, 2, 2][..needs[0] / 3].to_vec();
     let mut named: Vec<u64> = vec![0; needs[1]];
     (named[0], named[1]) = (OVER, 2);
@@ -2740,6 +3499,20 @@ fn check_lengths(rng: &mut Rng, known: &Known) -> Result<usize, String> {
         same(&format!("sums of {length}"), if length < 3 { 12 } else { 0 }, found)?;
         sums.wrote("sums", if length < 3 { &[] } else { &[4, 4, 0] })?;
         lists += 3;
+    }
+    // A plan is 3 x T bytes, and no other length will do.
+    for length in 0..=2 * BEST_A.len() {
+        let mut levels = Lent::<u16>::new(rng, needs[0]);
+        let mut values = Lent::<u64>::new(rng, needs[1]);
+        let mut sums = Lent::<u32>::new(rng, 3);
+        let entries: Vec<u8> = BEST_A.into_iter().cycle().take(length).collect();
+        let replayed = numbers::replay(&job, &[], &entries, levels.list(), values.list());
+        let reported = numbers::report(&job, &entries, sums.list());
+        let due = if length == BEST_A.len() { 0 } else { 14 };
+        same(&format!("a plan of {length} bytes"), [due; 2], [replayed, reported])?;
+        levels.wrote("levels", if due > 0 { &[] } else { &known.levels })?;
+        sums.wrote("sums", if due > 0 { &[] } else { &[0, 4, 2] })?;
+        lists += 1;
     }
     Ok(lists)
 }
@@ -2763,7 +3536,7 @@ fn kinds_group() -> Result<String, String> {
                 let due = first_of(&[(!known, 2), (!tail.is_empty(), 1)]);
                 let mut made = CallLists::new(&mut rng, [4, CALLS_VALUES]);
                 let alone = made.make(&job, &calls);
-                let mut lent = PlanLists::new(&mut rng, [4, 80, 6, TOTALS_A.len()]);
+                let mut lent = PlanLists::new(&mut rng, [4, 80, BEST_A.len(), TOTALS_A.len()]);
                 let found = lent.plan(&job, &calls);
                 let mut levels = Lent::<u16>::new(&mut rng, 6);
                 let mut values = Lent::<u64>::new(&mut rng, 2 + TOTALS_A.len());
@@ -2875,14 +3648,15 @@ fn check_typed_write(rng: &mut Rng, lists: &Lists, room: usize) -> Checked {
     same("owned job", due, owned.map_err(|refusal| refusal.number()))
 }
 
-/// The bytes that the header calls for, up to more than any job takes.
+/// The bytes that the header calls for, up to more than a job of these lists takes.
 fn room_for(lists: &Lists) -> usize {
     match header_of(&lists.fields) {
         Some(header) => {
             let [units, rates, choices] =
                 [header.units, header.rates, header.choices].map(usize::from);
             let fields = lists.fields.len();
-            (8 + 2 * fields + 2 * rates + units * (4 + 6 * choices)).min(200_000)
+            let called_for = 8 + 2 * fields + 2 * rates + units * (4 + 6 * choices);
+            called_for.min(100_000 + 10 * lists.sizes.len())
         }
         None => 100,
     }
@@ -3017,13 +3791,14 @@ fn field_cases(a: &Draft, buckets: usize) -> Vec<LimitCase> {
     let mut cases = Vec::new();
     for &(field, low, high) in &LIMITS[..FIELDS[buckets - 1]] {
         let what = |value: u16| format!("{buckets} buckets, field {field} is {value}");
-        for value in [low, low + 1, high - 1, high] {
+        for value in values_in(field, low, high) {
             let lists = Lists::of_draft(&sized_draft(buckets, field, value));
             cases.push(limit_case(lists, 0, what(value)));
         }
         for value in [low.wrapping_sub(1), high + 1, high + 256, 0x8000, 0xffff] {
             if value < low || value > high {
-                let draft = sized_draft(buckets, field, value.min(600)).with(field, value);
+                let sized = sized_draft(buckets, field, value.min(most_sized(field)));
+                let draft = sized.with(field, value);
                 cases.push(limit_case(Lists::of_draft(&draft), 3, what(value)));
             }
         }
@@ -3093,13 +3868,18 @@ fn rate_cases(a: &Draft, buckets: usize) -> Vec<LimitCase> {
     cases
 }
 
-/// Grains and distortions, in every place.
+/// Grains and distortions, in every place or many.
 fn coding_cases(a: &Draft) -> Vec<LimitCase> {
     let mut cases = Vec::new();
     let mut wide = Draft::new([0; 6], &[0], &vec![vec![(1, 2); 31]; 3]);
     wide.header.extend(&a.header[FIELDS[0]..]);
-    for lists in [Lists::of_draft(a), Lists::of_draft(&wide)] {
-        for at in 0..lists.sizes.len() {
+    let mut many = Draft::new([0; 6], &[0], &vec![vec![(1, 2); MOST_CHOICES]; 2]);
+    many.header.extend(&a.header[FIELDS[0]..]);
+    // Of many choices some, in either unit.
+    let some = [0, 31, 255, 256, 999, 1000, 1255, 1256, 1999];
+    for (draft, places) in [(a, None), (&wide, None), (&many, Some(some))] {
+        let lists = Lists::of_draft(draft);
+        for at in places.map_or((0..lists.sizes.len()).collect(), Vec::from) {
             for (size, due) in [(0, 0), (255, 0), (256, 0), (4095, 0), (4096, 5), (0xffff, 5)] {
                 let mut lists = lists.clone();
                 lists.sizes[at] = size;
@@ -3210,9 +3990,9 @@ fn largest_cases() -> Vec<LimitCase> {
     let largest = largest_draft();
     for (draft, taken) in [
         (smallest.doubled([0; 3]), 44),
-        (largest.doubled([63, 4095, 63]), 97_344),
+        (largest.doubled([63, 4095, 63]), 3_074_112),
         (smallest, 38),
-        (largest, 97_338),
+        (largest, 3_074_106),
     ] {
         for (room, due) in [(taken - 1, 12), (taken, 0), (taken + 1, 0)] {
             let lists = Lists::of_draft(&draft);
@@ -3226,7 +4006,7 @@ fn largest_cases() -> Vec<LimitCase> {
 /// The largest job on a line of one bucket.
 fn largest_draft() -> Draft {
     let rates: Vec<u16> = (4080..=4095).collect();
-    let units = vec![vec![(4095, 1_000_000); 31]; 512];
+    let units = vec![vec![(4095, 1_000_000); MOST_CHOICES]; 512];
     Draft::new([64, 255, 255, 4095, 255, 255], &rates, &units)
 }
 
@@ -3311,7 +4091,7 @@ fn check_write_order(
         match way[0] {
             0 => lists.fields[DELAY] = 65,
             1 => lists.fields[UNITS] = 0,
-            2 => lists.fields[CHOICES] = 32,
+            2 => lists.fields[CHOICES] = 1001,
             3 => lists.fields[START_BUCKET] = 4,
             4 => drop(lists.fields.pop()),
             5 => lists.fields.push(1),
@@ -3469,7 +4249,7 @@ fn harmed_lists(seed: u64, asks: bool, buckets: usize) -> Result<String, String>
 /// Changes one number or one length, mostly near a limit.
 fn harm_lists(rng: &mut Rng, lists: &mut Lists) {
     let limits: [u16; 17] =
-        [0, 1, 2, 16, 17, 31, 32, 63, 64, 65, 255, 256, 512, 513, 4095, 4096, 0xffff];
+        [0, 1, 2, 16, 17, 63, 64, 65, 255, 256, 512, 513, 1000, 1001, 4095, 4096, 0xffff];
     match rng.from(0, 9) {
         0 => change_one(rng, &mut lists.fields, |rng, _| rng.pick(&limits)),
         1 => change_one(rng, &mut lists.fields, near),
@@ -3561,6 +4341,7 @@ fn large_group() -> Result<String, String> {
     let few = Size { units: 48, delay: 8, decoder: 63, bucket: 15, rates: 8, choices: 8 };
     let sizes = [
         ("few rates and choices", Size { rates: 4, choices: 4, ..FULL }, None),
+        ("31 choices", Size { units: 128, choices: 31, ..FULL }, None),
         ("few units", Size { units: 32, delay: 4, ..FULL }, None),
         ("a small decoder", Size { decoder: 15, ..FULL }, None),
         ("small buffers", Size { decoder: 127, bucket: 63, ..FULL }, None),
@@ -3623,6 +4404,11 @@ fn run_all(new_seed: u64, with_full: bool, examples: Option<&Path>) -> bool {
         print_group("every set of violations", violations_group()),
         print_group("unused drain", unused_group()),
         print_group("a second bucket", second_group()),
+        print_group("a thousand choices", thousand_group()),
+        print_group("every choice", every_choice_group()),
+        print_group("stored plans turned", turning_group()),
+        print_group("refusals of turning in their order", turning_order_group()),
+        print_group("every stored plan", former_plans_group()),
         print_group("report by hand", report_group()),
         print_group("every delay in the report", delays_group()),
         print_group("long delays in the report", long_delays_group()),
@@ -3652,6 +4438,10 @@ fn run_all(new_seed: u64, with_full: bool, examples: Option<&Path>) -> bool {
     seeded("calls", &[1, 2], calls_group);
     seeded("long sessions", &[1, 2], sessions_group);
     seeded("larger jobs", &[4], larger_group);
+    seeded("jobs of many choices", &[1, 2], many_group);
+    seeded("harmed plans", &[1], harmed_plans_group);
+    seeded("random stored plans", &[1, 2], turned_group);
+    seeded("harmed stored plans", &[1], harmed_stored_group);
     seeded("jobs of two buckets written", &[1, 2], written_double_group);
     seeded("harmed lists of two buckets", &[1], harmed_double_lists_group);
     seeded("harmed bytes of two buckets", &[1], harmed_double_group);

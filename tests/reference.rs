@@ -1,11 +1,11 @@
 //! What the test programs share: answers worked out straight from the product's
 //! paper, and the jobs they are asked of.
 //!
-//! The answers have four parts: a reader that gives the first refusal due, an
+//! The answers have five parts: a reader that gives the first refusal due, an
 //! enumeration of every plan (small jobs), a dynamic program that carries whole
-//! paths forward (the jobs too large to enumerate), and a writer that gives a
-//! job's bytes or the first refusal due. Each program uses a part of what stands
-//! here.
+//! paths forward (the jobs too large to enumerate), a reader of plans of either
+//! shape, and a writer that gives a job's bytes or the first refusal due. Each
+//! program uses a part of what stands here.
 
 use std::collections::btree_map::Entry as MapEntry;
 use std::collections::BTreeMap;
@@ -14,8 +14,13 @@ use std::time::{SystemTime, UNIX_EPOCH};
 
 pub const INPUT_LIMIT: usize = 32_768;
 pub const WORKSPACE_WORDS: usize = 16_384;
+/// How many choices a unit may have.
+pub const MOST_CHOICES: usize = 1000;
 /// The choice entry of an interval that decodes no unit.
-pub const NO_CHOICE: usize = 255;
+pub const NO_CHOICE: usize = 65_535;
+/// Both of the former shape, in which an entry had two bytes.
+pub const FORMER_CHOICES: usize = 31;
+pub const FORMER_NO_CHOICE: usize = 255;
 /// Jobs with more plans than this are left to the dynamic program.
 pub const ENUMERATION_LIMIT: u64 = 10_000;
 /// How many buckets a line may have.
@@ -185,7 +190,7 @@ pub fn read_header(body: &[u8]) -> Result<Vec<i64>, Refusal> {
         (0, f[DECODER]),
         (0, f[BUCKET]),
         (1, 16),
-        (1, 31),
+        (1, MOST_CHOICES as i64),
     ];
     if let Some(&second) = f.get(SECOND) {
         ranges.extend([(0, 63), (0, 4095), (0, second)]);
@@ -596,6 +601,76 @@ pub fn best_plan(job: &Job, pins: &Pins) -> Option<Plan> {
 }
 
 // ---------------------------------------------------------------------------
+// Plans as bytes.
+// ---------------------------------------------------------------------------
+
+/// How many bytes an entry has: the rate's index, then the choice's, its lower byte
+/// first.
+pub const ENTRY_BYTES: usize = 3;
+/// The same of the former shape: the rate's index, then the choice's.
+pub const FORMER_BYTES: usize = 2;
+
+pub fn plan_bytes(plan: &Plan) -> Vec<u8> {
+    let entry = |&(rate, choice): &Entry| {
+        let [low, high] = (choice as u16).to_le_bytes();
+        vec![rate as u8, low, high]
+    };
+    plan.iter().flat_map(entry).collect()
+}
+
+/// The plan that the bytes are, or the refusal due.
+pub fn read_plan(job: &Job, bytes: &[u8]) -> Result<Plan, Refusal> {
+    if bytes.len() != ENTRY_BYTES * job.intervals() {
+        return Err(14);
+    }
+    let entry = |three: &[u8]| (three[0] as usize, u16_at(three, 1) as usize);
+    in_range(job, NO_CHOICE, bytes.chunks(ENTRY_BYTES).map(entry).collect())
+}
+
+/// The plan, if every rate and choice is in range and the first intervals, which
+/// decode no unit, have this for a choice.
+pub fn in_range(job: &Job, no_choice: usize, plan: Plan) -> Result<Plan, Refusal> {
+    for (t, &(rate, choice)) in (1..).zip(&plan) {
+        let due = if t > job.delay { choice < job.choices() } else { choice == no_choice };
+        if rate >= job.rates.len() || !due {
+            return Err(14);
+        }
+    }
+    Ok(plan)
+}
+
+/// A plan as it was stored in the former shape.
+pub fn former_bytes(plan: &Plan) -> Vec<u8> {
+    let entry = |&(rate, choice): &Entry| {
+        let stored = if choice == NO_CHOICE { FORMER_NO_CHOICE } else { choice };
+        vec![rate as u8, stored as u8]
+    };
+    plan.iter().flat_map(entry).collect()
+}
+
+/// The plan that the bytes were under the former shape, or the refusal due.
+pub fn read_former(job: &Job, bytes: &[u8]) -> Result<Plan, Refusal> {
+    if job.choices() > FORMER_CHOICES || bytes.len() != FORMER_BYTES * job.intervals() {
+        return Err(14);
+    }
+    let entry = |two: &[u8]| (two[0] as usize, two[1] as usize);
+    let plan = in_range(job, FORMER_NO_CHOICE, bytes.chunks(FORMER_BYTES).map(entry).collect())?;
+    let marked = |choice| if choice == FORMER_NO_CHOICE { NO_CHOICE } else { choice };
+    let kept = |(rate, choice)| (rate, marked(choice));
+    Ok(plan.into_iter().map(kept).collect())
+}
+
+/// What a stored plan is turned into, or the first refusal due. `room` is the length
+/// of the list for the entries.
+pub fn turn(job: &Job, old: &[u8], room: usize) -> Result<Vec<u8>, Refusal> {
+    let entries = plan_bytes(&read_former(job, old)?);
+    if room < entries.len() {
+        return Err(12);
+    }
+    Ok(entries)
+}
+
+// ---------------------------------------------------------------------------
 // Rules that a program might follow by mistake.
 // ---------------------------------------------------------------------------
 
@@ -685,6 +760,53 @@ pub fn meeting_mistakes(job: &Job, pins: &Pins, plan: Option<&Plan>) -> Vec<(&'s
     ];
     let told = rows.map(|(name, rules)| (name, dynamic_by(&rules, job, pins).as_ref() != plan));
     [&second_mistakes(job, pins, plan)[..], &told].concat()
+}
+
+/// Those of programs that count choices in a byte, or that have one price for all the
+/// choices of a size and take another choice than the best of them for it.
+pub fn choice_mistakes(job: &Job, pins: &Pins, plan: Option<&Plan>) -> Vec<(&'static str, bool)> {
+    let chosen = || plan.into_iter().flat_map(|plan| &plan[job.delay..]).map(|entry| entry.1);
+    // Another choice like the one made stands behind it.
+    let again = |(unit, choice): (usize, usize)| {
+        let like = |other: &Choice| {
+            let made = &job.units[unit][choice];
+            (other.grains, other.distortion) == (made.grains, made.distortion)
+        };
+        pins[unit].is_none() && job.units[unit][choice + 1..].iter().any(like)
+    };
+    let told = |replaces| dynamic(&priced(job, pins, replaces), pins).as_ref() != plan;
+    vec![
+        ("the high byte lost", chosen().any(|choice| choice > 255)),
+        ("255 for no unit", chosen().any(|choice| choice == 255)),
+        ("31 choices looked at", chosen().any(|choice| choice >= FORMER_CHOICES)),
+        ("the last of equal choices", chosen().enumerate().any(again)),
+        ("the price of a size's first choice", told(|_, _| false)),
+        ("the price of a size's last choice", told(|_, _| true)),
+        ("the greatest price of a size", told(|held, other| other > held)),
+    ]
+}
+
+/// The job with one choice left of each size: the first, or a later one where
+/// `replaces` says so of their distortions. The others take more than any decoder
+/// holds. A unit that is pinned has its choice.
+fn priced(job: &Job, pins: &Pins, replaces: fn(i64, i64) -> bool) -> Job {
+    let mut job = job.clone();
+    let free = job.units.iter_mut().zip(pins).filter(|(_, pinned)| pinned.is_none());
+    for unit in free.map(|(unit, _)| unit) {
+        let mut held: BTreeMap<i64, (usize, i64)> = BTreeMap::new();
+        for (index, choice) in unit.iter().enumerate() {
+            let place = held.entry(choice.grains).or_insert((index, choice.distortion));
+            if replaces(place.1, choice.distortion) {
+                *place = (index, choice.distortion);
+            }
+        }
+        for (index, choice) in unit.iter_mut().enumerate() {
+            if held[&choice.grains].0 != index {
+                choice.grains = 1 << 20;
+            }
+        }
+    }
+    job
 }
 
 /// For jobs to enumerate, for the dynamic program, and long.
@@ -783,7 +905,7 @@ pub const LIMITS: [(usize, u16, u16); 12] = [
     (START_DECODER, 0, 4),
     (START_BUCKET, 0, 3),
     (RATES, 1, 16),
-    (CHOICES, 1, 31),
+    (CHOICES, 1, MOST_CHOICES as u16),
     (SECOND, 0, 63),
     (SECOND_DRAIN, 0, 4095),
     (START_SECOND, 0, 2),
@@ -806,7 +928,7 @@ pub struct Size {
 
 /// The largest job that opens.
 pub const FULL: Size =
-    Size { units: 512, delay: 64, decoder: 255, bucket: 255, rates: 16, choices: 31 };
+    Size { units: 512, delay: 64, decoder: 255, bucket: 255, rates: 16, choices: MOST_CHOICES };
 
 #[derive(Clone, Copy)]
 pub enum Command {
@@ -1166,6 +1288,14 @@ fn two_unused_by_hand() -> Vec<(String, Draft, Vec<i64>)> {
     cases
 }
 
+/// A unit of two grains at distortion 9, at every choice but these, which have 5; a rate
+/// of 0 and one of 2.
+pub fn chosen_among(choices: usize, best: &[usize]) -> Draft {
+    let mut unit = vec![(2, 9); choices];
+    best.iter().for_each(|&choice| unit[choice].1 = 5);
+    Draft::new([0, 3, 0, 4095, 0, 0], &[0, 2], &[unit])
+}
+
 /// Job A or an easy job, with one field set and the records to go with it, on a
 /// line of one bucket or with `SECOND_A` too.
 pub fn sized_draft(buckets: usize, field: usize, value: u16) -> Draft {
@@ -1194,8 +1324,26 @@ pub fn sized_draft(buckets: usize, field: usize, value: u16) -> Draft {
 /// The bytes of such a job, whose field may be out of range. What follows is never
 /// longer than a little past the limits.
 pub fn sized(buckets: usize, field: usize, value: u16) -> Vec<u8> {
-    let input = sized_draft(buckets, field, value.min(600)).bytes();
+    let input = sized_draft(buckets, field, value.min(most_sized(field))).bytes();
     patched(&input, 4 + 2 * field, &value.to_le_bytes())
+}
+
+/// The ends of a field's range. Choices were 31 at most, and are counted in two bytes.
+pub fn values_in(field: usize, low: u16, high: u16) -> Vec<u16> {
+    let mut values = vec![low, low + 1, high - 1, high];
+    if field == CHOICES {
+        values.extend([31, 32, 255, 256, 257]);
+    }
+    values
+}
+
+/// As much of what a field counts as there is to go with it.
+pub fn most_sized(field: usize) -> u16 {
+    if field == CHOICES {
+        MOST_CHOICES as u16 + 100
+    } else {
+        600
+    }
 }
 
 pub fn patched(input: &[u8], at: usize, value: &[u8]) -> Vec<u8> {
@@ -1386,6 +1534,7 @@ pub fn random_rates(rng: &mut Rng, shape: &Shape) -> Vec<u16> {
 
 pub fn random_units(rng: &mut Rng, shape: &Shape) -> Vec<Vec<(u16, u32)>> {
     let count = rng.from(shape.units.0, shape.units.1);
+    // Now and then up to 31 choices, in the larger shapes.
     let most = if shape.choices > 4 && rng.one_in(10) { 31 } else { shape.choices };
     let choices = rng.from(1, most);
     let flavour = rng.from(0, 5);
@@ -1427,7 +1576,12 @@ pub fn random_commands(rng: &mut Rng, draft: &Draft, most: usize) -> Vec<Command
     for _ in 0..count {
         let astray = loose && rng.one_in(8);
         let unit = if astray { rng.pick(&[0, units + 1]) } else { rng.from(1, units) };
-        let choice = if loose && rng.one_in(8) { choices } else { rng.from(0, choices - 1) };
+        let choice = match loose && rng.one_in(8) {
+            true if choices > 256 => rng.pick(&[choices, choices + 256, NO_CHOICE]),
+            true => choices,
+            false if choices > 256 => random_edge(rng, choices),
+            false => rng.from(0, choices - 1),
+        };
         let lifts = if loose { rng.one_in(4) } else { pinned[unit] };
         commands.push(if lifts { Lift(unit as u16) } else { Pin(unit as u16, choice as u16) });
         if !loose {
@@ -1435,6 +1589,119 @@ pub fn random_commands(rng: &mut Rng, draft: &Draft, most: usize) -> Vec<Command
         }
     }
     commands
+}
+
+/// Choices at the ends of what one byte counts, lower or upper, and of the range.
+pub const EDGES: [usize; 14] =
+    [0, 30, 31, 32, 254, 255, 256, 257, 511, 512, 767, 768, MOST_CHOICES - 2, MOST_CHOICES - 1];
+
+/// A choice of so many: mostly at an edge, and often 255 or more.
+pub fn random_edge(rng: &mut Rng, choices: usize) -> usize {
+    let edge = match rng.from(1, 8) {
+        1 => rng.from(0, choices - 1),
+        2 => rng.pick(&EDGES),
+        3 | 4 | 5 => 255,
+        _ => rng.pick(&EDGES[6..]),
+    };
+    if edge < choices {
+        edge
+    } else {
+        rng.from(0, choices - 1)
+    }
+}
+
+/// The shapes of jobs of many choices: one unit, so that all plans can be tried, for the
+/// dynamic program, and long.
+pub const MANY: [Shape; 3] = [
+    Shape {
+        units: (1, 1),
+        delay: (0, 1),
+        decoder: 7,
+        bucket: 4,
+        rates: 3,
+        choices: MOST_CHOICES,
+        grains: 2,
+        heavy: &[],
+        commands: 2,
+    },
+    Shape {
+        units: (2, 5),
+        delay: (0, 3),
+        decoder: 9,
+        bucket: 5,
+        rates: 4,
+        choices: MOST_CHOICES,
+        grains: 2,
+        heavy: &[],
+        commands: 2,
+    },
+    Shape {
+        units: (20, 40),
+        delay: (0, 9),
+        decoder: 12,
+        bucket: 5,
+        rates: 5,
+        choices: MOST_CHOICES,
+        grains: 2,
+        heavy: &[],
+        commands: 2,
+    },
+];
+
+/// A job in which every size has many choices. The best of a size stands at an edge, and
+/// distortions fall as the units grow; in half of the units a choice at an edge has none
+/// at all.
+pub fn random_many_job(rng: &mut Rng, shape: &Shape) -> Draft {
+    let decoder = rng.from(2, shape.decoder);
+    let bucket = rng.from(0, shape.bucket);
+    let most = decoder + shape.grains;
+    let levels = [
+        rng.from(shape.delay.0, shape.delay.1),
+        decoder,
+        bucket,
+        rng.from(most / 2, most),
+        rng.from(0, decoder),
+        rng.from(0, bucket),
+    ];
+    let count = rng.from(2, shape.rates);
+    let mut rates = rng.rising(count, most);
+    if !rng.one_in(8) {
+        rates[0] = 0;
+    }
+    let choices = rng.pick(&[32, 256, 257, 300, 513, 600, 769, 1000, 1000]).min(shape.choices);
+    let count = rng.from(shape.units.0, shape.units.1);
+    let steep = rng.from(1, 30);
+    let mut units = Vec::new();
+    for _ in 0..count {
+        let price = |size: usize, more: usize| (size as u16, ((most - size) * steep + more) as u32);
+        let mut unit: Vec<(u16, u32)> = Vec::new();
+        for _ in 0..choices {
+            unit.push(price(rng.from(0, most), rng.from(3, 40)));
+        }
+        for size in 0..=decoder {
+            let best = price(size, rng.from(0, 2));
+            put_at_edge(rng, &mut unit, best);
+        }
+        if rng.one_in(2) {
+            let size = rng.from(0, decoder) as u16;
+            put_at_edge(rng, &mut unit, (size, 0));
+        }
+        units.push(unit);
+    }
+    let mut draft = Draft::new(levels.map(|level| level as u16), &rates, &units);
+    if rng.one_in(3) {
+        draft.commands = random_commands(rng, &draft, shape.commands);
+    }
+    draft
+}
+
+/// Half of the time the same stands again somewhere behind it.
+fn put_at_edge(rng: &mut Rng, unit: &mut [(u16, u32)], coding: (u16, u32)) {
+    let at = random_edge(rng, unit.len());
+    unit[at] = coding;
+    if rng.one_in(2) {
+        unit[rng.from(at, unit.len() - 1)] = coding;
+    }
 }
 
 /// A long job's buffers share what the workspace leaves for each interval.
@@ -1669,7 +1936,7 @@ pub fn harm(rng: &mut Rng, bytes: &mut Vec<u8>) {
     let at = rng.from(0, bytes.len() - 1);
     match rng.from(0, 8) {
         0 => bytes[at] = any,
-        1 => bytes[at] = rng.pick(&[0, 1, 15, 16, 17, 31, 32, 64, 65, 255]),
+        1 => bytes[at] = rng.pick(&[0, 1, 3, 4, 15, 16, 17, 31, 32, 64, 65, 231, 232, 255]),
         2 | 3 => bytes[at] = bytes[at].wrapping_add(1),
         4 | 5 => bytes[at] = bytes[at].wrapping_sub(1),
         6 => bytes.truncate(at),

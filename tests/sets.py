@@ -14,7 +14,7 @@ HEADER = NINE + [0, 0, 0, 0]
 TWO = NINE + [1, 1, 2, 0]
 RATES = [0, 2, 4]
 UNITS = [[(4, 10), (2, 30)], [(5, 12), (2, 40)]]
-NO_PIN = 255
+NO_PIN = 65535
 
 
 def u16(*numbers):
@@ -97,13 +97,14 @@ def rows():
         for pin in (0, 1):
             yield TWO, unit, pin, totals(unit, pin)
     yield TWO, 0, NO_PIN, (0, 0, 0)
-    # a pin that no unit has, with the totals of no pin and of one, and a pin behind the job's units
-    for pin in (2, 30, 31, 254):
+    # a pin that no unit has, with the totals of no pin and of one, and a pin behind the job's units; 255 was no pin once,
+    # and 256 is 0 in its lower byte
+    for pin in (2, 30, 31, 254, 255, 256, 999, 1000, 65280, 65534):
         for sums in ((0, 0, 0), (1, 4, 10)):
             yield HEADER, 1, pin, sums
     for unit in (3, 512):
-        for sums in ((0, 0, 0), (1, 4, 10)):
-            yield HEADER, unit, 0, sums
+        for pin, sums in ((0, (0, 0, 0)), (0, (1, 4, 10)), (255, (0, 0, 0))):
+            yield HEADER, unit, pin, sums
     # no pin, which is written out
     yield HEADER, 2, NO_PIN, (0, 0, 0)
     yield HEADER, 512, NO_PIN, (0, 0, 0)

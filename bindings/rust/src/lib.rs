@@ -18,10 +18,10 @@
 //! all that it has. Grains of the drain that find nothing there go by unused.
 //!
 //! [`write()`] makes the bytes of a job from its header and lists; [`open`],
-//! [`calls()`], [`plan`], [`replay`] and [`report`] take these bytes and read them
-//! again. They fill lists that the caller lends; [`written`], [`called`],
-//! [`best_plan`] and [`replayed`] make the lists themselves. Nothing is kept
-//! between calls. A list that is filled may be longer than needed: what stands
+//! [`calls()`], [`plan`], [`replay`], [`report`] and [`turn`] take these bytes and
+//! read them again. They fill lists that the caller lends; [`written`], [`called`],
+//! [`best_plan`], [`replayed`] and [`turned`] make the lists themselves. Nothing is
+//! kept between calls. A list that is filled may be longer than needed: what stands
 //! past the part named as written keeps its values. Wherever a job is read, its
 //! own refusals, 1 to 5, come first. A refusal writes nothing, except that
 //! [`Refusal::NoPlan`] comes after the search and leaves `table` written, and no
@@ -45,9 +45,10 @@
 //!     14, 0, 3, 0,  5, 0, 12, 0, 0, 0,  2, 0, 40, 0, 0, 0,
 //! ];
 //!
+//! // A plan has three bytes for each interval: a rate, then a choice or 65,535.
 //! let best = best_plan(&job, &[])?;
 //! assert_eq!(best.totals.distortion, 50);
-//! assert_eq!(best.entries, [0, 255, 2, 0, 1, 1]);
+//! assert_eq!(best.entries, [0, 255, 255, 2, 0, 0, 1, 1, 0]);
 //!
 //! // Interval 1 sends nothing, the bucket is empty, and the drain is 2.
 //! assert_eq!(best.totals.unused_grains, 2);
@@ -73,8 +74,8 @@ use std::fmt;
 
 pub mod numbers;
 
-/// The choice byte of an interval that decodes no unit.
-pub const NO_UNIT: u8 = 255;
+/// The choice of an interval that decodes no unit.
+pub const NO_UNIT: u16 = 65_535;
 
 /// The word of a state from which no plan can be completed.
 pub const NEVER: u32 = u32::MAX;
@@ -113,7 +114,9 @@ pub enum Refusal {
     ListTooShort,
     /// 13: no plan is admissible.
     NoPlan,
-    /// 14: the entries are not 2 × T bytes, or one of them is out of range.
+    /// 14: the entries are not 3 × T bytes, or one of them is out of range. From
+    /// [`turn`]: the job has more than 31 choices, or the bytes were no plan of two
+    /// bytes for each interval.
     NotAPlan,
     /// 15: the input is longer than 32,768 bytes. The program `plan` gives
     /// this; the functions here never do.
@@ -244,7 +247,7 @@ pub struct Header {
     pub fill: u16,
     /// P, how many rates there are, from 1 to 16.
     pub rates: u16,
-    /// M, how many choices each unit has, from 1 to 31.
+    /// M, how many choices each unit has, from 1 to 1,000.
     pub choices: u16,
     /// The second bucket of a line that has two.
     pub second: Option<Bucket>,
@@ -282,7 +285,7 @@ impl Header {
 }
 
 /// The bytes of the largest job.
-const LARGEST_JOB: usize = 97_344;
+const LARGEST_JOB: usize = 3_074_112;
 
 /// How many buckets the line of a job has, if the job opens: the kind of its
 /// header says so.
@@ -309,6 +312,11 @@ pub struct Opened {
 }
 
 impl Opened {
+    /// How many bytes a plan has.
+    pub fn plan_bytes(self) -> usize {
+        Entry::BYTES * self.intervals
+    }
+
     /// How many numbers [`replay`] needs for the levels: for each interval one of
     /// the decoder and one of each bucket.
     pub fn level_numbers(self) -> usize {
@@ -351,6 +359,47 @@ impl Totals {
         let [distortion, source_grains, channel_grains, unused_grains, second] = values;
         let second_unused = (buckets == 2).then_some(second);
         Totals { distortion, source_grains, channel_grains, unused_grains, second_unused }
+    }
+}
+
+/// What a plan has for an interval.
+#[derive(Clone, Copy, Debug, PartialEq, Eq, Hash)]
+pub struct Entry {
+    /// The index of its rate.
+    pub rate: u8,
+    /// The index of its unit's choice; `None` where it decodes no unit.
+    pub choice: Option<u16>,
+}
+
+impl Entry {
+    /// How many bytes a plan has for each interval: the rate, then the choice as
+    /// two, the lower first, or [`NO_UNIT`].
+    pub const BYTES: usize = 3;
+
+    /// The entry as these bytes.
+    pub fn bytes(self) -> [u8; Entry::BYTES] {
+        let [low, high] = self.choice.unwrap_or(NO_UNIT).to_le_bytes();
+        [self.rate, low, high]
+    }
+
+    /// The entries interval by interval of a plan's bytes, as [`plan`] writes them.
+    ///
+    /// # Examples
+    ///
+    /// ```
+    /// use upload_planner::Entry;
+    ///
+    /// let plan: Vec<Entry> = Entry::each(&[4, 255, 255, 0, 255, 0, 1, 231, 3]).collect();
+    /// assert_eq!(plan[0], Entry { rate: 4, choice: None });
+    /// assert_eq!(plan[1], Entry { rate: 0, choice: Some(255) });
+    /// assert_eq!(plan[2], Entry { rate: 1, choice: Some(999) });
+    /// assert_eq!(plan[2].bytes(), [1, 231, 3]);
+    /// ```
+    pub fn each(entries: &[u8]) -> impl DoubleEndedIterator<Item = Entry> + ExactSizeIterator + '_ {
+        entries.chunks_exact(Entry::BYTES).map(|of| {
+            let choice = u16::from_le_bytes([of[1], of[2]]);
+            Entry { rate: of[0], choice: (choice != NO_UNIT).then_some(choice) }
+        })
     }
 }
 
@@ -492,8 +541,9 @@ pub fn calls(job: &[u8], calls: &[Call], answers: &mut [u8]) -> Result<PinTotals
 ///   bucket level l after interval t, pins held, or [`NEVER`]. With two buckets,
 ///   the second at level m, that is word ((t × (decoder size + 1) + b) ×
 ///   (bucket size + 1) + l) × (second size + 1) + m.
-/// - `entries`: 2 × T bytes are written, two for each interval: the index of
-///   its rate, then that of its unit's choice, or [`NO_UNIT`].
+/// - `entries`: 3 × T bytes are written, three for each interval: the index of
+///   its rate, then that of its unit's choice as two bytes, the lower first, or
+///   [`NO_UNIT`]. [`Entry::each`] names them.
 ///
 /// The plan has the least distortion of all that are admissible. Among several
 /// the first interval at which they differ decides: the smaller rate index,
@@ -558,6 +608,23 @@ pub fn replay(
 /// In this order: 1 to 5 for the job; 14; 12 where `sums` is too short.
 pub fn report(job: &[u8], entries: &[u8], sums: &mut [u32]) -> Result<(), Refusal> {
     checked(numbers::report(job, entries, sums))
+}
+
+/// Turns a stored plan of two bytes for each interval, as plans were while a job
+/// had at most 31 choices, into entries.
+///
+/// - `old`: 2 × T bytes, two for each interval: the index of its rate, then that of
+///   its unit's choice, or 255 for the first d.
+/// - `entries`: 3 × T bytes are written, as [`plan`] writes them. The rate and the
+///   choice of each interval are kept, and 255 becomes [`NO_UNIT`]; so they replay
+///   to the levels of the old plan.
+///
+/// # Errors
+///
+/// In this order: 1 to 5 for the job; 14 where it has more than 31 choices or `old`
+/// is anything else; 12 where `entries` is too short.
+pub fn turn(job: &[u8], old: &[u8], entries: &mut [u8]) -> Result<(), Refusal> {
+    checked(numbers::turn(job, old, entries))
 }
 
 fn met_with(answers: Vec<u8>) -> Vec<Result<(), Refusal>> {
@@ -625,7 +692,7 @@ pub fn called(job: &[u8], calls: &[Call]) -> Result<Called, Refusal> {
 pub struct BestPlan {
     /// What the plan comes to.
     pub totals: Totals,
-    /// Two bytes for each interval.
+    /// Three bytes for each interval, which [`Entry::each`] names.
     pub entries: Vec<u8>,
     /// What each call met with.
     pub answers: Vec<Result<(), Refusal>>,
@@ -643,7 +710,7 @@ pub fn best_plan(job: &[u8], calls: &[Call]) -> Result<BestPlan, Refusal> {
     let opened = open(job)?;
     let mut answers = vec![0; calls.len()];
     let mut table = vec![0; opened.table_words];
-    let mut entries = vec![0; 2 * opened.intervals];
+    let mut entries = vec![0; opened.plan_bytes()];
     let totals = plan(job, calls, &mut answers, &mut table, &mut entries)?;
     Ok(BestPlan { totals, entries, answers: met_with(answers), table })
 }
@@ -680,7 +747,7 @@ pub fn best_plan(job: &[u8], calls: &[Call]) -> Result<BestPlan, Refusal> {
 /// };
 /// let job = job_of(one)?;
 /// let best = best_plan(&job, &[])?;
-/// assert_eq!(best.entries, [0, 255, 2, 0, 1, 1]);
+/// assert_eq!(best.entries, [0, 255, 255, 2, 0, 0, 1, 1, 0]);
 ///
 /// let (levels, found) = replayed(&job, &[], &best.entries)?;
 /// assert_eq!(levels.len(), 3);
@@ -703,7 +770,7 @@ pub fn best_plan(job: &[u8], calls: &[Call]) -> Result<BestPlan, Refusal> {
 /// assert_eq!(levels, [Levels { decoder: 0, bucket: 0, second: Some(0) }]);
 /// let violation = Violation::SecondBucketOver;
 /// assert_eq!(found, Replayed::Violated { violation, interval: 2 });
-/// assert_eq!(best_plan(&job, &[])?.entries, [1, 255, 1, 0, 1, 1]);
+/// assert_eq!(best_plan(&job, &[])?.entries, [1, 255, 255, 1, 0, 0, 1, 1, 0]);
 /// # Ok::<(), Refusal>(())
 /// ```
 pub fn replayed(
@@ -719,6 +786,49 @@ pub fn replayed(
         Replayed::Violated { interval, .. } => interval - 1,
     };
     Ok((Levels::each(&levels, opened.buckets).take(held).collect(), found))
+}
+
+/// [`turn`] with a list of its own, as long as the job needs.
+///
+/// # Errors
+///
+/// In this order: 1 to 5 for the job; 14.
+///
+/// # Examples
+///
+/// The best plan of a job was stored while an entry had two bytes.
+///
+/// ```
+/// use upload_planner::{best_plan, turned, written, Entry, Header, Refusal};
+///
+/// let header = Header {
+///     units: 2,
+///     delay: 1,
+///     decoder: 4,
+///     bucket: 3,
+///     drain: 2,
+///     level: 0,
+///     fill: 0,
+///     rates: 3,
+///     choices: 2,
+///     second: None,
+/// };
+/// let job = written(&header, &[0, 2, 4], &[4, 2, 5, 2], &[10, 30, 12, 40])?;
+///
+/// let entries = turned(&job, &[0, 255, 2, 0, 1, 1])?;
+/// assert_eq!(entries, best_plan(&job, &[])?.entries);
+/// let plan: Vec<Entry> = Entry::each(&entries).collect();
+/// assert_eq!(plan[0], Entry { rate: 0, choice: None });
+/// assert_eq!(plan[1], Entry { rate: 2, choice: Some(0) });
+///
+/// // Entries of three bytes were no plan then.
+/// assert_eq!(turned(&job, &entries), Err(Refusal::NotAPlan));
+/// # Ok::<(), Refusal>(())
+/// ```
+pub fn turned(job: &[u8], old: &[u8]) -> Result<Vec<u8>, Refusal> {
+    let mut entries = vec![0; open(job)?.plan_bytes()];
+    turn(job, old, &mut entries)?;
+    Ok(entries)
 }
 
 /// Writes a job's bytes from its header and lists, and says how many they are:
@@ -785,14 +895,14 @@ pub fn write(
 /// let job = written(&header, &rates, &sizes, &distortions)?;
 /// let best = best_plan(&job, &[])?;
 /// assert_eq!(best.totals.distortion, 50);
-/// assert_eq!(best.entries, [0, 255, 2, 0, 1, 1]);
+/// assert_eq!(best.entries, [0, 255, 255, 2, 0, 0, 1, 1, 0]);
 ///
 /// // Unit 1 at its second choice is better than was thought.
 /// distortions[1] = 5;
 /// let job = written(&header, &rates, &sizes, &distortions)?;
 /// let best = best_plan(&job, &[])?;
 /// assert_eq!(best.totals.distortion, 45);
-/// assert_eq!(best.entries, [0, 255, 1, 1, 1, 1]);
+/// assert_eq!(best.entries, [0, 255, 255, 1, 1, 0, 1, 1, 0]);
 ///
 /// // A distortion is missing.
 /// assert_eq!(written(&header, &rates, &sizes, &distortions[..3]), Err(Refusal::Lengths));

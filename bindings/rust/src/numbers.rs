@@ -104,6 +104,15 @@ extern "C" {
         sums_len: usize,
     ) -> u32;
 
+    fn upload_turn(
+        job: *const u8,
+        job_len: usize,
+        old: *const u8,
+        old_len: usize,
+        entries: *mut u8,
+        entries_len: usize,
+    ) -> u32;
+
     fn upload_write(
         fields: *const u16,
         fields_len: usize,
@@ -120,7 +129,7 @@ extern "C" {
     ) -> u32;
 }
 
-// In all six: a slice's pointer is aligned, never null, and good for the
+// In all seven: a slice's pointer is aligned, never null, and good for the
 // slice's length; slices that are written overlap no other. That is all the
 // library asks, and it reads and writes nothing else.
 
@@ -206,6 +215,20 @@ pub fn report(job: &[u8], entries: &[u8], sums: &mut [u32]) -> u32 {
             entries.len(),
             sums.as_mut_ptr(),
             sums.len(),
+        )
+    }
+}
+
+/// Turns a stored plan of two bytes an interval into entries.
+pub fn turn(job: &[u8], old: &[u8], entries: &mut [u8]) -> u32 {
+    unsafe {
+        upload_turn(
+            job.as_ptr(),
+            job.len(),
+            old.as_ptr(),
+            old.len(),
+            entries.as_mut_ptr(),
+            entries.len(),
         )
     }
 }

@@ -3,13 +3,13 @@ use mathlib.Core.Path.{refl}
 use Rattle.trellis.specs.Table.{encode}
 use Rattle.base.specs.Evaluate as base
 use Rattle.model.specs.Evaluate.{evaluate}
-use Rattle.format.specs.Choices.{choice-of, choice-number}
+use Rattle.format.specs.Choices.{choice-under, choice-number}
 use Rattle.format.specs.Parser.{on-read, on-took, with-value}
 use Rattle.format.specs.Records.{kind-in, form-for, record-either, plain-form}
 use Rattle.format.specs.JobBytes.{computes, same-header}
 use Rattle.format.specs.JobA.{bytes-a}
 use Rattle.pinning.specs.PinSet.{lines, unpinned, fresh}
-use Rattle.pinning.specs.Check.{byte-fits, bytes-fit, same-totals, fits, accept, checked}
+use Rattle.pinning.specs.Check.{pin-fits, pins-fit, same-totals, fits, accept, checked}
 use Rattle.pinning.specs.Calls.{opened, open-call, refuse, take-in, with-pin, without-pin, call-tests, called, call-in, call, after, run}
 use Rattle.replaying.specs.Entries.{one-entry, entry-bytes}
 use Rattle.planning.specs.Words.{layer, layers, table-from}
@@ -19,5 +19,5 @@ use Rattle.calling.specs.Sessions as s
 use Rattle.calling.specs.Cases.{records, record-replies, input-reply, inputs, input-replies, session-reply, sessions, session-replies, calls-reply, calls-replies, Cases}
 
 pub cases : Cases
-unfolding base.evaluate evaluate computes on-read on-took with-value kind-in form-for record-either plain-form choice-of choice-number same-header bytes-a lines unpinned fresh byte-fits bytes-fit same-totals fits accept checked opened open-call refuse take-in with-pin without-pin call-tests called call-in call after run one-entry entry-bytes encode layer layers table-from c.refuse c.searched c.search-in c.plan-tests c.plan-in c.plan-call pin-form lift-form call-of command follow commands-call kind-of call-at calls-from calls-of kind-fits calls-tests s.made s.answer-number s.numbers s.answers-tests s.calls-call s.refuse s.session-tests s.planned-after s.session-call s.input-call records record-replies input-reply inputs input-replies session-reply sessions session-replies calls-reply calls-replies
+unfolding base.evaluate evaluate computes on-read on-took with-value kind-in form-for record-either plain-form choice-under choice-number same-header bytes-a lines unpinned fresh pin-fits pins-fit same-totals fits accept checked opened open-call refuse take-in with-pin without-pin call-tests called call-in call after run one-entry entry-bytes encode layer layers table-from c.refuse c.searched c.search-in c.plan-tests c.plan-in c.plan-call pin-form lift-form call-of command follow commands-call kind-of call-at calls-from calls-of kind-fits calls-tests s.made s.answer-number s.numbers s.answers-tests s.calls-call s.refuse s.session-tests s.planned-after s.session-call s.input-call records record-replies input-reply inputs input-replies session-reply sessions session-replies calls-reply calls-replies
 cases = record { commands = refl; inputs-are = refl; sessions-are = refl; calls-are = refl }

@@ -46,11 +46,11 @@ record-replies =
     ∷ P.refused 2
     ∷ []
 
--- Job A with commands behind it, as the program reads it; the table has 80 words and there are 6 bytes for entries
+-- Job A with commands behind it, as the program reads it; the table has 80 words and there are 9 bytes for entries
 unfoldable pub input-reply : List ℕ → Reply
 input-reply commands = record {
-  answer = input-call (bytes-a ++ commands) (replicate 80 9) (replicate 6 7) .answer;
-  entries = input-call (bytes-a ++ commands) (replicate 80 9) (replicate 6 7) .entries;
+  answer = input-call (bytes-a ++ commands) (replicate 80 9) (replicate 9 7) .answer;
+  entries = input-call (bytes-a ++ commands) (replicate 80 9) (replicate 9 7) .entries;
 }
 
 abbrev pub pin-record : ℕ → ℕ → List ℕ
@@ -76,16 +76,16 @@ inputs =
 
 unfoldable pub input-replies : List Reply
 input-replies =
-    says 50 6 6 2 (0 ∷ 255 ∷ 2 ∷ 0 ∷ 1 ∷ 1 ∷ [])
-    ∷ says 50 6 6 2 (0 ∷ 255 ∷ 2 ∷ 0 ∷ 1 ∷ 1 ∷ [])
-    ∷ says 50 6 6 2 (0 ∷ 255 ∷ 2 ∷ 0 ∷ 1 ∷ 1 ∷ [])
-    ∷ says 70 4 4 2 (0 ∷ 255 ∷ 1 ∷ 1 ∷ 1 ∷ 1 ∷ [])
-    ∷ says 50 6 6 2 (0 ∷ 255 ∷ 2 ∷ 0 ∷ 1 ∷ 1 ∷ [])
-    ∷ refuses 13 (replicate 6 7)
-    ∷ refuses 9 (replicate 6 7)
-    ∷ refuses 10 (replicate 6 7)
-    ∷ refuses 7 (replicate 6 7)
-    ∷ refuses 1 (replicate 6 7)
+    says 50 6 6 2 (0 ∷ 255 ∷ 255 ∷ 2 ∷ 0 ∷ 0 ∷ 1 ∷ 1 ∷ 0 ∷ [])
+    ∷ says 50 6 6 2 (0 ∷ 255 ∷ 255 ∷ 2 ∷ 0 ∷ 0 ∷ 1 ∷ 1 ∷ 0 ∷ [])
+    ∷ says 50 6 6 2 (0 ∷ 255 ∷ 255 ∷ 2 ∷ 0 ∷ 0 ∷ 1 ∷ 1 ∷ 0 ∷ [])
+    ∷ says 70 4 4 2 (0 ∷ 255 ∷ 255 ∷ 1 ∷ 1 ∷ 0 ∷ 1 ∷ 1 ∷ 0 ∷ [])
+    ∷ says 50 6 6 2 (0 ∷ 255 ∷ 255 ∷ 2 ∷ 0 ∷ 0 ∷ 1 ∷ 1 ∷ 0 ∷ [])
+    ∷ refuses 13 (replicate 9 7)
+    ∷ refuses 9 (replicate 9 7)
+    ∷ refuses 10 (replicate 9 7)
+    ∷ refuses 7 (replicate 9 7)
+    ∷ refuses 1 (replicate 9 7)
     ∷ []
 
 -- Job A with calls as numbers: their numbers, then what planning answers
@@ -95,8 +95,8 @@ pub record Answers : Type 0 where
 
 unfoldable pub session-reply : List ℕ → Answers
 session-reply calls = record {
-  numbers = session-call bytes-a calls (replicate 4 5) (replicate 80 9) (replicate 6 7) .answers;
-  answer = session-call bytes-a calls (replicate 4 5) (replicate 80 9) (replicate 6 7) .planned .answer;
+  numbers = session-call bytes-a calls (replicate 4 5) (replicate 80 9) (replicate 9 7) .answers;
+  answer = session-call bytes-a calls (replicate 4 5) (replicate 80 9) (replicate 9 7) .planned .answer;
 }
 
 unfoldable pub sessions : List (List ℕ)

@@ -145,7 +145,7 @@ CallSessions = (b calls answers : List ℕ) → Looks (calls-call b calls answer
 
 -- demands 1 and 3 of a session with planning; no call is made before all of this is looked at
 abbrev pub Sessions : Type 0
-Sessions = (b calls answers table entries : List ℕ) → Looks (session-call b calls answers table entries) (refuse answers table entries) (parse b) (λ j. condition 2 (AllKinds calls) ∷ condition 1 (Whole calls) ∷ condition 11 (words j ≤ length table) ∷ condition 12 (length calls / 3 ≤ length answers) ∷ condition 12 (2 * intervals j ≤ length entries) ∷ []) (λ j. SessionClaim j calls answers table entries (session-call b calls answers table entries))
+Sessions = (b calls answers table entries : List ℕ) → Looks (session-call b calls answers table entries) (refuse answers table entries) (parse b) (λ j. condition 2 (AllKinds calls) ∷ condition 1 (Whole calls) ∷ condition 11 (words j ≤ length table) ∷ condition 12 (length calls / 3 ≤ length answers) ∷ condition 12 (3 * intervals j ≤ length entries) ∷ []) (λ j. SessionClaim j calls answers table entries (session-call b calls answers table entries))
 
 abbrev pub SessionKeeps : Type 0
 SessionKeeps = (b calls answers table entries : List ℕ) → SessionKeeping answers table entries (session-call b calls answers table entries)
@@ -159,7 +159,7 @@ ReplaySessionKeeps = (b calls entries levels : List ℕ) → lent.Keeping levels
 
 -- what the program reads
 abbrev pub Inputs : Type 0
-Inputs = (b : List ℕ) (j : Job) (k : ℕ) (table entries : List ℕ) → parse b ≡ P.took j k → length b ≤ 32768 → commands-call b .refused ≡ none → words j ≤ length table → 2 * intervals j ≤ length entries → InputClaim b j k table entries
+Inputs = (b : List ℕ) (j : Job) (k : ℕ) (table entries : List ℕ) → parse b ≡ P.took j k → length b ≤ 32768 → commands-call b .refused ≡ none → words j ≤ length table → 3 * intervals j ≤ length entries → InputClaim b j k table entries
 
 abbrev pub InputRefusals : Type 0
 InputRefusals = (b table entries : List ℕ) → InputOrder b table entries × Keeping table entries (input-call b table entries)

@@ -9,20 +9,20 @@ use borrow.Author.Tests.{lt-ltb, le-ltb, eq-eqb, ne-eqb}
 use Rattle.base.specs.If.{if_then_else_}
 use Rattle.format.specs.Choices.{no-choice}
 use Rattle.format.specs.JobBytes.{Header}
-use Rattle.replaying.specs.Entries.{entry-size, entry-fits, entries-fit, shaped}
+use Rattle.replaying.specs.Entries.{entry-size, rate-field, choice-field, fits-under, entries-fit, shaped}
 
 module _ (h : Header) where
-  module _ (i rate mark : ℕ) where
-    pub entry-no-rate : h .rates ≤ rate → false ≡ entry-fits h i rate mark
-    unfolding entry-fits if_then_else_
+  module _ (mark i rate x : ℕ) where
+    pub entry-no-rate : h .rates ≤ rate → false ≡ fits-under mark h i rate x
+    unfolding fits-under if_then_else_
     entry-no-rate l = rw (le-ltb rate (h .rates) l)
 
-    pub entry-waits : rate < h .rates → i < h .delay → eqb mark no-choice ≡ entry-fits h i rate mark
-    unfolding entry-fits if_then_else_
+    pub entry-waits : rate < h .rates → i < h .delay → eqb x mark ≡ fits-under mark h i rate x
+    unfolding fits-under if_then_else_
     entry-waits l k = rw (lt-ltb rate (h .rates) l, lt-ltb i (h .delay) k)
 
-    pub entry-decodes : rate < h .rates → h .delay ≤ i → ltb mark (h .choices) ≡ entry-fits h i rate mark
-    unfolding entry-fits if_then_else_
+    pub entry-decodes : rate < h .rates → h .delay ≤ i → ltb x (h .choices) ≡ fits-under mark h i rate x
+    unfolding fits-under if_then_else_
     entry-decodes l k = rw (lt-ltb rate (h .rates) l, le-ltb i (h .delay) k)
 
   module _ (b : List ℕ) where
@@ -30,6 +30,6 @@ module _ (h : Header) where
     unfolding shaped if_then_else_
     shaped-not-long f = rw (ne-eqb _ _ f)
 
-    pub shaped-by-entries : length b ≡ entry-size * (h .units + h .delay) → (t : Bool) → t ≡ entries-fit h b (h .units + h .delay) → t ≡ shaped h b
+    pub shaped-by-entries : length b ≡ entry-size * (h .units + h .delay) → (t : Bool) → t ≡ entries-fit no-choice h (rate-field b) (choice-field b) (h .units + h .delay) → t ≡ shaped h b
     unfolding shaped if_then_else_
     shaped-by-entries e t q = rw (eq-eqb _ _ e) q

@@ -1,15 +1,15 @@
-// A plan as bytes: for each interval an entry, the rate index and the choice index, which is the mark where no unit is decoded (document 01, "Levels, interval by interval").
+// A plan as bytes: for each interval an entry, a byte for the rate index and two for the choice index, which is the mark where no unit is decoded (document 01, "Levels, interval by interval"; document 02, E6).
 pub mod refusal;
 
 ghost use mathlib.Core.Path.{_≡_};
 ghost use Prim.Native.Nat.{_+_, _*_, _<_, _≤_};
 ghost use lib.ListN.{length};
-ghost use Rattle.job.specs.Answers.{plain};
-ghost use Rattle.replaying.specs.Entries.{entry-size, entry-fits, shaped};
+ghost use Rattle.header.specs.Answers.{plain};
+ghost use Rattle.replaying.specs.Entries.{entry-size, fits-under, shaped};
 ghost use Rattle.entry.specs.Answers.{entry-numbers, EntryRead};
 ghost use Rattle.base.specs.Lent.{over-at};
-use job::Choice;
-use job::Header;
+use header::Choice;
+use header::Header;
 
 // The rate index, and the choice index or the mark.
 pub struct Entry {
@@ -18,7 +18,7 @@ pub struct Entry {
 }
 
 // How many bytes an entry takes.
-pub const SIZE: usize = 2;
+pub const SIZE: usize = 3;
 
 // T, the number of intervals.
 pub fn intervals(header: Header) -> usize
@@ -27,17 +27,17 @@ pub fn intervals(header: Header) -> usize
     header.units as usize + header.delay as usize
 }
 
-// Whether an entry is in range: a rate that there is, and up to the delay no choice, after it one that there is.
-fn entry_fits(header: Header, place: usize, rate: u8, choice: Choice) -> bool
-    ensures { λ r. ⌜ r ≡ entry-fits (plain header) place rate choice ⌝ }
+// Whether an entry is in range: a rate that there is, and up to the delay the mark, after it a choice that there is. Plans of two bytes an entry had another mark.
+pub fn entry_fits(mark: Choice, header: Header, place: usize, rate: u8, choice: Choice) -> bool
+    ensures { λ r. ⌜ r ≡ fits-under mark (plain header) place rate choice ⌝ }
 {
     if header.rates <= rate as u16 {
         return false;
     }
     if place < header.delay as usize {
-        return choice == job::NO_CHOICE;
+        return choice == mark;
     }
-    (choice as u16) < header.choices
+    choice < header.choices
 }
 
 // The entry in this place.
@@ -49,7 +49,7 @@ pub fn entry_at(entries: &[u8], place: usize) -> Entry
     let next = at + 1;
     Entry {
         rate: entries[at],
-        choice: entries[next],
+        choice: fields::u16_at(entries, next),
     }
 }
 
@@ -61,7 +61,7 @@ pub fn put_entry(entries: &mut [u8], place: usize, rate: u8, choice: Choice)
     let at = SIZE * place;
     let next = at + 1;
     entries[at] = rate;
-    entries[next] = choice;
+    fields::put16(entries, next, choice);
 }
 
 // Whether the bytes are a plan in shape: refusal 14 where they are not.
@@ -74,7 +74,7 @@ pub fn shaped(header: Header, entries: &[u8]) -> bool
     }
     for place in 0..total {
         let entry = entry_at(entries, place);
-        if !entry_fits(header, place, entry.rate, entry.choice) {
+        if !entry_fits(header::NO_CHOICE, header, place, entry.rate, entry.choice) {
             return false;
         }
     }

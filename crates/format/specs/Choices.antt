@@ -6,13 +6,17 @@ use Rattle.base.specs.If.{if_then_else_}
 
 -- the mark, and how many bytes a choice takes in a plan
 abbrev pub no-choice : ℕ
-no-choice = 255
+no-choice = 65535
 
 abbrev pub choice-width : ℕ
-choice-width = 1
+choice-width = 2
 
-unfoldable pub choice-of : ℕ → Option ℕ
-choice-of x = if eqb x no-choice then none else some x
+-- the choice that a number stands for, under a mark
+unfoldable pub choice-under : ℕ → ℕ → Option ℕ
+choice-under mark x = if eqb x mark then none else some x
+
+abbrev pub choice-of : ℕ → Option ℕ
+choice-of = choice-under no-choice
 
 unfoldable pub choice-number : Option ℕ → ℕ
 choice-number none = no-choice

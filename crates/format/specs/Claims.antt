@@ -56,7 +56,7 @@ pub record InLimits (j : Job) : Type 0 where
   pub drains : (i : ℕ) → i < length (j .line .buckets) → bucketAt (j .line .buckets) i .drain ≤ 4095
   pub fills : (i : ℕ) → i < length (j .line .buckets) → getD (j .start .buckets) i 0 ≤ bucketAt (j .line .buckets) i .size
   pub rates : (1 ≤ length (j .line .rates)) × (length (j .line .rates) ≤ 16)
-  pub choices : (1 ≤ j .choices) × (j .choices ≤ 31)
+  pub choices : (1 ≤ j .choices) × (j .choices ≤ 1000)
   pub rate : (y : ℕ) → y < length (j .line .rates) → getD (j .line .rates) y 0 ≤ 4095
   pub rise : (y : ℕ) → y + 1 < length (j .line .rates) → getD (j .line .rates) y 0 < getD (j .line .rates) (suc y) 0
   pub codings : (i : ℕ) → i < length (j .units) → length (getD (j .units) i []) ≡ j .choices
@@ -143,10 +143,10 @@ pub record OpeningOrder (b : List ℕ) : Type 0 where
 abbrev pub Refusals : Type 0
 Refusals = (b : List ℕ) → RecordOrders b × OpeningOrder b
 
--- a choice as a number: 255 stands for none, and every other number for itself
+-- a choice as a number: 65,535 stands for none, and every other number for itself
 pub record ChoiceNumbers (x : ℕ) : Type 0 where
-  pub mark : x ≡ 255 → choice-of x ≡ none
-  pub choice : (x ≡ 255 → ⊥) → choice-of x ≡ some x
+  pub mark : x ≡ 65535 → choice-of x ≡ none
+  pub choice : (x ≡ 65535 → ⊥) → choice-of x ≡ some x
 
 abbrev pub Marked : Type 0
 Marked = (x : ℕ) → ChoiceNumbers x

@@ -97,7 +97,7 @@ header-limits h =
     ∷ limit 3 0 255 (h .decoder)
     ∷ limit 3 0 (h .decoder) (h .level)
     ∷ limit 3 1 16 (h .rates)
-    ∷ limit 3 1 31 (h .choices)
+    ∷ limit 3 1 1000 (h .choices)
     ∷ limit 3 1 2 (length (h .buckets))
     ∷ bucket-limits largest-sizes (h .buckets)
 

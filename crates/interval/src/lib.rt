@@ -6,10 +6,10 @@ ghost use Prim.Native.Nat.{_+_, _<_};
 ghost use Rattle.base.specs.If.{if_then_else_};
 ghost use Rattle.model.specs.Step.{decoder-step, bucket-step, pin-held, outcome-of};
 ghost use Rattle.format.specs.Choices.{choice-of};
-ghost use Rattle.job.specs.Answers.{plain};
+ghost use Rattle.header.specs.Answers.{plain};
 ghost use Rattle.interval.specs.Answers.{decoded, drained, levels-of, start-of, outcome-is, line-of, totals-of, no-totals, added, OfHeader, SecondStep, Room};
-use job::Choice;
-use job::Header;
+use header::Choice;
+use header::Header;
 
 // Distortion, source size (the sum of R), channel size (the sum of C) and the drain that each bucket left unused: of two, where the line has a second bucket (document 02, E5).
 pub struct Totals {
@@ -160,7 +160,7 @@ pub fn bucket_step(drain: u16, level: u16, sent: u16) -> Drained
 pub fn pin_holds(pin: Choice, choice: Choice) -> bool
     ensures { λ r. ⌜ r ≡ pin-held (choice-of pin) (choice-of choice) ⌝ }
 {
-    if pin == job::NO_CHOICE {
+    if pin == header::NO_CHOICE {
         return true;
     }
     choice == pin

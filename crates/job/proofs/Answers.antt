@@ -5,10 +5,11 @@ use native.Mathlib.Omega.{arith}
 use Rattle.model.specs.Job.{Job}
 use Rattle.format.specs.Parser.{Result, refused, took, with-value}
 use Rattle.format.specs.JobBytes.{Header, header-in}
-use Rattle.job.specs.declared.Header as code
+use Rattle.header.specs.declared.Header as code
 use Rattle.job.specs.declared.Reading.{Reading}
 use Rattle.job.specs.declared.Reading.the-variants as r
-use Rattle.job.specs.Answers.{plain, reading}
+use Rattle.header.specs.Answers.{plain}
+use Rattle.job.specs.Answers.{reading}
 
 -- a job with this header
 pub record Held (p : Result Job) (h : Header) (k : ℕ) : Type 0 where

@@ -1,6 +1,4 @@
 -- Laws that belong to no one function.
-pub mod Verdicts
-pub mod Fields
 pub mod Records
 pub mod Loops
 pub mod Told

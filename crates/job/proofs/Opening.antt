@@ -22,12 +22,13 @@ use Rattle.format.proofs.Places.{header-count}
 use Rattle.format.proofs.Records.{total-same, total-entries}
 use Rattle.format.proofs.Parsing.{RecordTook, has-refused, bind-refused, bind-on, record-is, record-took, fields-length, many-refused, many-length}
 use Rattle.format.proofs.Header.{header-back}
-use Rattle.job.specs.declared.Verdict.{Verdict}
-use Rattle.job.specs.declared.Verdict.the-variants as v
+use Rattle.header.specs.declared.Verdict.{Verdict}
+use Rattle.header.specs.declared.Verdict.the-variants as v
 use Rattle.job.specs.declared.Due.{Due}
 use Rattle.job.specs.declared.Due.the-variants as d
 use Rattle.job.specs.declared.Reading.the-variants as r
-use Rattle.job.specs.Answers.{extra, verdict, form-of, reading, answering}
+use Rattle.header.specs.Answers.{extra, verdict}
+use Rattle.job.specs.Answers.{form-of, reading, answering}
 use Rattle.job.proofs.Records.{rest-of}
 use Rattle.job.proofs.Told.{told-refused, told-took}
 

@@ -16,10 +16,11 @@ use Rattle.format.specs.Parser.{Result, refused, took, further, onward, _>>=_, 
 use Rattle.format.specs.Records.{Form, block, head-widths, head-limits, record-due}
 use Rattle.format.proofs.Limits.{not-some, is-kept, all-kept}
 use Rattle.format.proofs.Parsing.{has-taken, block-is}
-use Rattle.job.specs.declared.Verdict.{Verdict}
-use Rattle.job.specs.declared.Verdict.the-variants.{Fits, Refused}
-use Rattle.job.specs.Answers.{verdict, first-of, shape}
-use Rattle.job.proofs.Verdicts.{refuses}
+use Rattle.header.specs.declared.Verdict.{Verdict}
+use Rattle.header.specs.declared.Verdict.the-variants.{Fits, Refused}
+use Rattle.header.specs.Answers.{verdict}
+use Rattle.job.specs.Answers.{first-of, shape}
+use Rattle.header.proofs.Verdicts.{refuses}
 
 -- the rest of a slice, as the borrow checker has it
 pub rest-of : (n : ℕ) (l : List ℕ) → take (length l - n) (drop n l) ≡ drop n l

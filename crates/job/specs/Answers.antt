@@ -1,58 +1,25 @@
 -- What the reader's structs and answers mean in the terms of the crates below, case by case.
 use Prim.Native.Nat.{ℕ, _≤_}
-use mathlib.Core.Bool.{Bool}
 use mathlib.Core.Option.{Option, none, some}
-use mathlib.Core.List.{List, _∷_}
+use mathlib.Core.List.{List}
 use lib.Dec.{ltb}
 use lib.ListN.{length, drop}
-use Rattle.base.specs.If.{if_then_else_, one-if}
-use Rattle.model.specs.Job as model
+use Rattle.base.specs.If.{if_then_else_}
 use Rattle.format.specs.Fields.{total}
 use Rattle.format.specs.Parser.{Result, refused, took, refusal-of}
 use Rattle.format.specs.Records.{Form, head-widths, head-limits, block, plain-form}
 use Rattle.format.specs.JobBytes as format
 use Rattle.format.specs.JobBytes.{header-form, rates-form, unit-form}
-use Rattle.job.specs.declared.Bucket.{Bucket}
-use Rattle.job.specs.declared.Header.{Header}
-use Rattle.job.specs.declared.Coding.{Coding}
-use Rattle.job.specs.declared.Verdict.{Verdict}
-use Rattle.job.specs.declared.Verdict.the-variants as v
+use Rattle.header.specs.Answers.{plain}
 use Rattle.job.specs.declared.Due.{Due}
 use Rattle.job.specs.declared.Due.the-variants as d
 use Rattle.job.specs.declared.Reading.{Reading}
 use Rattle.job.specs.declared.Reading.the-variants as r
 
--- how many buckets a header has beside the first
-unfoldable pub extra : Bool → ℕ
-extra two = if two then 1 else 0
-
--- the header that a struct holds, and the coding
-unfoldable pub policed-of : Bucket → format.Policed
-policed-of k = record { size = k .size; drain = k .drain; fill = k .fill }
-
-unfoldable pub plain : Header → format.Header
-plain h = record {
-  units = h .units;
-  delay = h .delay;
-  decoder = h .decoder;
-  level = h .level;
-  buckets = policed-of (h .first) ∷ one-if (h .two) (policed-of (h .second));
-  rates = h .rates;
-  choices = h .choices;
-}
-
-unfoldable pub coding-of : Coding → model.Coding
-coding-of c = record { size = c .size; distortion = c .distortion }
-
 -- the answer of opening, in document 01's terms: the refusal's number, or the header and how many bytes the job took
 unfoldable pub reading : Reading → Result format.Header
 reading (r.Refused n) = refused n
 reading (r.Read h k) = took (plain h) k
-
--- the refusal's number, if there is one
-unfoldable pub verdict : Verdict → Option ℕ
-verdict v.Fits = none
-verdict (v.Refused n) = some n
 
 -- the record that is due
 unfoldable pub form-of : Due → Form

@@ -24,7 +24,7 @@ use Rattle.format.proofs.Parsing.{not-took}
 use Rattle.format.proofs.Places.{well-read, looks-up}
 use Rattle.format.specs.Choices.{no-choice, choice-of}
 use Rattle.pinning.specs.PinSet.{PinSet, lines}
-use Rattle.pinning.specs.Check.{Matches, bytes-fit, same-totals, fits, codings-in, accept, checked}
+use Rattle.pinning.specs.Check.{Matches, pins-fit, same-totals, fits, codings-in, accept, checked}
 use Rattle.format.proofs.Choices.{of-mark, number-some}
 use Rattle.pinning.proofs.Lines.{lines-at}
 use Rattle.pinning.proofs.Checks.{byte-kept, checks}
@@ -48,11 +48,11 @@ module _ (codings : ℕ → ℕ → Coding) (h : Header) (s : PinSet) where
   unfolding fits if_then_else_
   fits-not-header e = rw e
 
-  pub fits-not-bytes : same-header (s .header) h ≡ true → bytes-fit h (s .pins) 512 ≡ false → false ≡ fits codings h s
+  pub fits-not-bytes : same-header (s .header) h ≡ true → pins-fit h (s .pins) 512 ≡ false → false ≡ fits codings h s
   unfolding fits if_then_else_
   fits-not-bytes e f = rw (e, f)
 
-  pub fits-by-totals : same-header (s .header) h ≡ true → bytes-fit h (s .pins) 512 ≡ true → same-totals (s .totals) (totals-to codings (lines (h .units) (s .pins)) (h .units)) ≡ fits codings h s
+  pub fits-by-totals : same-header (s .header) h ≡ true → pins-fit h (s .pins) 512 ≡ true → same-totals (s .totals) (totals-to codings (lines (h .units) (s .pins)) (h .units)) ≡ fits codings h s
   unfolding fits if_then_else_
   fits-by-totals e f = rw (e, f)
 
@@ -95,8 +95,8 @@ module _ (b : List ℕ) (j : Job) (k : ℕ) (parsed : parse b ≡ took j k) wher
       go false e = not-took (sym (checked-six s e) ∙ q)
 
   module _ (s : PinSet) (size : length (s .pins) ≡ 512) where
-    totals-agree-in : bytes-fit (header-in j) (s .pins) 512 ≡ true → totals-to (codings-in b (header-in j)) (lines (length (j .units)) (s .pins)) (length (j .units)) ≡ totals-to (codingAt j) (lines (length (j .units)) (s .pins)) (length (j .units))
-    unfolding header-in bytes-fit
+    totals-agree-in : pins-fit (header-in j) (s .pins) 512 ≡ true → totals-to (codings-in b (header-in j)) (lines (length (j .units)) (s .pins)) (length (j .units)) ≡ totals-to (codingAt j) (lines (length (j .units)) (s .pins)) (length (j .units))
+    unfolding header-in pins-fit
     totals-agree-in f =
         totals-agree (codings-in b (header-in j)) (codingAt j) (lines (length (j .units)) (s .pins)) (length (j .units))
         (λ i x l e.
@@ -110,9 +110,9 @@ module _ (b : List ℕ) (j : Job) (k : ℕ) (parsed : parse b ≡ took j k) wher
 
     pub fits-agree : fits (codings-in b (header-in j)) (header-in j) s ≡ fits (codingAt j) (header-in j) s
     unfolding fits if_then_else_ header-in
-    fits-agree = go (same-header (s .header) (header-in j)) (bytes-fit (header-in j) (s .pins) 512) refl
+    fits-agree = go (same-header (s .header) (header-in j)) (pins-fit (header-in j) (s .pins) 512) refl
       where
-        go : (t f : Bool) → bytes-fit (header-in j) (s .pins) 512 ≡ f → (if t then if f then same-totals (s .totals) (totals-to (codings-in b (header-in j)) (lines (length (j .units)) (s .pins)) (length (j .units))) else false else false) ≡ (if t then if f then same-totals (s .totals) (totals-to (codingAt j) (lines (length (j .units)) (s .pins)) (length (j .units))) else false else false)
+        go : (t f : Bool) → pins-fit (header-in j) (s .pins) 512 ≡ f → (if t then if f then same-totals (s .totals) (totals-to (codings-in b (header-in j)) (lines (length (j .units)) (s .pins)) (length (j .units))) else false else false) ≡ (if t then if f then same-totals (s .totals) (totals-to (codingAt j) (lines (length (j .units)) (s .pins)) (length (j .units))) else false else false)
         go false f e = refl
         go true false e = refl
         go true true e = ap (same-totals (s .totals)) (totals-agree-in e)

@@ -17,20 +17,20 @@ use Rattle.model.proofs.PinTotals.{totals-same}
 use Rattle.format.specs.JobBytes.{Header, header-in, same-header}
 use Rattle.format.specs.Choices.{no-choice}
 use Rattle.pinning.specs.PinSet.{PinSet}
-use Rattle.pinning.specs.Check.{Matches, byte-fits, bytes-fit, same-totals, fits}
+use Rattle.pinning.specs.Check.{Matches, pin-fits, pins-fit, same-totals, fits}
 use Rattle.pinning.specs.Claims.{Checks}
 use Rattle.format.proofs.Header.{same-is, is-same}
 
 module _ (h : Header) where
-  pub byte-kept : (i x : ℕ) → byte-fits h i x ≡ true → (x ≡ no-choice) ⊎ ((i < h .units) × (x < h .choices))
-  unfolding byte-fits
+  pub byte-kept : (i x : ℕ) → pin-fits h i x ≡ true → (x ≡ no-choice) ⊎ ((i < h .units) × (x < h .choices))
+  unfolding pin-fits
   byte-kept i x =
       branch (λ (t : Bool). t ≡ true → (x ≡ no-choice) ⊎ ((i < h .units) × (x < h .choices))) (eqb x no-choice)
       (λ q e. inl (eqb-true x no-choice q))
       (λ q e. let p = both-true _ _ e in inr (ltb-true i (h .units) (p .0), ltb-true x (h .choices) (p .1)))
 
-  kept-byte : (i x : ℕ) → (x ≡ no-choice) ⊎ ((i < h .units) × (x < h .choices)) → byte-fits h i x ≡ true
-  unfolding byte-fits if_then_else_
+  kept-byte : (i x : ℕ) → (x ≡ no-choice) ⊎ ((i < h .units) × (x < h .choices)) → pin-fits h i x ≡ true
+  unfolding pin-fits if_then_else_
   kept-byte i x (inl e) = rw (eq-eqb x no-choice e)
   kept-byte i x (inr p) =
       branch (λ (t : Bool). t ≡ true) (eqb x no-choice) (λ q. refl)
@@ -52,10 +52,10 @@ same-self a b e = rw e (true-both _ _ (eq-eqb (b .count) (b .count) refl) (true-
 
 module _ (j : Job) (s : PinSet) (few : length (j .units) ≤ 512) where
   fits-matches : fits (codingAt j) (header-in j) s ≡ true → Matches j s
-  unfolding fits bytes-fit header-in pin-totals
+  unfolding fits pins-fit header-in pin-totals
   fits-matches e =
       let p = both-true (same-header (s .header) (header-in j)) _ e in
-      let q = both-true (bytes-fit (header-in j) (s .pins) 512) _ (p .1) in
+      let q = both-true (pins-fit (header-in j) (s .pins) 512) _ (p .1) in
       record {
         header = same-is (s .header) (header-in j) (p .0);
         pins = λ i l. go i (byte-kept (header-in j) i (getD (s .pins) i 0) (all-each _ 512 (q .0) i (omega arith)));
@@ -72,7 +72,7 @@ module _ (j : Job) (s : PinSet) (few : length (j .units) ≤ 512) where
       past i l (inr h) = absurd (omega arith)
 
   matches-fits : Matches j s → fits (codingAt j) (header-in j) s ≡ true
-  unfolding fits bytes-fit header-in pin-totals
+  unfolding fits pins-fit header-in pin-totals
   matches-fits m =
       true-both _ _ (is-same (s .header) (header-in j) (m .header))
       (true-both _ _ (each-all _ 512 (λ i l. kept-byte (header-in j) i (getD (s .pins) i 0) (kept i l (decLt i (length (j .units))))))

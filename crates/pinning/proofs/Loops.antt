@@ -13,21 +13,21 @@ use Rattle.model.specs.Pins.{PinTotals, with-line, totals-to}
 use Rattle.format.specs.JobBytes.{Header}
 use Rattle.format.specs.Choices.{no-choice, choice-of}
 use Rattle.pinning.specs.PinSet.{lines}
-use Rattle.pinning.specs.Check.{byte-fits}
+use Rattle.pinning.specs.Check.{pin-fits}
 use Rattle.pinning.proofs.Lines.{lines-at}
 
 module _ (h : Header) where
   -- a byte, test by test
-  pub fits-none : (i x : ℕ) → x ≡ no-choice → true ≡ byte-fits h i x
-  unfolding byte-fits if_then_else_
+  pub fits-none : (i x : ℕ) → x ≡ no-choice → true ≡ pin-fits h i x
+  unfolding pin-fits if_then_else_
   fits-none i x e = rw (eq-eqb x no-choice e)
 
-  pub fits-below : (i x : ℕ) → (x ≡ no-choice → ⊥) → i < h .units → ltb x (h .choices) ≡ byte-fits h i x
-  unfolding byte-fits if_then_else_
+  pub fits-below : (i x : ℕ) → (x ≡ no-choice → ⊥) → i < h .units → ltb x (h .choices) ≡ pin-fits h i x
+  unfolding pin-fits if_then_else_
   fits-below i x e l = rw (ne-eqb x no-choice e, lt-ltb i (h .units) l)
 
-  pub fits-past : (i x : ℕ) → (x ≡ no-choice → ⊥) → h .units ≤ i → false ≡ byte-fits h i x
-  unfolding byte-fits if_then_else_
+  pub fits-past : (i x : ℕ) → (x ≡ no-choice → ⊥) → h .units ≤ i → false ≡ pin-fits h i x
+  unfolding pin-fits if_then_else_
   fits-past i x e l = rw (ne-eqb x no-choice e, le-ltb i (h .units) l)
 
 -- one line more

@@ -1,4 +1,4 @@
--- The check of a set against a job, refusal 6: "header differs; a pin byte is neither 255 nor below M; one past N is not 255; a total is not the sum over the pins".
+-- The check of a set against a job, refusal 6: "header differs; a pin byte is neither the mark nor below M; one past N is not the mark; a total is not the sum over the pins".
 use Prim.Native.Nat.{ℕ, suc, _<_, _≤_}
 use mathlib.Core.Path.{_≡_}
 use mathlib.Core.Logic.{_⊎_}
@@ -19,17 +19,17 @@ use Rattle.pinning.specs.PinSet.{PinSet, lines}
 -- in the document's words
 pub record Matches (j : Job) (s : PinSet) : Type 0 where
   pub header : s .header ≡ header-in j
-  pub pins : (i : ℕ) → i < length (j .units) → (getD (s .pins) i 0 ≡ 255) ⊎ (getD (s .pins) i 0 < j .choices)
-  pub past : (i : ℕ) → length (j .units) ≤ i → i < 512 → getD (s .pins) i 0 ≡ 255
+  pub pins : (i : ℕ) → i < length (j .units) → (getD (s .pins) i 0 ≡ 65535) ⊎ (getD (s .pins) i 0 < j .choices)
+  pub past : (i : ℕ) → length (j .units) ≤ i → i < 512 → getD (s .pins) i 0 ≡ 65535
   pub totals : s .totals ≡ pin-totals j (lines (length (j .units)) (s .pins))
 
--- the byte in place i: of a unit it is 255 or below M, past the last unit it is 255
-unfoldable pub byte-fits : Header → ℕ → ℕ → Bool
-byte-fits h i x = if eqb x no-choice then true else if ltb i (h .units) then ltb x (h .choices) else false
+-- the pin in place i: of a unit it is the mark or below M, past the last unit it is the mark
+unfoldable pub pin-fits : Header → ℕ → ℕ → Bool
+pin-fits h i x = if eqb x no-choice then true else if ltb i (h .units) then ltb x (h .choices) else false
 
--- the first n bytes
-unfoldable pub bytes-fit : Header → List ℕ → ℕ → Bool
-bytes-fit h bytes n = all-below (λ i. byte-fits h i (getD bytes i 0)) n
+-- the first n pins
+unfoldable pub pins-fit : Header → List ℕ → ℕ → Bool
+pins-fit h pins n = all-below (λ i. pin-fits h i (getD pins i 0)) n
 
 unfoldable pub same-totals : PinTotals → PinTotals → Bool
 same-totals a b = if eqb (a .count) (b .count) then if eqb (a .size) (b .size) then eqb (a .distortion) (b .distortion) else false else false
@@ -38,7 +38,7 @@ same-totals a b = if eqb (a .count) (b .count) then if eqb (a .size) (b .size) t
 unfoldable pub fits : (ℕ → ℕ → Coding) → Header → PinSet → Bool
 fits codings h s =
     if same-header (s .header) h then
-    if bytes-fit h (s .pins) 512 then same-totals (s .totals) (totals-to codings (lines (h .units) (s .pins)) (h .units))
+    if pins-fit h (s .pins) 512 then same-totals (s .totals) (totals-to codings (lines (h .units) (s .pins)) (h .units))
     else false
     else false
 

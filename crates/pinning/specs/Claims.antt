@@ -21,7 +21,7 @@ pub record HistoryClaim (b : List ℕ) (j : Job) (n : ℕ) (calls : List Call) (
   pub answered : r .answers ≡ answers (j .choices) (no-pins (length (j .units))) calls
   -- the pins are exactly the book's lines
   pub pins : lines (length (j .units)) (r .set .pins) ≡ pins-after (j .choices) (no-pins (length (j .units))) calls
-  pub past : (i : ℕ) → length (j .units) ≤ i → i < 512 → getD (r .set .pins) i 0 ≡ 255
+  pub past : (i : ℕ) → length (j .units) ≤ i → i < 512 → getD (r .set .pins) i 0 ≡ 65535
   -- the totals are the number of the lines with a choice and the sums of their sizes and distortions in the job
   pub totals : r .set .totals ≡ pin-totals j (pins-after (j .choices) (no-pins (length (j .units))) calls)
   -- the set passes the check against the job, so that no call after these is refused by 6
@@ -29,8 +29,8 @@ pub record HistoryClaim (b : List ℕ) (j : Job) (n : ℕ) (calls : List Call) (
 
 -- what a pin or a lift asks of a job that opens, in order
 abbrev pub Asks : Job → PinSet → Call → List Condition
-Asks j s (pin u x) = condition 6 (Matches j s) ∷ condition 7 ((1 ≤ u) × (u ≤ length (j .units))) ∷ condition 8 (x < j .choices) ∷ condition 9 (getD (s .pins) (u - 1) 0 ≡ 255) ∷ []
-Asks j s (lift u) = condition 6 (Matches j s) ∷ condition 7 ((1 ≤ u) × (u ≤ length (j .units))) ∷ condition 10 (getD (s .pins) (u - 1) 0 ≡ 255 → ⊥) ∷ []
+Asks j s (pin u x) = condition 6 (Matches j s) ∷ condition 7 ((1 ≤ u) × (u ≤ length (j .units))) ∷ condition 8 (x < j .choices) ∷ condition 9 (getD (s .pins) (u - 1) 0 ≡ 65535) ∷ []
+Asks j s (lift u) = condition 6 (Matches j s) ∷ condition 7 ((1 ≤ u) × (u ≤ length (j .units))) ∷ condition 10 (getD (s .pins) (u - 1) 0 ≡ 65535 → ⊥) ∷ []
 
 -- The claims.
 

@@ -1,5 +1,5 @@
 -- Laws that belong to no one function.
-pub mod Sums
 pub mod Calls
 pub mod Totals
 pub mod Answering
+pub mod Opens

@@ -12,8 +12,8 @@ use Rattle.model.specs.Pins.{PinMap, PinTotals, outside, with-line, pin-totals}
 use Rattle.model.proofs.PinTotals.{totals-emptied, TotalsWithin, totals-within}
 use Rattle.format.specs.JobBytes.{Header, job-in}
 use Rattle.format.specs.Places.{coding-at}
-use Rattle.job.specs.declared.Coding as code
-use Rattle.job.specs.Answers.{coding-of}
+use Rattle.header.specs.declared.Coding as code
+use Rattle.header.specs.Answers.{coding-of}
 use Rattle.format.specs.Choices.{no-choice, choice-of}
 use Rattle.pinning.specs.PinSet.{lines}
 use Rattle.pinning.specs.Check.{Ready}
@@ -22,8 +22,8 @@ use Rattle.pinning.proofs.Lines.{lines-at, lines-length}
 use Rattle.format.proofs.Opened.{job-limits, units-are, choices-are}
 use Rattle.pinning.proofs.Inside.{inside}
 use Rattle.pins.proofs.Calls.{place-below, coding-read}
-use Rattle.pins.specs.declared.PinSet as code-set
-use Rattle.pins.specs.Answers.{set-of, Room, Pinned}
+use Rattle.pinset.specs.declared.PinSet as code-set
+use Rattle.pinset.specs.Answers.{set-of, Room, Pinned}
 
 -- a pin's coding within its limits, and the totals that hold it
 module _ (b : List ℕ) (h : Header) (set : code-set.PinSet) (r : Ready b h (set-of set)) where

@@ -1,7 +1,4 @@
-// Document 01's refusals of calls that take a set. Each number is document 01's own.
-
-// The set does not match the job.
-pub const SET: u8 = 6;
+// Document 01's refusals of a pin or a lift. Each number is document 01's own.
 
 // The unit is not in 1 to N.
 pub const UNIT: u8 = 7;

@@ -7,8 +7,8 @@ use native.Mathlib.Nat.{mul-suc, mul-le-mul}
 use native.Mathlib.Omega.{arith}
 use lib.ListN.{length}
 use Rattle.base.specs.If.{one-if}
-use Rattle.job.specs.declared.Header.{Header}
-use Rattle.job.specs.Answers.{policed-of, plain}
+use Rattle.header.specs.declared.Header.{Header}
+use Rattle.header.specs.Answers.{policed-of, plain}
 
 pub few-each : (h : Header) (each : ℕ) → each ≡ suc (length (plain h .buckets)) → each ≤ 3
 unfolding plain

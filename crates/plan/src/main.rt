@@ -5,9 +5,9 @@ ghost use mathlib.Core.Path.{_≡_};
 ghost use Prim.Native.Nat.{_+_, _*_, _≤_};
 ghost use lib.ListN.{length};
 ghost use Rattle.replaying.specs.Entries.{entry-size};
+use header::Choice;
+use header::Header;
 use interval::Totals;
-use job::Choice;
-use job::Header;
 use job::Reading;
 use libc::STDIN_FILENO;
 use planner::Planned;
@@ -54,7 +54,7 @@ fn print_intervals(job: &[u8], header: Header, entries: &[u8])
     for place in 0..total {
         let entry = entry::entry_at(entries, place);
         let number = place as u64 + 1;
-        let sent = job::rate_at(job, header, entry.rate as u16);
+        let sent = header::rate_at(job, header, entry.rate as u16);
         print_entry(number, sent, entry.choice);
         print_levels(&levels, each * place, each);
         print::end();
@@ -80,7 +80,7 @@ fn main() {
     let n = io::read_full(STDIN_FILENO, &mut input);
     let mut table = [0u32; 16384];
     let mut entries = [0u8; entry::SIZE * MOST_INTERVALS];
-    match session::plan_input(&input[..n], &mut table, &mut entries) {
+    match commands::plan_input(&input[..n], &mut table, &mut entries) {
         Planned::Refused(number) => print::refused(number),
         Planned::Best(totals) => print_plan(&input[..n], &entries, totals),
     }

@@ -1,7 +1,7 @@
 // The lines of the printed plan, in document 01's format.
+use header::Choice;
+use header::Header;
 use interval::Totals;
-use job::Choice;
-use job::Header;
 use libc::STDOUT_FILENO;
 
 fn text(s: &[u8]) {
@@ -24,7 +24,7 @@ pub fn end() {
 
 // The choice behind a space, or `-` where no unit is decoded.
 pub fn choice(x: Choice) {
-    if x == job::NO_CHOICE {
+    if x == header::NO_CHOICE {
         text(b" -");
     } else {
         number(x as u64);
@@ -36,7 +36,7 @@ pub fn head(header: Header) {
     text(b"plan");
     number(header.units as u64);
     number(entry::intervals(header) as u64);
-    number(planner::table_words(header) as u64);
+    number(table::table_words(header) as u64);
     end();
 }
 

@@ -2,7 +2,7 @@
 use Prim.Native.Nat.{ℕ, _+_, _-_, _*_, _<_, _≤_}
 use mathlib.Core.Path.{_≡_, refl, sym, _∙_, ap}
 use mathlib.Core.Option.{Option, none, some}
-use mathlib.Core.List.{List, [], _∷_, map}
+use mathlib.Core.List.{List, [], _∷_}
 use native.Mathlib.Omega.{arith}
 use native.Mathlib.Nat.{add-mul, one-mul, mul-le-mul-right}
 use lib.ListN.{length, getD}
@@ -10,54 +10,37 @@ use lib.Dec.{leb}
 use borrow.Author.Tests.{lt-leb, le-leb}
 use Rattle.trellis.specs.Table.{encode}
 use Rattle.base.specs.Refusals.{test, guarded}
-use Rattle.base.proofs.Refusals.{not-none, guarded-here, guarded-past, guarded-last}
+use Rattle.base.proofs.Refusals.{guarded-here, guarded-past, guarded-last}
 use Rattle.base.specs.Answer.{refused, gives}
-use Rattle.model.specs.Job.{Bucket, Levels, Job, on-line, intervals}
+use Rattle.model.specs.Job.{Levels, Job, on-line, intervals}
 use Rattle.model.specs.Pins.{PinMap}
 use Rattle.model.specs.Replay.{Totals}
 use Rattle.model.specs.Best.{Order, late, least-total}
-use Rattle.model.specs.Table.{mark, bound, tops, flat, span, place, layerWords, words, wordAt, InLayer}
+use Rattle.model.specs.Table.{mark, bound, tops, flat, place, layerWords, words, wordAt, InLayer}
 use Rattle.model.proofs.Places.{layer-each, place-below}
 use Rattle.model.proofs.Tables.{distortions-small}
 use Rattle.model.proofs.Lines.{own-line, intervals-on, bounded-on}
 use Rattle.format.specs.Parser as P
 use Rattle.format.specs.Parser.{on-read}
-use Rattle.format.specs.JobBytes.{Policed, Header, header-limits, bucket-of, job-in, Opens}
-use Rattle.base.specs.If.{if_then_else_}
+use Rattle.format.specs.JobBytes.{Header, job-in, Opens}
 use Rattle.format.proofs.Bounds.{bounded}
-use Rattle.format.proofs.Opened.{job-formed, job-limits, header-kept, units-are, intervals-are, few-intervals, decoder-is, buckets-are, start-is}
+use Rattle.format.proofs.Opened.{job-formed, job-limits, units-are, intervals-are, few-intervals, start-is}
 use Rattle.pinning.specs.PinSet.{PinSet, lines}
 use Rattle.pinning.specs.Check.{checked, Ready}
 use Rattle.pinning.proofs.Agree.{matched}
 use Rattle.interval.specs.declared.Totals as replay
-use Rattle.interval.specs.Answers.{totals-of, line-of, start-of, OfHeader}
-use Rattle.job.specs.declared.Header as job
-use Rattle.job.specs.Answers.{plain}
-use Rattle.job.proofs.Verdicts.{fit-all, all-fit}
-use Rattle.interval.specs.declared.Buffers.{Buffers}
-use Rattle.planner.proofs.Jobs.{told-fit}
-use Rattle.format.specs.Limits.{AllKept, each-kept, broken}
-use Rattle.format.proofs.Limits.{all-kept, none-broken}
-use mathlib.Core.Bool.{Bool, true, false}
-use Rattle.planner.proofs.Sizes.{layer-size, each-small}
+use Rattle.interval.specs.Answers.{totals-of, line-of, start-of}
+use Rattle.line.proofs.Sizes.{layer-size, each-small}
 use Rattle.replaying.specs.Entries.{entry-size}
 use Rattle.planning.specs.Words.{table-from}
 use Rattle.planning.specs.Calls.{Planned, refuse, searched, search-in, plan-tests, plan-in, plan-call}
 use Rattle.planning.proofs.Layers.{from-length, from-layer, from-table}
-use Rattle.planner.specs.declared.Line.{Line}
-use Rattle.planner.specs.Answers.{line-is, job-on, words-over, table-words, LineOf, Tabled, Standing, PlanRead, PlansFrom, Searches}
-
-sizes-same : (ks : List Policed) → map (λ (k : Bucket). k .size) (map bucket-of ks) ≡ map (λ (k : Policed). k .size) ks
-unfolding bucket-of
-sizes-same [] = refl
-sizes-same (k ∷ ks) = ap (λ (l : List ℕ). k .size ∷ l) (sizes-same ks)
+use Rattle.line.specs.declared.Line.{Line}
+use Rattle.line.specs.Answers.{line-is}
+use Rattle.table.specs.Answers.{job-on, words-over, LineOf}
+use Rattle.planner.specs.Answers.{Tabled, Standing, PlanRead, PlansFrom, Searches}
 
 module _ (b : List ℕ) (h : Header) (o : Opens b h) where
-  -- the table's size, as the code computes it
-  pub words-are : words (job-in b) ≡ table-words h
-  unfolding words tops span table-words if_then_else_
-  words-are = rw (← fit-all (header-limits h) (header-kept b h o), intervals-are b h o, decoder-is b h o, buckets-are b h o, sizes-same (h .buckets))
-
   -- the starting levels are in the layer
   pub start-inside : InLayer (job-in b .line) (job-in b .start)
   start-inside =
@@ -187,29 +170,3 @@ module _ (b : List ℕ) (h : Header) (s : PinSet) (r : Ready b h s) (l : Line) (
   plan-from-start table entries =
       let own : job-on b l ≡ job-in b = ap (on-line (job-in b)) (is .is) ∙ own-line (job-in b) in
       rw (own, begins, matched b (job-in b) (r .opens .taken) (r .opens .parsed) s (r .matches), units-are b h (r .opens))
-
--- the words of a header's own table, by the verdict on it
-module _ (h : job.Header) where
-  out-of-range : (n : ℕ) → some n ≡ broken (header-limits (plain h)) → each-kept (header-limits (plain h)) ≡ false
-  out-of-range n e = go (each-kept (header-limits (plain h))) refl
-    where
-      go : (t : Bool) → each-kept (header-limits (plain h)) ≡ t → t ≡ false
-      go true q = absurd (not-none (e ∙ none-broken (header-limits (plain h)) (all-fit (header-limits (plain h)) q)))
-      go false q = refl
-
-  pub words-none : (n : ℕ) → some n ≡ broken (header-limits (plain h)) → 0 ≡ table-words (plain h)
-  unfolding table-words if_then_else_
-  words-none n e = rw (out-of-range n e)
-
-  module _ (k : Buffers) (e : none ≡ broken (header-limits (plain h))) (of : OfHeader k (plain h)) where
-    kept : AllKept (header-limits (plain h))
-    kept = all-kept (header-limits (plain h)) (sym e)
-
-    pub words-some : words-over (plain h) k ≡ table-words (plain h)
-    unfolding words-over table-words if_then_else_ tops span
-    words-some =
-        let d : line-of k [] .decoder ≡ plain h .decoder = unfold line-of in (of .decoder) in
-        rw (← fit-all (header-limits (plain h)) kept, d, of .buckets, sizes-same (plain h .buckets))
-
-    pub own-over : (h .units + h .delay ≤ 576) × (layerWords (line-of k []) ≤ 4194304)
-    own-over = (unfold plain in (omega (arith, kept)), each-small k (told-fit k (plain h) of kept))

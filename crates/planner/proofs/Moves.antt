@@ -13,18 +13,19 @@ use Rattle.trellis.specs.Table.{first-at}
 use Rattle.base.specs.If.{if_then_else_}
 use Rattle.model.specs.Job as model
 use Rattle.model.specs.Job.{Coding, on-line, intervals, coding, sends, takes, distorts}
-use Rattle.model.specs.Step.{reaches}
+use Rattle.model.specs.Admissible.{Violation}
+use Rattle.model.specs.Step.{violates, reaches}
 use Rattle.model.specs.Pins.{PinMap}
 use Rattle.model.specs.Best.{Order, pairs, entry, reached}
 use Rattle.model.specs.Table.{layerWords, words, layerOf, wordIn, IsTable, Bounded}
 use Rattle.model.proofs.Steps.{reaches-after-sending}
 use Rattle.model.proofs.Lines.{intervals-on, bounded-on, choice-on, coding-on}
-use Rattle.format.specs.Choices.{choice-of}
+use Rattle.format.specs.Choices.{no-choice, choice-of}
 use Rattle.format.specs.JobBytes.{job-in}
 use Rattle.format.proofs.Bounds.{CodingKept, coding-within, bounded}
 use Rattle.format.proofs.Opened.{job-formed, job-limits, delay-is, intervals-are, few-intervals}
-use Rattle.job.specs.declared.Header.{Header}
-use Rattle.job.specs.Answers.{plain}
+use Rattle.header.specs.declared.Header.{Header}
+use Rattle.header.specs.Answers.{plain}
 use Rattle.pinning.specs.PinSet.{lines}
 use Rattle.interval.specs.declared.Levels.{Levels}
 use Rattle.interval.specs.declared.Interval.{Interval}
@@ -33,19 +34,27 @@ use Rattle.planning.specs.Rule.{pair-offer, allowed-in}
 use Rattle.planning.proofs.Offers.{first-offer-cong}
 use Rattle.planning.proofs.Layers.{layers-table}
 use Rattle.planning.proofs.Reading.{FirstPair, first-pair, here-is}
-use Rattle.planner.specs.declared.Line.{Line}
-use Rattle.planner.specs.declared.Choices.{Choices}
-use Rattle.planner.specs.Answers.{line-is, job-on, coding-if, allowed-is, ChoicesOf, Starts, Layered, IntervalOf, step-of, Reached, chosen, Standing, Moves, BestMove}
-use Rattle.planner.proofs.Sizes.{rates-count}
-use Rattle.planner.proofs.Jobs.{chosen-on}
-use Rattle.planner.proofs.Offers.{line-steps}
+use Rattle.line.specs.declared.Line.{Line}
+use Rattle.table.specs.declared.Choices.{Choices}
+use Rattle.line.specs.declared.Candidate.{Candidate}
+use Rattle.decoder.specs.Answers.{coding-if}
+use Rattle.line.specs.Answers.{line-is, candidate-is, IntervalOf, step-of}
+use Rattle.table.specs.Answers.{job-on, allowed-is, ChoicesFit, CandidateOf, ChoicesIn, ChoicesOf, Starts}
+use Rattle.planner.specs.Answers.{Layered, Reached, chosen, Standing, Moves, BestMove}
+use Rattle.line.proofs.Sizes.{rates-count}
+use Rattle.table.proofs.Jobs.{choices-on}
+use Rattle.line.proofs.Offers.{line-steps}
+
+-- a violation reaches no levels
+pub not-reached : (v : Violation) (s : model.Levels) → violates v ≡ reaches s → ⊥
+not-reached v s e = let z : _≡_ {A = ℕ} 0 1 = cc in omega arith
 
 -- a choice that is left open has its coding's size and distortion
-open-coding : (c : Choices) (x : ℕ) (k : Coding) → allowed-is c x ≡ some k → (getD (c .sizes) x 0 ≡ k .size) × (getD (c .distortions) x 0 ≡ k .distortion)
-unfolding allowed-is coding-if if_then_else_
-open-coding c x k e = go (getD (c .allowed) x false) e
+open-coding : (x : Candidate) (k : Coding) → candidate-is x ≡ some k → (x .size ≡ k .size) × (x .distortion ≡ k .distortion)
+unfolding candidate-is coding-if if_then_else_
+open-coding x k e = go (x .free) e
   where
-    go : (t : Bool) → (if t then some (record { size = getD (c .sizes) x 0; distortion = getD (c .distortions) x 0 }) else none) ≡ some k → (getD (c .sizes) x 0 ≡ k .size) × (getD (c .distortions) x 0 ≡ k .distortion)
+    go : (t : Bool) → (if t then some (record { size = x .size; distortion = x .distortion }) else none) ≡ some k → (x .size ≡ k .size) × (x .distortion ≡ k .distortion)
     go true r = let q = Option·some-injective _ k r in (ap (λ (y : Coding). y .size) q, ap (λ (y : Coding). y .distortion) q)
     go false r = absurd (Option·none-ne-some k r)
 
@@ -93,23 +102,27 @@ module _ (o : Order) (b : List ℕ) (h : Header) (l : Line) (pins table : List �
   word-here = here-is J M o table place (levels-of at) (s .value) small is-table before-end (s .inside) (s .least-is)
 
   -- with the choices of the interval
-  module _ (c : Choices) (own : ChoicesOf (job-in b) M place c) where
-    ch : ChoicesOf J M place c
-    ch = chosen-on (job-in b) (line-is l) M place c own
+  module _ (c : Choices) (told : ChoicesIn (plain h) pins place c) where
+    ch : ChoicesOf b (plain h) J M place c
+    unfolding plain
+    ch = choices-on b (plain h) l pins place c st (asks .before) told
 
     -- the same, in the terms of the code
     abbrev First : Pair → Type 0
-    First a = first-at (pair-offer _+_ (line-is l) (allowed-is c) (wordIn (line-is l) (layerOf (line-is l) table (suc place))) (levels-of at)) (wordIn (line-is l) (layerOf (line-is l) table place) (levels-of at)) (pairs o (length (line-is l .rates)) (c .count)) ≡ some a
+    First a = first-at (pair-offer _+_ (line-is l) (allowed-is b (plain h) c) (wordIn (line-is l) (layerOf (line-is l) table (suc place))) (levels-of at)) (wordIn (line-is l) (layerOf (line-is l) table place) (levels-of at)) (pairs o (length (line-is l .rates)) (c .count)) ≡ some a
 
     move-first : First (first .pick)
     unfolding on-line
     move-first =
         rw word-here
-        (first-offer-cong _+_ (line-is l) (c .count) (allowed-is c) (allowed-in J M (suc place)) (wordIn (line-is l) (layerOf (line-is l) table (suc place))) (wordIn (line-is l) (layerOf (line-is l) table (suc place))) (levels-of at) (s .inside) (ch .each) (λ u i. refl) o (s .value)
+        (first-offer-cong _+_ (line-is l) (c .count) (allowed-is b (plain h) c) (allowed-in J M (suc place)) (wordIn (line-is l) (layerOf (line-is l) table (suc place))) (wordIn (line-is l) (layerOf (line-is l) table (suc place))) (levels-of at) (s .inside) (ch .each) (λ u i. refl) o (s .value)
         ∙ rw (ch .count) (first .first))
 
+    pub choices-fit : ChoicesFit b (plain h) c
+    choices-fit = ch .fits
+
     -- what is asked of a search for it
-    pub layered : Layered o table l c place (levels-of at)
+    pub layered : Layered o table l b (plain h) c place (levels-of at)
     unfolding plain words on-line
     layered = record {
       line = st .line;
@@ -135,8 +148,11 @@ module _ (o : Order) (b : List ℕ) (h : Header) (l : Line) (pins table : List �
       unfolding entry on-line
       rate-below = rw (← rates-count l (st .line), ← outer-is) (first .fits .rate)
 
-      pub choice-below : choice < 31
-      choice-below = omega (arith, inner-is, first .inner, ch .count, ch .fits .count)
+      pub choice-below : choice < c .count
+      choice-below = omega (arith, inner-is, first .inner, ch .count)
+
+      pub below-mark : choice < no-choice
+      below-mark = omega (arith, choice-below, ch .fits .count)
 
       abbrev e : model.Entry
       e = entry J (suc place) (first .pick)
@@ -144,10 +160,6 @@ module _ (o : Order) (b : List ℕ) (h : Header) (l : Line) (pins table : List �
       sent-is : getD (l .rates) rate 0 ≡ sends J e
       unfolding sends entry on-line
       sent-is = rate-is l rate rate-below ∙ rw outer-is refl
-
-      coding-is : (getD (c .sizes) choice 0 ≡ takes J (suc place) e) × (getD (c .distortions) choice 0 ≡ distorts J (suc place) e)
-      unfolding takes distorts
-      coding-is = rw (← inner-is) (open-coding c (first .pick .inner) _ (ch .each (first .pick .inner) (omega (arith, first .inner, ch .count)) ∙ first .allowed))
 
       sent-most : sends J e ≤ 4095
       sent-most = rw (← sent-is) (st .line .rate rate rate-below)
@@ -163,10 +175,14 @@ module _ (o : Order) (b : List ℕ) (h : Header) (l : Line) (pins table : List �
       unfolding entry chosen on-line
       choice-is byte q = rw (delay-is b (plain h) (st .opens), inner-is) (sym q)
 
-      module _ (x : Interval) (is : IntervalOf (getD (l .rates) rate 0) (getD (c .sizes) choice 0) (getD (c .distortions) choice 0) x) where
+      module _ (k : Candidate) (made : CandidateOf b (plain h) c choice k) (x : Interval) (is : IntervalOf (getD (l .rates) rate 0) (k .size) (k .distortion) x) where
+        coding-is : (k .size ≡ takes J (suc place) e) × (k .distortion ≡ distorts J (suc place) e)
+        unfolding takes distorts
+        coding-is = open-coding k _ (made .is ∙ rw (← inner-is) (ch .each (first .pick .inner) (omega (arith, first .inner, ch .count)) ∙ first .allowed))
+
         lands : step-of (l .buffers) at x ≡ reaches (first .end)
         unfolding on-line
-        lands = line-steps l at (getD (l .rates) rate 0) (getD (c .sizes) choice 0) (getD (c .distortions) choice 0) x is ∙ rw (sent-is, coding-is .0) (first .step)
+        lands = line-steps l at (getD (l .rates) rate 0) (k .size) (k .distortion) x is ∙ rw (sent-is, coding-is .0) (first .step)
 
         pub reached-end : Reached (l .buffers) at x
         reached-end = record { end = first .end; is = lands }

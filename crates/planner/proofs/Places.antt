@@ -11,16 +11,19 @@ use lib.Seq.{length-take-le}
 use Rattle.trellis.specs.Pairs.{Pair}
 use Rattle.trellis.specs.Table.{first-at}
 use Rattle.model.specs.Job.{Levels}
+use Rattle.format.specs.JobBytes.{Header}
 use Rattle.model.specs.Best.{Order}
 use Rattle.model.specs.Table.{layerWords, tops, flat, layerOf, wordIn}
 use Rattle.model.specs.Table as table
 use Rattle.model.proofs.Layers.{word-is}
 use Rattle.model.proofs.Places.{layer-each, place-below}
 use Rattle.planning.specs.Rule.{pair-offer}
-use Rattle.planner.specs.declared.Line.{Line}
-use Rattle.planner.specs.declared.Choices.{Choices}
-use Rattle.planner.specs.Answers.{line-is, allowed-is, Offers, Attained, Layered}
-use Rattle.planner.proofs.Sizes.{layer-small}
+use Rattle.line.specs.declared.Line.{Line}
+use Rattle.table.specs.declared.Choices.{Choices}
+use Rattle.line.specs.Answers.{line-is}
+use Rattle.table.specs.Answers.{allowed-is}
+use Rattle.planner.specs.Answers.{Offers, Attained, Layered}
+use Rattle.line.proofs.Sizes.{layer-small}
 
 -- the words before a layer, before the next and before the one after it, for layers of this size; i is a place in a layer
 pub record Spans (words : List ℕ) (place size i : ℕ) : Type 0 where
@@ -35,7 +38,7 @@ abbrev pub next-part : List ℕ → ℕ → ℕ → List ℕ
 next-part words place size = take ((place + 1) * size + size - (place + 1) * size) (drop ((place + 1) * size) words)
 
 -- the layers on both sides of an interval, with their size and the place of a state as they were computed
-module _ (o : Order) (words : List ℕ) (l : Line) (c : Choices) (place : ℕ) (s : Levels) (a : Layered o words l c place s) (size i : ℕ) (e : size ≡ layerWords (line-is l)) (q : i ≡ table.place (tops (line-is l)) (flat s)) where
+module _ (o : Order) (words : List ℕ) (l : Line) (b : List ℕ) (h : Header) (c : Choices) (place : ℕ) (s : Levels) (a : Layered o words l b h c place s) (size i : ℕ) (e : size ≡ layerWords (line-is l)) (q : i ≡ table.place (tops (line-is l)) (flat s)) where
   pub spans : Spans words place size i
   spans = record {
     next = omega (arith, add-mul place 1 size, one-mul size);
@@ -60,8 +63,8 @@ module _ (o : Order) (words : List ℕ) (l : Line) (c : Choices) (place : ℕ) (
       length-take-le n (drop (suc place * n) words) (omega (arith, length-drop (suc place * n) words))
 
   -- what the first entry is asked, and what it says of the layers
-  pub offered : Offers (next-part words place size) l c s × Attained o (line-is l) (c .count) (allowed-is c) (next-part words place size) s (getD words (place * size + i) 0)
+  pub offered : Offers (next-part words place size) l b h c s × Attained o (line-is l) (c .count) (allowed-is b h c) (next-part words place size) s (getD words (place * size + i) 0)
   offered = rw (part-layer, here-word) (record { line = a .line; choices = a .choices; whole = next-size; count = a .inside .count }, a .attained)
 
-  pub first-found : (pairs : List Pair) (p : Pair) → first-at (pair-offer _+_ (line-is l) (allowed-is c) (wordIn (line-is l) (next-part words place size)) s) (getD words (place * size + i) 0) pairs ≡ some p → first-at (pair-offer _+_ (line-is l) (allowed-is c) (wordIn (line-is l) (layerOf (line-is l) words (suc place))) s) (wordIn (line-is l) (layerOf (line-is l) words place) s) pairs ≡ some p
+  pub first-found : (pairs : List Pair) (p : Pair) → first-at (pair-offer _+_ (line-is l) (allowed-is b h c) (wordIn (line-is l) (next-part words place size)) s) (getD words (place * size + i) 0) pairs ≡ some p → first-at (pair-offer _+_ (line-is l) (allowed-is b h c) (wordIn (line-is l) (layerOf (line-is l) words (suc place))) s) (wordIn (line-is l) (layerOf (line-is l) words place) s) pairs ≡ some p
   first-found pairs p f = rw (part-layer, here-word) at f

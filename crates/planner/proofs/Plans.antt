@@ -1,28 +1,49 @@
 -- Reading off the best plan, place after place: what is written and what is left.
-use Prim.Native.Nat.{ℕ, suc, _+_, _-_, _*_, _<_, _≤_}
+use Prim.Native.Nat.{ℕ, zero, suc, _+_, _-_, _*_, _<_, _≤_}
 use mathlib.Core.Path.{_≡_, refl, sym, _∙_, ap, ap₂}
+use mathlib.Core.Bool.{Bool, true, false}
 use mathlib.Core.List.{List, [], _∷_, _++_, append-assoc, append-nil}
 use native.Mathlib.Numerals.{add-one}
 use native.Mathlib.Omega.{arith}
 use lib.ListN.{length, drop, length-append}
 use Rattle.trellis.specs.Trellis.{best}
 use Rattle.model.specs.Job as model
-use Rattle.model.specs.Job.{bucketAt, Job, Entry, intervals}
+use Rattle.model.specs.Job.{bucketAt, Job, Entry, on-line, intervals}
 use Rattle.model.specs.Pins.{PinMap}
 use Rattle.model.specs.Replay.{totals}
 use Rattle.model.specs.Best.{Order, best-plan}
 use Rattle.format.proofs.Choices.{number-back}
 use Rattle.replaying.specs.Entries.{entry-size, one-entry, entry-bytes}
+use Rattle.base.specs.If.{one-if}
 use Rattle.base.specs.Lent.{over, over-at}
 use Rattle.replaying.proofs.Entries.{one-size, bytes-size, bytes-more}
+use Rattle.interval.specs.declared.Buffers.{Buffers}
 use Rattle.interval.specs.declared.Levels.{Levels}
 use Rattle.interval.specs.declared.Totals.{Totals}
-use Rattle.interval.specs.Answers.{levels-of, totals-of, no-totals, added}
+use Rattle.interval.specs.Answers.{levels-of, totals-of, second-of, line-of, no-totals, added}
 use Rattle.interval.proofs.Adding.{Added, added-start, added-on, added-end}
 use Rattle.base.proofs.Lent.{over-behind, over-at-length}
 use Rattle.entry.specs.Answers.{entry-numbers}
+use Rattle.line.specs.declared.Line.{Line}
+use Rattle.line.specs.Answers.{line-is, BuffersFit}
+use Rattle.table.specs.Answers.{job-on}
 use Rattle.planner.specs.declared.Move.{Move}
 use Rattle.planner.specs.Answers.{Standing, BestMove, PlanRead}
+
+-- the buckets of a line, and what they drain
+pub line-buckets : (b : List ℕ) (l : Line) → line-of (l .buffers) [] .buckets ≡ job-on b l .line .buckets
+unfolding on-line line-is line-of
+line-buckets b l = refl
+
+pub drains-most : (k : Buffers) → BuffersFit k → (i : ℕ) → i < length (line-of k [] .buckets) → bucketAt (line-of k [] .buckets) i .drain ≤ 4095
+unfolding line-of
+drains-most k f zero h = f .drain
+drains-most k f (suc i) h = go (k .two) refl i h
+  where
+    go : (two : Bool) → k .two ≡ two → (i : ℕ) → suc i < length (record { size = k .bucket; drain = k .drain } ∷ one-if two (second-of k)) → bucketAt (one-if two (second-of k)) i .drain ≤ 4095
+    go true e zero h = unfold one-if second-of in (f .second e .1)
+    go true e (suc i) h = absurd (unfold one-if in (omega arith))
+    go false e i h = absurd (unfold one-if in (omega arith))
 
 module _ (j : Job) (m : PinMap) (o : Order) (first : ℕ) (start : model.Levels) (entries₀ : List ℕ) where
   -- the entries of the places before this one are written, and the rest of the plan is the best from the levels that they lead to

@@ -1,48 +1,43 @@
--- What the structs and answers of this crate mean in the terms of `model` and `planning`, case by case, and what its private functions say and ask.
+-- What the answers of this crate mean in the terms of `model` and `planning`, case by case, and what its private functions say and ask.
 use Prim.Native.Nat.{ℕ, suc, _+_, _-_, _*_, _<_, _≤_}
 use mathlib.Core.Path.{_≡_}
-use mathlib.Core.Bool.{Bool, true, false}
 use mathlib.Core.Option.{Option, none, some}
-use mathlib.Core.List.{List, [], _∷_, map}
+use mathlib.Core.List.{List, _∷_}
 use lib.Dec.{ltb}
-use lib.ListN.{length, getD, take}
+use lib.ListN.{length}
 use Rattle.trellis.specs.Pairs.{Pair}
 use Rattle.trellis.specs.Table.{first-at}
-use Rattle.base.specs.If.{if_then_else_, one-if}
+use Rattle.base.specs.If.{if_then_else_}
 use Rattle.base.specs.Answer.{Answer, refused, gives}
 use Rattle.model.specs.Job as model
 use Rattle.model.specs.Pins.{PinMap}
-use Rattle.model.specs.Step.{Outcome, reaches, after-sending, pin-held, outcome-of}
+use Rattle.model.specs.Step.{reaches, after-sending}
 use Rattle.model.specs.Replay as model-replay
 use Rattle.model.specs.Best as model-best
-use Rattle.model.specs.Best.{late, early, pairs, width, least-total, best-plan}
-use Rattle.model.specs.Table.{InLayer, span, layerWords, words, layerOf, wordIn}
-use Rattle.format.specs.Limits.{each-kept}
-use Rattle.format.specs.Choices.{no-choice, choice-of}
-use Rattle.format.specs.Places.{coding-at}
-use Rattle.format.specs.JobBytes.{job-in, Opens}
+use Rattle.model.specs.Best.{late, early, pairs, least-total, best-plan}
+use Rattle.model.specs.Table.{InLayer, layerWords, words, layerOf, wordIn}
+use Rattle.format.specs.Choices.{choice-of}
 use Rattle.format.specs.JobBytes as format
 use Rattle.pinning.specs.PinSet.{lines}
 use Rattle.interval.specs.declared.Buffers.{Buffers}
 use Rattle.interval.specs.declared.Totals.{Totals}
 use Rattle.interval.specs.declared.Levels.{Levels}
 use Rattle.interval.specs.declared.Interval.{Interval}
-use Rattle.interval.specs.Answers.{levels-of, totals-of, line-of, Does}
+use Rattle.interval.specs.Answers.{levels-of, totals-of, Does}
 use Rattle.replaying.specs.Entries.{entry-size, entry-bytes}
 use Rattle.base.specs.Lent.{over}
-use Rattle.planning.specs.Rule.{Allowed, pair-offer, allowed-in}
+use Rattle.planning.specs.Rule.{Allowed, pair-offer}
 use Rattle.planning.specs.Words.{layer}
 use Rattle.planning.specs.Calls as calls
-use Rattle.layer.specs.declared.Line as layer-line
-use Rattle.layer.specs.Answers as layer-answers
-use Rattle.model.specs.Neutral.{fronted}
 use Rattle.planner.specs.declared.Planned.{Planned}
 use Rattle.planner.specs.declared.Planned.the-variants as p
-use Rattle.planner.specs.declared.Line.{Line}
+use Rattle.line.specs.declared.Line.{Line}
 use Rattle.planner.specs.declared.Order.{Order}
 use Rattle.planner.specs.declared.Order.the-variants as o
-use Rattle.planner.specs.declared.Choices.{Choices}
+use Rattle.table.specs.declared.Choices.{Choices}
 use Rattle.planner.specs.declared.Move.{Move}
+use Rattle.line.specs.Answers.{line-is, LineFits, step-of}
+use Rattle.table.specs.Answers.{job-on, allowed-is, ChoicesFit, Starts}
 
 -- the answer of planning, and the lists that were lent
 unfoldable pub answered : Planned → Answer model-replay.Totals
@@ -52,76 +47,16 @@ answered (p.Refused n) = refused n
 unfoldable pub planned : Planned → List ℕ → List ℕ → calls.Planned
 planned x table entries = record { answer = answered x; table = table; entries = entries }
 
--- the line of the model: the first of the array are its rates
-unfoldable pub line-is : Line → model.Line
-line-is l = line-of (l .buffers) (take (l .count) (l .rates))
-
--- the job that stands in bytes, over this line
-abbrev pub job-on : List ℕ → Line → model.Job
-job-on b l = model.on-line (job-in b) (line-is l)
-
 unfoldable pub order-is : Order → model-best.Order
 order-is o.Late = late
 order-is o.Early = early
 
--- a coding, where its choice is open
-unfoldable pub coding-if : Bool → ℕ → ℕ → Option model.Coding
-coding-if free size distortion = if free then some (record { size = size; distortion = distortion }) else none
-
--- the codings of an interval, those that its pin leaves open
-unfoldable pub allowed-is : Choices → Allowed
-allowed-is c x = coding-if (getD (c .allowed) x false) (getD (c .sizes) x 0) (getD (c .distortions) x 0)
-
--- the size of the second bucket, where there is one
-unfoldable pub second-sizes : Buffers → List ℕ
-second-sizes k = one-if (k .two) (k .bucket2)
-
--- (T + 1) times the words of a layer, over any buffers
-unfoldable pub words-over : format.Header → Buffers → ℕ
-words-over h k = (h .units + h .delay + 1) * layerWords (line-of k [])
-
--- over the job's own: (T + 1) × (D + 1) × (K + 1), and with a second bucket × (K2 + 1). No job has a header that is out of range
-unfoldable pub table-words : format.Header → ℕ
-table-words h =
-    if each-kept (format.header-limits h) then (h .units + h .delay + 1) * ((h .decoder + 1) * span (map (λ k. k .size) (h .buckets)))
-    else 0
-
 -- What the private functions say and ask.
 
--- the limits of buffers, and of a line with its array of rates
-pub record BuffersFit (k : Buffers) : Type 0 where
-  pub decoder : k .decoder ≤ 255
-  pub bucket : k .bucket ≤ 255
-  pub drain : k .drain ≤ 4095
-  pub second : k .two ≡ true → (k .bucket2 ≤ 63) × (k .drain2 ≤ 4095)
-
-pub record LineFits (l : Line) : Type 0 where
-  pub buffers : BuffersFit (l .buffers)
-  pub rates : l .count ≤ 16
-  pub rate : (y : ℕ) → y < l .count → getD (l .rates) y 0 ≤ 4095
-  pub size : length (l .rates) ≡ 16
-
--- the line as layers are filled: the same, or with a bucket in front that drains every rate
-pub data FilledAs (line : model.Line) (as-filled : model.Line) : Type 0 where
-  itself : as-filled ≡ line → FilledAs line as-filled
-  behind-one : as-filled ≡ fronted 4095 line → FilledAs line as-filled
-
-pub record LayerLine (l : Line) (r : layer-line.Line) : Type 0 where
-  pub is : FilledAs (line-is l) (layer-answers.line-is r)
-  pub fits : layer-answers.LineFits r
-
--- and of an interval's choices
-pub record ChoicesFit (c : Choices) : Type 0 where
-  pub count : c .count ≤ 31
-  pub allowed-size : length (c .allowed) ≡ 31
-  pub sizes-size : length (c .sizes) ≡ 31
-  pub distortions-size : length (c .distortions) ≡ 31
-  pub small : (x : ℕ) → x < c .count → getD (c .distortions) x 0 ≤ 1000000
-
 -- a whole next layer, for offers from levels of the line's buckets
-pub record Offers (next : List ℕ) (l : Line) (c : Choices) (s : model.Levels) : Type 0 where
+pub record Offers (next : List ℕ) (l : Line) (b : List ℕ) (h : format.Header) (c : Choices) (s : model.Levels) : Type 0 where
   pub line : LineFits l
-  pub choices : ChoicesFit c
+  pub choices : ChoicesFit b h c
   pub whole : length next ≡ layerWords (line-is l)
   pub count : length (s .buckets) ≡ length (line-is l .buckets)
 
@@ -130,66 +65,16 @@ pub record Attained (o : model-best.Order) (line : model.Line) (n : ℕ) (allowe
   pub pick : Pair
   pub first : first-at (pair-offer _+_ line allowed (wordIn line next) s) word (pairs o (length (line .rates)) n) ≡ some pick
 
--- the line of the job that stands in bytes
-pub record LineOf (b : List ℕ) (l : Line) : Type 0 where
-  pub is : line-is l ≡ job-in b .line
-  pub fits : LineFits l
-
--- one choice, which decodes nothing
-pub record NoChoices (c : Choices) : Type 0 where
-  pub count : c .count ≡ 1
-  pub each : allowed-is c 0 ≡ some model.nothing
-  pub fits : ChoicesFit c
-
--- the choices of a unit as they stand in the bytes, with a pin byte
-pub record UnitChoices (b : List ℕ) (h : format.Header) (unit pin : ℕ) (c : Choices) : Type 0 where
-  pub count : c .count ≡ h .choices
-  pub each : (x : ℕ) → x < h .choices → allowed-is c x ≡ (if pin-held (choice-of pin) (choice-of x) then some (coding-at b h unit x) else none)
-  pub distortion : (x : ℕ) → x < h .choices → getD (c .distortions) x 0 ≡ coding-at b h unit x .distortion
-  pub allowed-size : length (c .allowed) ≡ 31
-  pub sizes-size : length (c .sizes) ≡ 31
-  pub distortions-size : length (c .distortions) ≡ 31
-
--- the choices of the interval in a place
-pub record ChoicesOf (j : model.Job) (m : PinMap) (place : ℕ) (c : Choices) : Type 0 where
-  pub count : c .count ≡ width j (suc place)
-  pub each : (x : ℕ) → x < c .count → allowed-is c x ≡ allowed-in j m (suc place) x
-  pub fits : ChoicesFit c
-
--- the bytes of a job, any line within the limits and the pins of a set
-pub record Starts (b : List ℕ) (h : format.Header) (l : Line) (pins : List ℕ) : Type 0 where
-  pub opens : Opens b h
-  pub line : LineFits l
-  pub pins-size : length pins ≡ 512
-
--- layers to be filled, and room for them and the next
-pub record Fills (b : List ℕ) (h : format.Header) (l : Line) (pins : List ℕ) (first last : ℕ) (table : List ℕ) : Type 0 where
-  pub starts : Starts b h l pins
-  pub ends : first ≤ last
-  pub few : last ≤ h .units + h .delay
-  pub room : (last + 1) * layerWords (line-is l) ≤ length table
-
 -- the layers on both sides of an interval, and levels whose word an entry attains
-pub record Layered (o : model-best.Order) (table : List ℕ) (l : Line) (c : Choices) (place : ℕ) (s : model.Levels) : Type 0 where
+pub record Layered (o : model-best.Order) (table : List ℕ) (l : Line) (b : List ℕ) (h : format.Header) (c : Choices) (place : ℕ) (s : model.Levels) : Type 0 where
   pub line : LineFits l
-  pub choices : ChoicesFit c
+  pub choices : ChoicesFit b h c
   pub few : place < 600
   pub room : (place + 2) * layerWords (line-is l) ≤ length table
   pub inside : InLayer (line-is l) s
-  pub attained : Attained o (line-is l) (c .count) (allowed-is c) (layerOf (line-is l) table (suc place)) s (wordIn (line-is l) (layerOf (line-is l) table place) s)
+  pub attained : Attained o (line-is l) (c .count) (allowed-is b h c) (layerOf (line-is l) table (suc place)) s (wordIn (line-is l) (layerOf (line-is l) table place) s)
 
--- what an interval does that sends so much and decodes a coding of this size and distortion
-pub record IntervalOf (sent size distortion : ℕ) (x : Interval) : Type 0 where
-  pub sent-is : x .sent ≡ sent
-  pub size-is : x .size ≡ size
-  pub distortion-is : x .distortion ≡ distortion
-  pub no-pin : x .pin ≡ no-choice
-  pub no-unit : x .choice ≡ no-choice
-
--- where an interval leads
-unfoldable pub step-of : Buffers → Levels → Interval → Outcome
-step-of k at x = outcome-of (line-of k []) (choice-of (x .pin)) (choice-of (x .choice)) (at .decoder) (levels-of at .buckets) (x .sent) (x .size)
-
+-- an interval that leads to levels
 pub record Reached (k : Buffers) (at : Levels) (x : Interval) : Type 0 where
   pub end : model.Levels
   pub is : step-of k at x ≡ reaches end

@@ -1,6 +1,7 @@
 -- What is proved of the definitions, for the proofs of crates that name this one.
 pub mod Offers
 pub mod Passes
+pub mod Prices
 pub mod Neutral
 pub mod Layers
 pub mod Refilling

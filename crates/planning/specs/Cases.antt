@@ -36,36 +36,36 @@ asks ks w n = asks-with bytes-a ks w n
 
 unfoldable pub questions : List Question
 questions =
-    asks [] 80 6
+    asks [] 80 9
     -- unit 1 pinned at 0, and lifted
-    ∷ asks (pin 1 0 ∷ []) 80 6
-    ∷ asks (pin 1 0 ∷ lift 1 ∷ []) 80 6
+    ∷ asks (pin 1 0 ∷ []) 80 9
+    ∷ asks (pin 1 0 ∷ lift 1 ∷ []) 80 9
     -- unit 1 pinned at 1, which is worse, and lifted
-    ∷ asks (pin 1 1 ∷ []) 80 6
-    ∷ asks (pin 1 1 ∷ lift 1 ∷ []) 80 6
+    ∷ asks (pin 1 1 ∷ []) 80 9
+    ∷ asks (pin 1 1 ∷ lift 1 ∷ []) 80 9
     -- both units pinned at 0
-    ∷ asks (pin 1 0 ∷ pin 2 0 ∷ []) 80 6
-    -- 79 words; 80 with five bytes; both too few
-    ∷ asks [] 79 6
-    ∷ asks [] 80 5
-    ∷ asks [] 79 5
-    -- five bytes where there is no plan either
-    ∷ asks (pin 1 0 ∷ pin 2 0 ∷ []) 80 5
+    ∷ asks (pin 1 0 ∷ pin 2 0 ∷ []) 80 9
+    -- 79 words; 80 with eight bytes; both too few
+    ∷ asks [] 79 9
+    ∷ asks [] 80 8
+    ∷ asks [] 79 8
+    -- eight bytes where there is no plan either
+    ∷ asks (pin 1 0 ∷ pin 2 0 ∷ []) 80 8
     -- more of both than is needed
-    ∷ asks [] 81 8
+    ∷ asks [] 81 12
     -- delay 2: unit 1 pinned at 1, which is worse, both units pinned at what is best, and a word too few
-    ∷ asks-with (delayed 2) (pin 1 1 ∷ []) 100 8
-    ∷ asks-with (delayed 2) (pin 1 0 ∷ pin 2 1 ∷ []) 100 8
-    ∷ asks-with (delayed 2) [] 99 8
+    ∷ asks-with (delayed 2) (pin 1 1 ∷ []) 100 12
+    ∷ asks-with (delayed 2) (pin 1 0 ∷ pin 2 1 ∷ []) 100 12
+    ∷ asks-with (delayed 2) [] 99 12
     -- the same with delay 0
-    ∷ asks-with (delayed 0) (pin 1 1 ∷ []) 60 4
-    ∷ asks-with (delayed 0) (pin 1 0 ∷ pin 2 1 ∷ []) 60 4
-    ∷ asks-with (delayed 0) [] 59 4
+    ∷ asks-with (delayed 0) (pin 1 1 ∷ []) 60 6
+    ∷ asks-with (delayed 0) (pin 1 0 ∷ pin 2 1 ∷ []) 60 6
+    ∷ asks-with (delayed 0) [] 59 6
     -- document 02, E5: a second bucket that never binds, one that forces another plan, a word too few for it, and one that leaves no plan
-    ∷ asks-with (bytes-a8 3 4 0) [] 320 6
-    ∷ asks-with (bytes-a8 1 2 0) [] 160 6
-    ∷ asks-with (bytes-a8 1 2 0) [] 159 6
-    ∷ asks-with (bytes-a8 0 0 0) [] 80 6
+    ∷ asks-with (bytes-a8 3 4 0) [] 320 9
+    ∷ asks-with (bytes-a8 1 2 0) [] 160 9
+    ∷ asks-with (bytes-a8 1 2 0) [] 159 9
+    ∷ asks-with (bytes-a8 0 0 0) [] 80 9
     ∷ []
 
 abbrev pub says : ℕ → ℕ → ℕ → ℕ → List ℕ → Reply
@@ -79,27 +79,27 @@ refuses n es = record { answer = refused n; entries = es }
 
 unfoldable pub replies : List Reply
 replies =
-    says 50 6 6 2 (0 ∷ 255 ∷ 2 ∷ 0 ∷ 1 ∷ 1 ∷ [])
-    ∷ says 50 6 6 2 (0 ∷ 255 ∷ 2 ∷ 0 ∷ 1 ∷ 1 ∷ [])
-    ∷ says 50 6 6 2 (0 ∷ 255 ∷ 2 ∷ 0 ∷ 1 ∷ 1 ∷ [])
-    ∷ says 70 4 4 2 (0 ∷ 255 ∷ 1 ∷ 1 ∷ 1 ∷ 1 ∷ [])
-    ∷ says 50 6 6 2 (0 ∷ 255 ∷ 2 ∷ 0 ∷ 1 ∷ 1 ∷ [])
-    ∷ refuses 13 (replicate 6 7)
-    ∷ refuses 11 (replicate 6 7)
-    ∷ refuses 12 (replicate 5 7)
-    ∷ refuses 11 (replicate 5 7)
-    ∷ refuses 12 (replicate 5 7)
-    ∷ says 50 6 6 2 (0 ∷ 255 ∷ 2 ∷ 0 ∷ 1 ∷ 1 ∷ 7 ∷ 7 ∷ [])
-    ∷ says 70 4 4 4 (0 ∷ 255 ∷ 0 ∷ 255 ∷ 1 ∷ 1 ∷ 1 ∷ 1 ∷ [])
-    ∷ says 50 6 6 4 (0 ∷ 255 ∷ 0 ∷ 255 ∷ 2 ∷ 0 ∷ 1 ∷ 1 ∷ [])
+    says 50 6 6 2 (0 ∷ 255 ∷ 255 ∷ 2 ∷ 0 ∷ 0 ∷ 1 ∷ 1 ∷ 0 ∷ [])
+    ∷ says 50 6 6 2 (0 ∷ 255 ∷ 255 ∷ 2 ∷ 0 ∷ 0 ∷ 1 ∷ 1 ∷ 0 ∷ [])
+    ∷ says 50 6 6 2 (0 ∷ 255 ∷ 255 ∷ 2 ∷ 0 ∷ 0 ∷ 1 ∷ 1 ∷ 0 ∷ [])
+    ∷ says 70 4 4 2 (0 ∷ 255 ∷ 255 ∷ 1 ∷ 1 ∷ 0 ∷ 1 ∷ 1 ∷ 0 ∷ [])
+    ∷ says 50 6 6 2 (0 ∷ 255 ∷ 255 ∷ 2 ∷ 0 ∷ 0 ∷ 1 ∷ 1 ∷ 0 ∷ [])
+    ∷ refuses 13 (replicate 9 7)
+    ∷ refuses 11 (replicate 9 7)
+    ∷ refuses 12 (replicate 8 7)
     ∷ refuses 11 (replicate 8 7)
-    ∷ says 70 4 4 0 (1 ∷ 1 ∷ 1 ∷ 1 ∷ [])
-    ∷ says 50 6 6 0 (2 ∷ 0 ∷ 1 ∷ 1 ∷ [])
-    ∷ refuses 11 (replicate 4 7)
-    ∷ says-two 50 6 6 2 6 (0 ∷ 255 ∷ 2 ∷ 0 ∷ 1 ∷ 1 ∷ [])
-    ∷ says-two 50 6 6 0 0 (1 ∷ 255 ∷ 1 ∷ 0 ∷ 1 ∷ 1 ∷ [])
+    ∷ refuses 12 (replicate 8 7)
+    ∷ says 50 6 6 2 (0 ∷ 255 ∷ 255 ∷ 2 ∷ 0 ∷ 0 ∷ 1 ∷ 1 ∷ 0 ∷ 7 ∷ 7 ∷ 7 ∷ [])
+    ∷ says 70 4 4 4 (0 ∷ 255 ∷ 255 ∷ 0 ∷ 255 ∷ 255 ∷ 1 ∷ 1 ∷ 0 ∷ 1 ∷ 1 ∷ 0 ∷ [])
+    ∷ says 50 6 6 4 (0 ∷ 255 ∷ 255 ∷ 0 ∷ 255 ∷ 255 ∷ 2 ∷ 0 ∷ 0 ∷ 1 ∷ 1 ∷ 0 ∷ [])
+    ∷ refuses 11 (replicate 12 7)
+    ∷ says 70 4 4 0 (1 ∷ 1 ∷ 0 ∷ 1 ∷ 1 ∷ 0 ∷ [])
+    ∷ says 50 6 6 0 (2 ∷ 0 ∷ 0 ∷ 1 ∷ 1 ∷ 0 ∷ [])
     ∷ refuses 11 (replicate 6 7)
-    ∷ refuses 13 (replicate 6 7)
+    ∷ says-two 50 6 6 2 6 (0 ∷ 255 ∷ 255 ∷ 2 ∷ 0 ∷ 0 ∷ 1 ∷ 1 ∷ 0 ∷ [])
+    ∷ says-two 50 6 6 0 0 (1 ∷ 255 ∷ 255 ∷ 1 ∷ 0 ∷ 0 ∷ 1 ∷ 1 ∷ 0 ∷ [])
+    ∷ refuses 11 (replicate 9 7)
+    ∷ refuses 13 (replicate 9 7)
     ∷ []
 
 -- one computed test of the whole table

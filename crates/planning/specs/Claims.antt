@@ -8,12 +8,12 @@ use mathlib.Core.List.{List, [], _∷_, _++_, map}
 use lib.ListN.{length, getD, take, drop}
 use Rattle.base.specs.Answer.{refused, gives}
 use Rattle.base.specs.Refusals.{condition}
-use Rattle.model.specs.Job.{Levels, Job, Entry, intervals}
+use Rattle.model.specs.Job.{Line, Coding, Levels, Job, Entry, intervals}
 use Rattle.model.specs.Pins.{PinMap, Call, no-pins, pins-after}
 use Rattle.model.specs.Admissible.{Admissible}
 use Rattle.model.specs.Replay.{totals}
 use Rattle.model.specs.Best.{Order, late}
-use Rattle.model.specs.Table.{layerWords, words, IsTable}
+use Rattle.model.specs.Table.{bound, layerWords, words, IsTable}
 use Rattle.model.specs.Claims.{BestOf}
 use Rattle.format.specs.Parser.{took, Looks}
 use Rattle.format.specs.JobBytes.{header-in, parse}
@@ -22,6 +22,8 @@ use Rattle.pinning.specs.Check.{Matches}
 use Rattle.pinning.specs.Calls.{Handed, open-call, call, run}
 use Rattle.pinning.specs.Claims.{HistoryClaim}
 use Rattle.replaying.specs.Entries.{entry-bytes, plan-from, plan-of, shaped}
+use Rattle.planning.specs.Rule.{Allowed, layer-from}
+use Rattle.planning.specs.Prices.{priced-by}
 use Rattle.planning.specs.Calls.{Planned, refuse, plan-call}
 
 -- of the intervals after s, from the levels `start` there; a whole job is planned from 0 and its starting levels. The list for the entries is that of these intervals
@@ -30,10 +32,10 @@ module _ (j : Job) (m : PinMap) (o : Order) (s : ℕ) (start : Levels) (table en
   pub record BestWritten (r : Planned) : Type 0 where
     pub plan : List Entry
     pub best : BestOf j s o (Admissible j m s start) plan
-    pub bytes : take (2 * (intervals j - s)) (r .entries) ≡ entry-bytes plan
+    pub bytes : take (3 * (intervals j - s)) (r .entries) ≡ entry-bytes plan
     pub read-back : plan-from (r .entries) 0 (intervals j - s) ≡ plan
     pub totals-are : r .answer ≡ gives (totals j s start plan)
-    pub rest : drop (2 * (intervals j - s)) (r .entries) ≡ drop (2 * (intervals j - s)) entries
+    pub rest : drop (3 * (intervals j - s)) (r .entries) ≡ drop (3 * (intervals j - s)) entries
     pub size : length (r .entries) ≡ length entries
 
   -- of a job with these pins, from lists that are long enough, whatever stands in them
@@ -52,7 +54,7 @@ module _ (j : Job) (m : PinMap) (o : Order) (s : ℕ) (start : Levels) (table en
 -- demand 3 of one list of calls, refused ones included, from the set that opening answers: the set holds what the book of document 01 holds, and planning then is as claimed for the book's lines
 pub record Demand (b : List ℕ) (j : Job) (n : ℕ) (calls : List Call) : Type 0 where
   pub history : HistoryClaim b j n calls (run b (open-call b .set) calls)
-  pub planning : (table entries : List ℕ) → words j ≤ length table → 2 * intervals j ≤ length entries → PlanClaim j (pins-after (j .choices) (no-pins (length (j .units))) calls) late 0 (j .start) table entries (plan-call b (run b (open-call b .set) calls .set) table entries)
+  pub planning : (table entries : List ℕ) → words j ≤ length table → 3 * intervals j ≤ length entries → PlanClaim j (pins-after (j .choices) (no-pins (length (j .units))) calls) late 0 (j .start) table entries (plan-call b (run b (open-call b .set) calls .set) table entries)
 
 -- a refusal leaves both lists as they came, 13 the table aside
 pub record Keeping (table entries : List ℕ) (r : Planned) : Type 0 where
@@ -67,7 +69,11 @@ DemandThree = (b : List ℕ) (j : Job) (n : ℕ) → parse b ≡ took j n → (c
 
 -- demands 1 and 3, of planning with any set: the job, 1 to 5, then the set, the table and the list for the entries; where nothing of these refuses it, 13 or a best plan
 abbrev pub PlanCalls : Type 0
-PlanCalls = (b : List ℕ) (s : PinSet) (table entries : List ℕ) → Looks (plan-call b s table entries) (refuse table entries) (parse b) (λ j. condition 6 (Matches j s) ∷ condition 11 (words j ≤ length table) ∷ condition 12 (2 * intervals j ≤ length entries) ∷ []) (λ j. PlanClaim j (lines (length (j .units)) (s .pins)) late 0 (j .start) table entries (plan-call b s table entries))
+PlanCalls = (b : List ℕ) (s : PinSet) (table entries : List ℕ) → Looks (plan-call b s table entries) (refuse table entries) (parse b) (λ j. condition 6 (Matches j s) ∷ condition 11 (words j ≤ length table) ∷ condition 12 (3 * intervals j ≤ length entries) ∷ []) (λ j. PlanClaim j (lines (length (j .units)) (s .pins)) late 0 (j .start) table entries (plan-call b s table entries))
 
 abbrev pub Keeps : Type 0
 Keeps = (b : List ℕ) (s : PinSet) (table entries : List ℕ) → Keeping table entries (plan-call b s table entries)
+
+-- document 02, E6: a layer from the D + 1 prices of an interval's choices is the layer from all of them, however many they are and however distortions combine, as long as more distortion never comes to less
+abbrev pub FewPrices : Type 0
+FewPrices = (_⊕_ : ℕ → ℕ → ℕ) → ((a b x : ℕ) → a ≤ b → _⊕_ a x ≤ _⊕_ b x) → (line : Line) (n : ℕ) (allowed : Allowed) (next : List ℕ) → ((x : ℕ) (k : Coding) → x < n → allowed x ≡ some k → k .distortion ≤ bound) → layer-from _⊕_ line (line .decoder + 1) (priced-by n allowed) next ≡ layer-from _⊕_ line n allowed next

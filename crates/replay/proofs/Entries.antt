@@ -18,11 +18,11 @@ use Rattle.format.specs.JobBytes.{Header, job-in}
 use Rattle.format.specs.Places.{rate-at, coding-at}
 use Rattle.format.proofs.Choices.{of-mark, of-choice}
 use Rattle.format.proofs.Opened.{job-limits, looked-up, units-are, delay-is, rates-are, choices-are}
-use Rattle.job.specs.declared.Coding.{Coding}
-use Rattle.job.specs.Answers.{coding-of}
+use Rattle.header.specs.declared.Coding.{Coding}
+use Rattle.header.specs.Answers.{coding-of}
 use Rattle.pinning.specs.PinSet.{lines}
 use Rattle.pinning.proofs.Lines.{lines-at}
-use Rattle.replaying.specs.Entries.{entry-size, rate-field, choice-field, entry-at, entry-fits, entries-fit, shaped}
+use Rattle.replaying.specs.Entries.{entry-size, rate-field, choice-field, entry-under, entry-at, fits-under, entries-fit, shaped}
 use Rattle.replay.specs.Answers.{Shaped, CodingIn, no-coding, coded, PinIn, no-pin, pinned, IsInterval}
 
 module _ (b : List ℕ) (h : Header) (entries : List ℕ) (s : Shaped b h entries) where
@@ -31,17 +31,17 @@ module _ (b : List ℕ) (h : Header) (entries : List ℕ) (s : Shaped b h entrie
   entries-size = eqb-true _ _ (both-true _ _ (s .in-shape) .0)
 
   module _ (i : ℕ) (l : i < h .units + h .delay) where
-    in-range : entry-fits h i (rate-field entries i) (choice-field entries i) ≡ true
+    in-range : fits-under no-choice h i (rate-field entries i) (choice-field entries i) ≡ true
     unfolding shaped entries-fit
     in-range = all-each _ (h .units + h .delay) (both-true _ _ (s .in-shape) .1) i l
 
     rate-below : rate-field entries i < h .rates
-    unfolding entry-fits
+    unfolding fits-under
     rate-below = ltb-true _ _ (both-true _ _ in-range .0)
 
     -- up to the delay there is no choice, after it one of the job's
     mark-fits : (if ltb i (h .delay) then eqb (choice-field entries i) no-choice else ltb (choice-field entries i) (h .choices)) ≡ true
-    unfolding entry-fits
+    unfolding fits-under
     mark-fits = both-true _ _ in-range .1
 
     no-unit : i < h .delay → choice-field entries i ≡ no-choice
@@ -53,11 +53,11 @@ module _ (b : List ℕ) (h : Header) (entries : List ℕ) (s : Shaped b h entrie
     choice-below k = ltb-true _ _ (rw (le-ltb i (h .delay) k) at mark-fits)
 
     pub sent-is : rate-at b h (rate-field entries i) ≡ sends (job-in b) (entry-at entries i)
-    unfolding sends entry-at
+    unfolding sends entry-at entry-under
     sent-is = ap (λ (n : Header). rate-at b n (rate-field entries i)) (sym (s .opens .header-is)) ∙ (looked-up b h (s .opens)) .rate (rate-field entries i) (omega (arith, (rates-are b h (s .opens)), rate-below))
 
     pub sent-most : rate-at b h (rate-field entries i) ≤ 4095
-    unfolding sends entry-at
+    unfolding sends entry-at entry-under
     sent-most = rw sent-is ((job-limits b h (s .opens)) .rate (rate-field entries i) (omega (arith, (rates-are b h (s .opens)), rate-below)))
 
     -- the coding that was read is the one that the interval decodes, and within its limits
@@ -99,12 +99,12 @@ module _ (b : List ℕ) (h : Header) (entries : List ℕ) (s : Shaped b h entrie
         rw (lt-leb (suc i) (job-in b .delay) (omega (arith, (delay-is b h (s .opens)))), place, lines-at (h .units) pins (i - h .delay) (omega (arith, n, (units-are b h (s .opens)), (job-limits b h (s .opens)) .units)) (omega arith), e)
 
     pub interval-is : (pins : List ℕ) (coding : Coding) (pin : ℕ) → length pins ≡ 512 → CodingIn b h i (choice-field entries i) coding → PinIn h pins i pin → IsInterval (job-in b) (lines (h .units) pins) entries i (record { sent = rate-at b h (rate-field entries i); size = coding .size; distortion = coding .distortion; pin = pin; choice = choice-field entries i })
-    unfolding takes distorts entry-at coding-of
+    unfolding takes distorts entry-at entry-under coding-of
     interval-is pins x pin n d q =
         let w = coding-is x d in
         let e = w .is in
         record {
-          does = record { sent = sent-is; size = cc; distortion = cc; limits = (sent-most, w .size-most, w .distortion-most) };
+          does = record { sent = sent-is; size = ap (λ (k : model.Coding). k .size) e; distortion = ap (λ (k : model.Coding). k .distortion) e; limits = (sent-most, w .size-most, w .distortion-most) };
           pin = pin-is pins pin n q;
           choice = refl;
         }

@@ -18,7 +18,7 @@ use Rattle.model.proofs.Steps.{reaches-after-sending}
 use Rattle.format.specs.Choices.{choice-of}
 use Rattle.format.specs.JobBytes.{Header, job-in, Opens}
 use Rattle.format.proofs.Opened.{decoder-is, buckets-are}
-use Rattle.replaying.specs.Entries.{entry-at, plan-from, plan-of}
+use Rattle.replaying.specs.Entries.{entry-at, entries-from, plan-from, plan-of}
 use Rattle.base.specs.Lent.{over, over-at}
 use Rattle.replaying.specs.Calls.{totals-are, violated, replayed, flat, played}
 use Rattle.replaying.proofs.Flat.{Each, flat-length}
@@ -97,7 +97,7 @@ module _ (j : Job) (m : PinMap) (entries levels₀ : List ℕ) where
       }
 
   left-more : (i : ℕ) → i < intervals j → left i ≡ entry-at entries i ∷ left (suc i)
-  unfolding plan-from
+  unfolding entries-from
   left-more i more = let e : intervals j - i ≡ suc (intervals j - suc i) = omega arith in rw e
 
   module _ (each i : ℕ) (at : Levels) (sum : Totals) (levels : List ℕ) (g : Going each i at sum levels) where
@@ -146,7 +146,7 @@ module _ (j : Job) (m : PinMap) (entries levels₀ : List ℕ) where
 
     -- all intervals are done
     pub going-end : i ≡ intervals j → record { answer = gives (totals-are (totals-of sum)); list = levels } ≡ played j m entries levels₀
-    unfolding played replayed replay before over plan-from
+    unfolding played replayed replay before over entries-from
     going-end q =
         let n : intervals j - i ≡ 0 = omega arith in
         let e = rw n at (g .rest) in

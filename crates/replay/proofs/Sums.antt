@@ -15,23 +15,18 @@ use Rattle.format.specs.JobBytes.{Header, job-in}
 use Rattle.format.specs.Places.{rate-at}
 use Rattle.format.specs.Claims.{InLimits}
 use Rattle.format.proofs.Opened.{intervals-are}
-use Rattle.replaying.specs.Entries.{rate-field, entry-at, plan-from, plan-of}
+use Rattle.replaying.specs.Entries.{rate-field, entry-at, plan-of}
+use Rattle.replaying.proofs.Entries.{entries-at}
 use Rattle.base.specs.Lent.{over}
 use Rattle.replay.specs.Answers.{Shaped}
 use Rattle.replay.proofs.Entries.{sent-is}
-
-plan-at : (entries : List ℕ) (i n k : ℕ) → k < n → getD (plan-from entries i n) k no-entry ≡ entry-at entries (i + k)
-unfolding plan-from
-plan-at entries i zero k h = absurd (omega arith)
-plan-at entries i (suc n) zero h = let e : i + 0 ≡ i = omega arith in rw e
-plan-at entries i (suc n) (suc k) h = let e : i + suc k ≡ suc i + k = omega arith in rw e (plan-at entries (suc i) n k (omega arith))
 
 -- the rate that was read is what the interval sends
 pub sent-read : (b : List ℕ) (h : Header) (entries : List ℕ) (s : Shaped b h entries) (i : ℕ) → i < h .units + h .delay → rate-at b h (rate-field entries i) ≡ sent (job-in b) (plan-of (job-in b) entries) (i + 1)
 unfolding sent entryOf plan-of
 sent-read b h entries s i l =
     let z : 0 + i ≡ i = omega arith in
-    rw (add-one i, plan-at entries 0 (intervals (job-in b)) i (omega (arith, intervals-are b h (s .opens))), z) (sent-is b h entries s i l)
+    rw (add-one i, entries-at (entry-at entries) 0 (intervals (job-in b)) i (omega (arith, intervals-are b h (s .opens))), z) (sent-is b h entries s i l)
 
 -- a rate, and a window of rates, within document 01's limits
 module _ (j : Job) (limits : InLimits j) (p : List Entry) where

@@ -11,8 +11,8 @@ use Rattle.format.specs.Choices.{no-choice, choice-of}
 use Rattle.format.specs.Places.{coding-at}
 use Rattle.format.specs.JobBytes.{Opens}
 use Rattle.format.specs.JobBytes as format
-use Rattle.job.specs.declared.Coding.{Coding}
-use Rattle.job.specs.Answers.{coding-of}
+use Rattle.header.specs.declared.Coding.{Coding}
+use Rattle.header.specs.Answers.{coding-of}
 use Rattle.replaying.specs.Entries.{entry-at, shaped}
 use Rattle.interval.specs.declared.Interval.{Interval}
 use Rattle.interval.specs.Answers.{violation, totals-of, Does}

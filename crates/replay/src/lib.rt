@@ -5,27 +5,27 @@ ghost use Prim.Native.Nat.{suc, _+_, _*_, _<_, _≤_};
 ghost use lib.ListN.{length};
 ghost use Rattle.model.specs.Levels.{sent, effectiveBuffer, effectiveBuffers};
 ghost use Rattle.format.specs.JobBytes.{job-in, Opens};
-ghost use Rattle.job.specs.Answers.{plain};
+ghost use Rattle.header.specs.Answers.{plain};
 ghost use Rattle.pinning.specs.PinSet.{lines};
 ghost use Rattle.pinning.specs.Check.{Ready};
-ghost use Rattle.pins.specs.Answers.{set-of};
+ghost use Rattle.pinset.specs.Answers.{set-of};
 ghost use Rattle.replaying.specs.Entries.{plan-of};
 ghost use Rattle.base.specs.Lent.{over, over-at};
 ghost use mathlib.Core.List.{_∷_};
 ghost use Rattle.replaying.specs.Calls.{played, replay-call, report-call};
 ghost use Rattle.interval.specs.Answers.{levels-of};
 ghost use Rattle.replay.specs.Answers.{ended, reported, Shaped, CodingIn, PinIn, IsInterval, Plays, Sums};
+use header::Choice;
+use header::Coding;
+use header::Header;
 use interval::Buffers;
 use interval::Interval;
 use interval::Levels;
 use interval::Outcome;
 use interval::Totals;
 use interval::Violation;
-use job::Choice;
-use job::Coding;
-use job::Header;
 use job::Reading;
-use pins::PinSet;
+use pinset::PinSet;
 
 // The totals of a plan without a violation; else the first interval with one, counted from 1, and its first violation; or the refusal's number.
 pub enum Replayed {
@@ -60,7 +60,7 @@ fn coding_in(job: &[u8], header: Header, place: usize, choice: Choice) -> Coding
         };
     }
     let unit = (place - delay + 1) as u16;
-    job::coding_at(job, header, unit, choice as u16)
+    header::coding_at(job, header, unit, choice)
 }
 
 // The pin that bears on the interval in this place: none up to the delay.
@@ -70,7 +70,7 @@ fn pin_in(header: Header, pins: &[Choice; 512], place: usize) -> Choice
 {
     let delay = header.delay as usize;
     if place < delay {
-        return job::NO_CHOICE;
+        return header::NO_CHOICE;
     }
     let at = place - delay;
     pins[at]
@@ -92,7 +92,7 @@ fn interval_at(
     let choice = entry.choice;
     let coding = coding_in(job, header, place, choice);
     Interval {
-        sent: job::rate_at(job, header, rate as u16),
+        sent: header::rate_at(job, header, rate as u16),
         size: coding.size,
         distortion: coding.distortion,
         pin: pin_in(header, pins, place),
@@ -167,7 +167,7 @@ fn replay_checked(
     }
     let each = levels_each(header);
     if levels.len() < each * entry::intervals(header) {
-        return Replayed::Refused(job::refusal::LIST);
+        return Replayed::Refused(header::refusal::LIST);
     }
     let pins = set.pins;
     play(job, header, &pins, entries, levels)
@@ -177,7 +177,7 @@ fn replay_checked(
 pub fn replay(job: &[u8], set: PinSet, entries: &[u8], levels: &mut [u16]) -> Replayed
     ensures { λ r. ⌜ ended r (now (levels .exit)) ≡ replay-call (now (job .entry)) (set-of set) (now (entries .entry)) (now (levels .entry)) ⌝ }
 {
-    match pins::check(job, set) {
+    match pinset::check(job, set) {
         Reading::Refused(n) => Replayed::Refused(n),
         Reading::Read { header, taken: _ } => replay_checked(job, header, set, entries, levels),
     }
@@ -189,7 +189,7 @@ fn sent_at(job: &[u8], header: Header, entries: &[u8], place: usize) -> u32
     ensures { λ r. ⌜ r ≡ sent (job-in (now (job .entry))) (plan-of (job-in (now (job .entry))) (now (entries .entry))) (place + 1) ⌝ }
 {
     let entry = entry::entry_at(entries, place);
-    job::rate_at(job, header, entry.rate as u16) as u32
+    header::rate_at(job, header, entry.rate as u16) as u32
 }
 
 // What the first intervals send, so many as the delay has: (6) for i = 0.
@@ -233,7 +233,7 @@ fn report_read(job: &[u8], header: Header, entries: &[u8], sums: &mut [u32]) -> 
         return Reported::Refused(entry::refusal::PLAN);
     }
     if sums.len() <= header.units as usize {
-        return Reported::Refused(job::refusal::LIST);
+        return Reported::Refused(header::refusal::LIST);
     }
     put_sums(job, header, entries, sums);
     Reported::Done

@@ -2,5 +2,6 @@
 pub mod Entries
 pub mod Flat
 pub mod DemandTwo
+pub mod Former
 pub mod Reports
 pub mod Cases

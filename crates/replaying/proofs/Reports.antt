@@ -24,6 +24,7 @@ use Rattle.pinning.specs.Check.{checked}
 use Rattle.pinning.proofs.Agree.{looks-checked}
 use Rattle.replaying.specs.Entries.{plan-of, shaped}
 use Rattle.replaying.specs.Calls.{level-count, played, replay-tests, replay-call, reported, report-tests, report-call}
+use Rattle.replaying.specs.Former.{turn-tests, turned, turn-call}
 use Rattle.replaying.specs.Claims.{InShape, Reported, DemandTwo, ReplayCalls, Reports, Keeps}
 use Rattle.replaying.proofs.Entries.{plan-bytes}
 use Rattle.replaying.proofs.DemandTwo.{played-claim}
@@ -74,8 +75,9 @@ module _ {A : Type 0} (list : List ℕ) where
   read-keeps f (took a k) h = h a
 
 pub keeps : Keeps
-unfolding replay-call report-call played reported
+unfolding replay-call report-call turn-call played reported turned
 keeps b s entries list = (
   read-keeps list _ (checked b s) (λ j. guarded-keeps list _ _ (gives-keeps list _ _) (guarded-is (refuse list) (replay-tests j entries (length list)) (played j (lines (length (j .units)) (s .pins)) entries list))),
   read-keeps list _ (parse b) (λ j. guarded-keeps list _ _ (gives-keeps list _ _) (guarded-is (refuse list) (report-tests j entries (length list)) (reported j entries list))),
+  read-keeps list _ (parse b) (λ j. guarded-keeps list _ _ (gives-keeps list _ _) (guarded-is (refuse list) (turn-tests j entries (length list)) (turned j entries list))),
 )

@@ -47,38 +47,38 @@ questions =
     ∷ calls (pin 1 0 ∷ [])
     ∷ calls (pin 1 0 ∷ lift 1 ∷ [])
     -- the plan that is printed since document 02, E2, and the one of 42 before it
-    ∷ replays [] (0 ∷ 255 ∷ 2 ∷ 0 ∷ 1 ∷ 1 ∷ [])
-    ∷ replays [] (1 ∷ 255 ∷ 1 ∷ 1 ∷ 2 ∷ 0 ∷ [])
+    ∷ replays [] (0 ∷ 255 ∷ 255 ∷ 2 ∷ 0 ∷ 0 ∷ 1 ∷ 1 ∷ 0 ∷ [])
+    ∷ replays [] (1 ∷ 255 ∷ 255 ∷ 1 ∷ 1 ∷ 0 ∷ 2 ∷ 0 ∷ 0 ∷ [])
     -- the plan with unit 1 pinned at 0
-    ∷ replays (pin 1 0 ∷ []) (0 ∷ 255 ∷ 2 ∷ 0 ∷ 1 ∷ 1 ∷ [])
+    ∷ replays (pin 1 0 ∷ []) (0 ∷ 255 ∷ 255 ∷ 2 ∷ 0 ∷ 0 ∷ 1 ∷ 1 ∷ 0 ∷ [])
     -- every drain is used; and all is sent at once, so that the bucket still drains in interval 2, and interval 3 has nothing left to drain
-    ∷ replays [] (1 ∷ 255 ∷ 1 ∷ 1 ∷ 1 ∷ 1 ∷ [])
-    ∷ replays [] (2 ∷ 255 ∷ 0 ∷ 1 ∷ 0 ∷ 1 ∷ [])
-    ∷ replays [] (2 ∷ 255 ∷ 2 ∷ 1 ∷ 0 ∷ 0 ∷ [])
-    ∷ replays [] (0 ∷ 255 ∷ 0 ∷ 1 ∷ 0 ∷ 1 ∷ [])
+    ∷ replays [] (1 ∷ 255 ∷ 255 ∷ 1 ∷ 1 ∷ 0 ∷ 1 ∷ 1 ∷ 0 ∷ [])
+    ∷ replays [] (2 ∷ 255 ∷ 255 ∷ 0 ∷ 1 ∷ 0 ∷ 0 ∷ 1 ∷ 0 ∷ [])
+    ∷ replays [] (2 ∷ 255 ∷ 255 ∷ 2 ∷ 1 ∷ 0 ∷ 0 ∷ 0 ∷ 0 ∷ [])
+    ∷ replays [] (0 ∷ 255 ∷ 255 ∷ 0 ∷ 1 ∷ 0 ∷ 0 ∷ 1 ∷ 0 ∷ [])
     -- a list that is just enough, and one that is a number too short
-    ∷ replays-with bytes-a 6 [] (0 ∷ 255 ∷ 2 ∷ 0 ∷ 1 ∷ 1 ∷ [])
-    ∷ replays-with bytes-a 5 [] (0 ∷ 255 ∷ 2 ∷ 0 ∷ 1 ∷ 1 ∷ [])
+    ∷ replays-with bytes-a 6 [] (0 ∷ 255 ∷ 255 ∷ 2 ∷ 0 ∷ 0 ∷ 1 ∷ 1 ∷ 0 ∷ [])
+    ∷ replays-with bytes-a 5 [] (0 ∷ 255 ∷ 255 ∷ 2 ∷ 0 ∷ 0 ∷ 1 ∷ 1 ∷ 0 ∷ [])
     -- delay 2: intervals 3 and 4 decode units 1 and 2. Unit 1 is pinned at 0, at 1, and unit 2 at 0
-    ∷ replays-with (delayed 2) 8 (pin 1 0 ∷ []) (0 ∷ 255 ∷ 0 ∷ 255 ∷ 2 ∷ 0 ∷ 1 ∷ 1 ∷ [])
-    ∷ replays-with (delayed 2) 8 (pin 1 1 ∷ []) (0 ∷ 255 ∷ 0 ∷ 255 ∷ 2 ∷ 0 ∷ 1 ∷ 1 ∷ [])
-    ∷ replays-with (delayed 2) 8 (pin 2 0 ∷ []) (0 ∷ 255 ∷ 0 ∷ 255 ∷ 2 ∷ 0 ∷ 1 ∷ 1 ∷ [])
-    ∷ replays-with (delayed 2) 7 (pin 1 0 ∷ []) (0 ∷ 255 ∷ 0 ∷ 255 ∷ 2 ∷ 0 ∷ 1 ∷ 1 ∷ [])
+    ∷ replays-with (delayed 2) 8 (pin 1 0 ∷ []) (0 ∷ 255 ∷ 255 ∷ 0 ∷ 255 ∷ 255 ∷ 2 ∷ 0 ∷ 0 ∷ 1 ∷ 1 ∷ 0 ∷ [])
+    ∷ replays-with (delayed 2) 8 (pin 1 1 ∷ []) (0 ∷ 255 ∷ 255 ∷ 0 ∷ 255 ∷ 255 ∷ 2 ∷ 0 ∷ 0 ∷ 1 ∷ 1 ∷ 0 ∷ [])
+    ∷ replays-with (delayed 2) 8 (pin 2 0 ∷ []) (0 ∷ 255 ∷ 255 ∷ 0 ∷ 255 ∷ 255 ∷ 2 ∷ 0 ∷ 0 ∷ 1 ∷ 1 ∷ 0 ∷ [])
+    ∷ replays-with (delayed 2) 7 (pin 1 0 ∷ []) (0 ∷ 255 ∷ 255 ∷ 0 ∷ 255 ∷ 255 ∷ 2 ∷ 0 ∷ 0 ∷ 1 ∷ 1 ∷ 0 ∷ [])
     -- delay 0: intervals 1 and 2 decode them. Unit 1 is pinned at 0, at 1, and unit 2 at 0
-    ∷ replays-with (delayed 0) 4 (pin 1 0 ∷ []) (2 ∷ 0 ∷ 1 ∷ 1 ∷ [])
-    ∷ replays-with (delayed 0) 4 (pin 1 1 ∷ []) (2 ∷ 0 ∷ 1 ∷ 1 ∷ [])
-    ∷ replays-with (delayed 0) 4 (pin 2 0 ∷ []) (2 ∷ 0 ∷ 1 ∷ 1 ∷ [])
-    ∷ replays-with (delayed 0) 3 (pin 1 0 ∷ []) (2 ∷ 0 ∷ 1 ∷ 1 ∷ [])
+    ∷ replays-with (delayed 0) 4 (pin 1 0 ∷ []) (2 ∷ 0 ∷ 0 ∷ 1 ∷ 1 ∷ 0 ∷ [])
+    ∷ replays-with (delayed 0) 4 (pin 1 1 ∷ []) (2 ∷ 0 ∷ 0 ∷ 1 ∷ 1 ∷ 0 ∷ [])
+    ∷ replays-with (delayed 0) 4 (pin 2 0 ∷ []) (2 ∷ 0 ∷ 0 ∷ 1 ∷ 1 ∷ 0 ∷ [])
+    ∷ replays-with (delayed 0) 3 (pin 1 0 ∷ []) (2 ∷ 0 ∷ 0 ∷ 1 ∷ 1 ∷ 0 ∷ [])
     -- document 02, E5: a second bucket that never binds, one that fills, one that is over where the first is not, and one where both are over at once
-    ∷ replays-with (bytes-a8 63 4 0) 10 [] (0 ∷ 255 ∷ 2 ∷ 0 ∷ 1 ∷ 1 ∷ [])
-    ∷ replays-with (bytes-a8 63 1 5) 9 [] (0 ∷ 255 ∷ 2 ∷ 0 ∷ 1 ∷ 1 ∷ [])
-    ∷ replays-with (bytes-a8 1 2 0) 9 [] (0 ∷ 255 ∷ 2 ∷ 0 ∷ 1 ∷ 1 ∷ [])
-    ∷ replays-with (set (bytes-a8 1 2 0) 16 3) 9 [] (2 ∷ 255 ∷ 0 ∷ 1 ∷ 0 ∷ 1 ∷ [])
+    ∷ replays-with (bytes-a8 63 4 0) 10 [] (0 ∷ 255 ∷ 255 ∷ 2 ∷ 0 ∷ 0 ∷ 1 ∷ 1 ∷ 0 ∷ [])
+    ∷ replays-with (bytes-a8 63 1 5) 9 [] (0 ∷ 255 ∷ 255 ∷ 2 ∷ 0 ∷ 0 ∷ 1 ∷ 1 ∷ 0 ∷ [])
+    ∷ replays-with (bytes-a8 1 2 0) 9 [] (0 ∷ 255 ∷ 255 ∷ 2 ∷ 0 ∷ 0 ∷ 1 ∷ 1 ∷ 0 ∷ [])
+    ∷ replays-with (set (bytes-a8 1 2 0) 16 3) 9 [] (2 ∷ 255 ∷ 255 ∷ 0 ∷ 1 ∷ 0 ∷ 0 ∷ 1 ∷ 0 ∷ [])
     -- a pin that is not held there, and a list that is a number too short
-    ∷ replays-with (bytes-a8 63 4 0) 9 (pin 2 0 ∷ []) (0 ∷ 255 ∷ 2 ∷ 0 ∷ 1 ∷ 1 ∷ [])
-    ∷ replays-with (bytes-a8 63 4 0) 8 [] (0 ∷ 255 ∷ 2 ∷ 0 ∷ 1 ∷ 1 ∷ [])
+    ∷ replays-with (bytes-a8 63 4 0) 9 (pin 2 0 ∷ []) (0 ∷ 255 ∷ 255 ∷ 2 ∷ 0 ∷ 0 ∷ 1 ∷ 1 ∷ 0 ∷ [])
+    ∷ replays-with (bytes-a8 63 4 0) 8 [] (0 ∷ 255 ∷ 255 ∷ 2 ∷ 0 ∷ 0 ∷ 1 ∷ 1 ∷ 0 ∷ [])
     -- effective buffers of the 42 plan
-    ∷ reports (1 ∷ 255 ∷ 1 ∷ 1 ∷ 2 ∷ 0 ∷ [])
+    ∷ reports (1 ∷ 255 ∷ 255 ∷ 1 ∷ 1 ∷ 0 ∷ 2 ∷ 0 ∷ 0 ∷ [])
     ∷ []
 
 -- the levels and sums, then what is left of the list

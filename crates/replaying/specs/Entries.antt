@@ -9,7 +9,7 @@ use Rattle.base.specs.All.{all-below}
 use Rattle.model.specs.Job.{Job, Entry, intervals}
 use Rattle.format.specs.Fields.{fields, spelled}
 use Rattle.format.specs.JobBytes.{Header}
-use Rattle.format.specs.Choices.{no-choice, choice-width, choice-of, choice-number}
+use Rattle.format.specs.Choices.{no-choice, choice-width, choice-under, choice-number}
 
 -- the fields of an entry, and how many bytes they take
 abbrev pub entry-widths : List ℕ
@@ -28,32 +28,42 @@ rate-field b i = getD (entry-fields b i) 0 0
 unfoldable pub choice-field : List ℕ → ℕ → ℕ
 choice-field b i = getD (entry-fields b i) 1 0
 
+-- the entry of these numbers, under a mark for no unit
+unfoldable pub entry-under : ℕ → ℕ → ℕ → Entry
+entry-under mark rate choice = record { rate = rate; choice = choice-under mark choice }
+
 unfoldable pub entry-at : List ℕ → ℕ → Entry
-entry-at b i = record { rate = rate-field b i; choice = choice-of (choice-field b i) }
+entry-at b i = entry-under no-choice (rate-field b i) (choice-field b i)
 
 -- the entries from place i on, n of them
-unfoldable pub plan-from : List ℕ → ℕ → ℕ → List Entry
-plan-from b i zero = []
-plan-from b i (suc n) = entry-at b i ∷ plan-from b (suc i) n
+unfoldable pub entries-from : (ℕ → Entry) → ℕ → ℕ → List Entry
+entries-from f i zero = []
+entries-from f i (suc n) = f i ∷ entries-from f (suc i) n
+
+abbrev pub plan-from : List ℕ → ℕ → ℕ → List Entry
+plan-from b = entries-from (entry-at b)
 
 -- the whole plan of a job
 unfoldable pub plan-of : Job → List ℕ → List Entry
 plan-of j b = plan-from b 0 (intervals j)
 
--- an entry in range in place i: up to the delay it has no choice, after it one below M
-unfoldable pub entry-fits : Header → ℕ → ℕ → ℕ → Bool
-entry-fits h i rate choice =
+-- an entry in range in place i: up to the delay it has the mark, after it a choice below M
+unfoldable pub fits-under : ℕ → Header → ℕ → ℕ → ℕ → Bool
+fits-under mark h i rate choice =
     if ltb rate (h .rates) then
-    if ltb i (h .delay) then eqb choice no-choice else ltb choice (h .choices)
+    if ltb i (h .delay) then eqb choice mark else ltb choice (h .choices)
     else false
 
--- the first n entries
-unfoldable pub entries-fit : Header → List ℕ → ℕ → Bool
-entries-fit h b n = all-below (λ i. entry-fits h i (rate-field b i) (choice-field b i)) n
+abbrev pub entry-fits : Header → ℕ → ℕ → ℕ → Bool
+entry-fits = fits-under no-choice
+
+-- the first n entries, whose numbers are these
+unfoldable pub entries-fit : ℕ → Header → (ℕ → ℕ) → (ℕ → ℕ) → ℕ → Bool
+entries-fit mark h rate choice n = all-below (λ i. fits-under mark h i (rate i) (choice i)) n
 
 -- 14: the bytes are not those of T entries, or an entry is out of range
 unfoldable pub shaped : Header → List ℕ → Bool
-shaped h b = if eqb (length b) (entry-size * (h .units + h .delay)) then entries-fit h b (h .units + h .delay) else false
+shaped h b = if eqb (length b) (entry-size * (h .units + h .delay)) then entries-fit no-choice h (rate-field b) (choice-field b) (h .units + h .delay) else false
 
 -- the bytes of an entry, and of a plan
 unfoldable pub one-entry : Entry → List ℕ

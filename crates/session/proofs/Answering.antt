@@ -22,13 +22,13 @@ use Rattle.format.specs.JobBytes.{Header, job-in, parse, Opens}
 use Rattle.format.proofs.Parsing.{passed}
 use Rattle.format.proofs.Opened.{job-formed, intervals-are}
 use Rattle.pinning.specs.PinSet.{PinSet}
-use Rattle.pins.specs.declared.PinSet as code-set
-use Rattle.pins.specs.Answers.{set-of}
+use Rattle.pinset.specs.declared.PinSet as code-set
+use Rattle.pinset.specs.Answers.{set-of}
 use Rattle.replaying.specs.Entries.{entry-size, shaped}
 use Rattle.replaying.specs.Calls.{level-count, replay-tests, replay-call}
 use Rattle.replay.proofs.Answering.{levels-are}
-use Rattle.planner.specs.Answers.{table-words}
-use Rattle.planner.proofs.Answering.{words-are}
+use Rattle.table.specs.Answers.{table-words}
+use Rattle.table.proofs.Words.{words-are}
 use Rattle.planning.specs.Calls.{Planned, plan-call}
 use Rattle.calling.specs.Commands.{calls-tests}
 use Rattle.calling.specs.Sessions.{made, numbers, answers-tests, calls-refusal, calls-call, refuse, session-tests, plan-refusal, planned-after, session-call, replay-refusal, replay-session}

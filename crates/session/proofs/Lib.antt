@@ -2,6 +2,3 @@
 pub mod Calling
 pub mod Sessions
 pub mod Answering
-pub mod Records
-pub mod Following
-pub mod Inputs

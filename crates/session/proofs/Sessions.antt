@@ -10,8 +10,8 @@ use lib.Seq.{drop-cons, set-at}
 use Rattle.model.specs.Pins.{Call}
 use Rattle.pinning.specs.PinSet.{PinSet}
 use Rattle.pinning.specs.Calls.{Handed, call, open-call, CallsMade, after, run}
-use Rattle.pins.specs.declared.PinSet as code-set
-use Rattle.pins.specs.Answers.{set-of}
+use Rattle.pinset.specs.declared.PinSet as code-set
+use Rattle.pinset.specs.Answers.{set-of}
 use Rattle.base.specs.Lent.{over}
 use Rattle.calling.specs.Commands.{call-at, calls-from, calls-of}
 use Rattle.calling.specs.Sessions.{made, answer-number, numbers}

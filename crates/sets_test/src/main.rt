@@ -2,13 +2,13 @@
 // Standard input has Job A of document 01, 64 bytes, Job A with a second bucket, 70 bytes, then rows of one set each. A line says, for each of the two jobs, what the check, a pin of unit 2 at 0, a lift of unit 1, a replay and planning answer: 0, or the number of the refusal.
 ghost use Prim.Native.Nat.{_≤_};
 ghost use lib.ListN.{length};
-use job::Bucket;
-use job::Header;
+use header::Bucket;
+use header::Header;
 use job::Reading;
 use libc::STDIN_FILENO;
 use libc::STDOUT_FILENO;
 use pins::Answer;
-use pins::PinSet;
+use pinset::PinSet;
 use planner::Planned;
 use replay::Replayed;
 
@@ -20,51 +20,51 @@ const BOTH: usize = 134;
 const ROW: usize = 36;
 
 // A plan of Job A without a violation, where no pin bars it.
-const PLAN: [u8; 6] = [0, 255, 2, 0, 1, 1];
+const PLAN: [u8; 9] = [0, 255, 255, 2, 0, 0, 1, 1, 0];
 
 fn header_at(input: &[u8], at: usize) -> Header
     requires { ⌜ at ≤ 4096 ⌝ }
 {
     Header {
-        units: job::field16(input, at),
-        delay: job::field16(input, at + 2),
-        decoder: job::field16(input, at + 4),
-        level: job::field16(input, at + 10),
+        units: fields::field16(input, at),
+        delay: fields::field16(input, at + 2),
+        decoder: fields::field16(input, at + 4),
+        level: fields::field16(input, at + 10),
         first: Bucket {
-            size: job::field16(input, at + 6),
-            drain: job::field16(input, at + 8),
-            fill: job::field16(input, at + 12),
+            size: fields::field16(input, at + 6),
+            drain: fields::field16(input, at + 8),
+            fill: fields::field16(input, at + 12),
         },
-        two: job::field16(input, at + 18) == 1,
+        two: fields::field16(input, at + 18) == 1,
         second: Bucket {
-            size: job::field16(input, at + 20),
-            drain: job::field16(input, at + 22),
-            fill: job::field16(input, at + 24),
+            size: fields::field16(input, at + 20),
+            drain: fields::field16(input, at + 22),
+            fill: fields::field16(input, at + 24),
         },
-        rates: job::field16(input, at + 14),
-        choices: job::field16(input, at + 16),
+        rates: fields::field16(input, at + 14),
+        choices: fields::field16(input, at + 16),
     }
 }
 
 fn set_at(input: &[u8], at: usize) -> PinSet
     requires { ⌜ at ≤ 4096 ⌝ }
 {
-    let mut pins = [255u8; 512];
-    let unit = job::field16(input, at + 26);
-    let pin = job::field16(input, at + 28);
+    let mut pins = [65535u16; 512];
+    let unit = fields::field16(input, at + 26);
+    let pin = fields::field16(input, at + 28);
     match unit {
         1..=512 => {
             let place = (unit - 1) as usize;
-            pins[place] = (pin % 256) as u8;
+            pins[place] = pin;
         }
         _ => {}
     }
     PinSet {
         header: header_at(input, at),
         pins,
-        count: job::field16(input, at + 30) as u32,
-        size: job::field16(input, at + 32) as u32,
-        distortion: job::field16(input, at + 34) as u32,
+        count: fields::field16(input, at + 30) as u32,
+        size: fields::field16(input, at + 32) as u32,
+        distortion: fields::field16(input, at + 34) as u32,
     }
 }
 
@@ -105,7 +105,7 @@ fn print_planned(planned: Planned) {
 }
 
 fn try_set(job: &[u8], set: PinSet) {
-    print_reading(pins::check(job, set));
+    print_reading(pinset::check(job, set));
     let pinned = pins::pin(job, set, 2, 0);
     let answer = pinned.answer;
     print_answer(answer);
@@ -116,7 +116,7 @@ fn try_set(job: &[u8], set: PinSet) {
     let plan = PLAN;
     print_replayed(replay::replay(job, set, &plan, &mut levels));
     let mut table = [0u32; 160];
-    let mut entries = [0u8; 6];
+    let mut entries = [0u8; 9];
     print_planned(planner::plan(job, set, &mut table, &mut entries));
 }
 

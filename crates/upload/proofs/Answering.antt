@@ -1,20 +1,18 @@
--- What the exported calls answer and leave, from what the calls within them answered.
+-- What the done-export calls answer and leave, from what the calls within them answered.
 use Prim.Native.Nat.{ℕ, _+_, _<_, _≤_}
 use mathlib.Core.Path.{_≡_, sym, _∙_, ap}
 use mathlib.Core.Option.{Option, none, some}
 use mathlib.Core.List.{List, [], _∷_}
 use lib.ListN.{length, replicate}
-use mathlib.Core.Logic.{_⊎_, inl, inr}
-use mathlib.Core.Bool.{true, false}
-use Rattle.base.specs.If.{if_then_else_}
-use borrow.Author.Tests.{lt-leb, le-leb, ne-eqb}
+use mathlib.Core.Logic.{_⊎_}
+use borrow.Author.Tests.{lt-leb, le-leb}
 use Rattle.base.specs.Refusals.{refusal, unless, first}
-use Rattle.base.specs.Lent.{over, put}
+use Rattle.base.specs.Lent.{Ended, over, put}
 use Rattle.base.proofs.Refusals.{refusal-here, refusal-last, unless-some, unless-none, guarded-here, guarded-last}
 use Rattle.format.specs.Parser.{on-took}
 use Rattle.format.specs.JobBytes.{header-of, header-in, parse}
-use Rattle.job.specs.declared.Header.{Header}
-use Rattle.job.specs.Answers.{plain}
+use Rattle.header.specs.declared.Header.{Header}
+use Rattle.header.specs.Answers.{plain}
 use Rattle.writing.specs.Calls.{write-refusal, write-call}
 use Rattle.writer.specs.declared.Wrote.{Wrote}
 use Rattle.writer.specs.declared.Wrote.the-variants as wrotes
@@ -23,7 +21,9 @@ use Rattle.pinning.specs.PinSet.{PinSet, fresh}
 use Rattle.pinning.specs.Calls.{open-call}
 use Rattle.pins.specs.declared.Opened.{Opened}
 use Rattle.pins.specs.declared.Opening.the-variants as opens
-use Rattle.pins.specs.Answers.{set-of, opening-answer, opening}
+use Rattle.pinset.specs.Answers.{set-of}
+use Rattle.pins.specs.Answers.{opening-answer, opening}
+use Rattle.pins.proofs.Opens.{Open, is-open, not-open, answer-is, state-is}
 use Rattle.interval.specs.declared.Totals.{Totals}
 use Rattle.interval.specs.declared.Violation.{Violation}
 use Rattle.interval.specs.Answers.{violation}
@@ -31,6 +31,12 @@ use Rattle.replay.specs.declared.Replayed.{Replayed}
 use Rattle.replay.specs.declared.Replayed.the-variants as replays
 use Rattle.replay.specs.declared.Reported.{Reported}
 use Rattle.replay.specs.declared.Reported.the-variants as reports
+use Rattle.base.specs.Answer.{refused, gives}
+use Rattle.former.specs.declared.Turned.{Turned}
+use Rattle.former.specs.declared.Turned.the-variants as turns
+use Rattle.former.specs.Answers as former
+use Rattle.former.specs.Answers.{turn-answer}
+use Rattle.replaying.specs.Former.{turn-call}
 use Rattle.replay.specs.Answers.{ended, report-answer}
 use Rattle.replay.specs.Answers as replay
 use Rattle.replaying.specs.Calls.{report-call}
@@ -43,21 +49,9 @@ use Rattle.session.specs.declared.Called.the-variants as calls
 use Rattle.session.specs.declared.PinTotals.{PinTotals}
 use Rattle.session.specs.Answers.{called-answer, session-is}
 use Rattle.session.specs.Answers as session
-use Rattle.session.proofs.Inputs.{Open, is-open, not-open, answer-is, state-is}
-use Rattle.upload.specs.Exports.{number-of, room-for, buckets-in, header-fields, opened-values, opened, open-export, pins-list, called, after-calls, calls-export, totals-list, totals-values, planned, after-session, plan-export, violation-number, replayed-list, replayed, after-replay, replay-export, reported, report-export, written, after-write, write-export}
-
--- how many fields are a header
-pub is-header : (n : ℕ) → (n ≡ 9) ⊎ (n ≡ 12) → header-fields n ≡ true
-unfolding header-fields if_then_else_
-is-header n (inl e) = rw e
-is-header n (inr e) = rw e
-
-pub neither : (n : ℕ) → (n ≡ 9 → ⊥) → (n ≡ 12 → ⊥) → header-fields n ≡ false
-unfolding header-fields if_then_else_
-neither n f g = rw (ne-eqb n 12 g) (ne-eqb n 9 f)
-
-pub no-header : (n : ℕ) → ((n ≡ 9) ⊎ (n ≡ 12) → ⊥) → header-fields n ≡ false
-no-header n f = neither n (λ e. f (inl e)) (λ e. f (inr e))
+use Rattle.values.specs.Lists.{buckets-in, opened-values, pins-list, totals-values, violation-number, replayed-list}
+use Rattle.values.proofs.Headers.{is-header, no-header}
+use Rattle.upload.specs.Exports.{number-of, room-for, opened, open-export, called, after-calls, calls-export, planned, after-session, plan-export, replayed, after-replay, replay-export, filled, done-export, report-export, turn-export, written, after-write, write-export}
 
 -- what was looked at before, then room for the values
 module _ {R : Type 0} (refuse : ℕ → R) (o : Option ℕ) (least : ℕ) (values : List ℕ) (work : R) where
@@ -175,14 +169,32 @@ module _ (job ks entries levels values : List ℕ) where
       replay-violated n v q k f t z new w = sym (on-replay ∙ rw (q, w, f, z))
 
 -- the report
-module _ (job entries sums : List ℕ) (x : Reported) (new : List ℕ) (i : replay.reported x new ≡ report-call job entries sums) where
-  pub report-refused : (n : ℕ) → x ≡ reports.Refused n → reported n new ≡ report-export job entries sums
-  unfolding report-export replay.reported report-answer number-of
-  report-refused n q = rw (← i, q)
+module _ (e : Ended (Unit {0})) (new : List ℕ) where
+  ended-refused : (n : ℕ) → record { answer = refused n; list = new } ≡ e → filled n new ≡ done-export e
+  unfolding done-export number-of
+  ended-refused n q = rw (← q)
 
-  pub report-done : x ≡ reports.Done → reported 0 new ≡ report-export job entries sums
-  unfolding report-export replay.reported report-answer number-of
-  report-done q = rw (← i, q)
+  ended-done : record { answer = gives tt; list = new } ≡ e → filled 0 new ≡ done-export e
+  unfolding done-export number-of
+  ended-done q = rw (← q)
+
+module _ (job entries sums : List ℕ) (x : Reported) (new : List ℕ) (i : replay.reported x new ≡ report-call job entries sums) where
+  pub report-refused : (n : ℕ) → x ≡ reports.Refused n → filled n new ≡ report-export job entries sums
+  unfolding replay.reported report-answer
+  report-refused n q = ended-refused (report-call job entries sums) new n (rw q at i)
+
+  pub report-done : x ≡ reports.Done → filled 0 new ≡ report-export job entries sums
+  unfolding replay.reported report-answer
+  report-done q = ended-done (report-call job entries sums) new (rw q at i)
+
+module _ (job old entries : List ℕ) (x : Turned) (new : List ℕ) (i : former.turned x new ≡ turn-call job old entries) where
+  pub turn-refused : (n : ℕ) → x ≡ turns.Refused n → filled n new ≡ turn-export job old entries
+  unfolding former.turned turn-answer
+  turn-refused n q = ended-refused (turn-call job old entries) new n (rw q at i)
+
+  pub turn-done : x ≡ turns.Done → filled 0 new ≡ turn-export job old entries
+  unfolding former.turned turn-answer
+  turn-done q = ended-done (turn-call job old entries) new (rw q at i)
 
 -- writing a job
 module _ (fields rates sizes distortions job values : List ℕ) where

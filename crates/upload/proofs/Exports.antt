@@ -1,5 +1,5 @@
--- The claims of the exported calls, composed from those of the calls within them: `Opening`, `Calling`, `Plans`, `Replays`, `Reports` and `Writes`.
-use Prim.Native.Nat.{ℕ, _+_, _/_, _≤_}
+-- The claims of the exported calls, composed from those of the calls within them: `Opening`, `Calling`, `Plans`, `Replays`, `Reports`, `Turns` and `Writes`.
+use Prim.Native.Nat.{ℕ, _+_, _*_, _/_, _≤_}
 use mathlib.Core.Path.{_≡_, refl, sym, _∙_, ap, ap₂, subst}
 use mathlib.Core.Logic.{_⊎_}
 use mathlib.Core.Option.{Option, none, some}
@@ -7,7 +7,6 @@ use mathlib.Core.List.{List, [], _∷_, _++_}
 use native.Mathlib.Omega.{arith}
 use lib.ListN.{length}
 use borrow.Author.Tests.{leb-true, le-leb}
-use Rattle.upload.proofs.Answering.{is-header, no-header}
 use Rattle.base.specs.Answer.{Answer, refused, gives}
 use Rattle.base.specs.Refusals.{Test, Condition, condition, InOrder, refusal, unless, first, guarded}
 use Rattle.base.specs.Lent.{over, put}
@@ -23,10 +22,12 @@ use Rattle.format.specs.Parser as P
 use Rattle.format.specs.JobBytes.{Header, header-of, header-in, parse}
 use Rattle.format.proofs.Parsing.{looks-read, read-refusal, refusal-in-join}
 use Rattle.format.proofs.Opened.{opens-by, held-job}
-use Rattle.planner.specs.Answers.{table-words}
-use Rattle.planner.proofs.Answering.{words-are}
+use Rattle.table.specs.Answers.{table-words}
+use Rattle.table.proofs.Words.{words-are}
 use Rattle.replaying.specs.Calls.{report-call, replay-tests}
 use Rattle.replaying.proofs.Reports.{replay-decides, reports}
+use Rattle.replaying.specs.Former.{turn-call}
+use Rattle.replaying.proofs.Former.{turns}
 use Rattle.writing.specs.Calls.{write-refusal, write-call}
 use Rattle.format.specs.Places.{job-size}
 use Rattle.writing.specs.Claims.{Asks}
@@ -37,9 +38,13 @@ use Rattle.calling.specs.Sessions.{answers-tests, calls-refusal, calls-call, Se
 use Rattle.calling.specs.Claims.{book-numbers, book-pins, SessionClaim}
 use Rattle.calling.proofs.Numbers.{calls-decide}
 use Rattle.calling.proofs.Sessions.{call-sessions, session-decides, sessions, replay-sessions}
+use Rattle.values.specs.Lists.{buckets-in, opened-values, pins-list, totals-list}
+use Rattle.values.proofs.Headers.{is-header, no-header}
 use Rattle.upload.specs.Exports as x
-use Rattle.upload.specs.Exports.{number-of, room-for, buckets-in, opened-values, opened, open-export, pins-list, called, after-calls, calls-export, totals-list, planned, after-session, plan-export, replayed, after-replay, replay-export, reported, report-export, written, after-write, write-export}
-use Rattle.upload.specs.Claims.{CallConditions, Opening, Calling, Planning, PlanConditions, Plans, Replaying, ReplayConditions, Replays, Reports, Writing, Writes}
+use Rattle.upload.specs.Exports.{number-of, room-for, opened, open-export, called, after-calls, calls-export, planned, after-session, plan-export, replayed, after-replay, replay-export, filled, done-export, report-export, turn-export, written, after-write, write-export}
+use Rattle.upload.specs.Claims.{CallConditions, Opening, Calling, Planning, PlanConditions, Plans, Replaying, ReplayConditions, Replays, Reporting, Reports, Turning, Turns, Writing, Writes}
+use Rattle.replaying.specs.Claims.{InShape, Reported, WasPlan, Turned}
+use Rattle.replaying.specs.Entries.{plan-of}
 
 -- room for so many values
 room-decides : (least : ℕ) (values : List ℕ) → Decides (room-for least values) (condition 12 (least ≤ length values) ∷ [])
@@ -144,26 +149,27 @@ replays b calls entries levels values =
       λ h. record { replay = replay-session b calls entries levels; claim = replay-sessions b calls entries levels .1 j k e .1 (h .0) .1 (h .1 .0) .1 (h .1 .1 .0) .1 (h .1 .1 .1 .0); is = ap (λ (n : ℕ). after-replay n (replay-session b calls entries levels) values) (counted b j k e) },
     )))
 
--- what is exported of a report
-shown : (b entries sums : List ℕ) (n : ℕ) → report-call b entries sums ≡ lent.refuse sums n → report-export b entries sums ≡ reported n sums
-unfolding report-export lent.refuse number-of
-shown b entries sums n e = rw e
+-- an order of refusals, seen through what is exported of a call
+in-order-through : {R S : Type 0} (f : R → S) (r : R) (refuse : ℕ → R) (out : ℕ → S) (cs : List Condition) (A B : Type 0) → ((n : ℕ) → f (refuse n) ≡ out n) → (A → B) → InOrder r refuse cs A → InOrder (f r) out cs B
+in-order-through f r refuse out [] A B e g p = g p
+in-order-through f r refuse out (c ∷ cs) A B e g p = (λ h. ap f (p .0 h) ∙ e (c .number), λ h. in-order-through f r refuse out cs A B e g (p .1 h))
+
+looks-through : {R S : Type 0} (f : R → S) (r : R) (refuse : ℕ → R) (out : ℕ → S) (reading : P.Result Job) (conditions : Job → List Condition) (A B : Job → Type 0) → ((n : ℕ) → f (refuse n) ≡ out n) → ((j : Job) → A j → B j) → Looks r refuse reading conditions A → Looks (f r) out reading conditions B
+looks-through f r refuse out reading conditions A B e g l = (λ n q. ap f (l .0 n q) ∙ e n, λ j k q. in-order-through f r refuse out (conditions j) (A j) (B j) e (g j) (l .1 j k q))
+
+refusal-shown : (list : List ℕ) (n : ℕ) → done-export (lent.refuse list n) ≡ filled n list
+unfolding done-export lent.refuse number-of
+refusal-shown list n = refl
+
+done-shown : (e : lent.Ended (Unit {0})) → e .answer ≡ gives tt → done-export e ≡ filled 0 (e .list)
+unfolding done-export number-of
+done-shown e q = rw q
 
 pub reports-exported : Reports
-reports-exported b entries sums =
-    let r = reports b entries sums in (
-      λ n e. shown b entries sums n (r .0 n e),
-      λ j k e. let o = r .1 j k e in (
-        λ f. shown b entries sums 14 (o .0 f),
-        λ p. (
-          λ f. shown b entries sums 12 (o .1 p .0 f),
-          λ q. let c = o .1 p .1 q in record { report = report-call b entries sums; claim = c; is = given (c .given) },
-        ),
-      ),
-    )
-  where
-    given : report-call b entries sums .answer ≡ gives tt → report-export b entries sums ≡ reported 0 (report-call b entries sums .list)
-    given e = unfold report-export number-of in (rw e)
+reports-exported b entries sums = looks-through done-export _ (lent.refuse sums) (λ n. filled n sums) (parse b) (λ j. condition 14 (InShape j entries) ∷ condition 12 (length (j .units) + 1 ≤ length sums) ∷ []) (λ j. Reported j (plan-of j entries) sums (report-call b entries sums)) (λ j. Reporting j entries sums (report-export b entries sums)) (refusal-shown sums) (λ j c. record { report = report-call b entries sums; claim = c; is = done-shown (report-call b entries sums) (c .given) }) (reports b entries sums)
+
+pub turns-exported : Turns
+turns-exported b old entries = looks-through done-export _ (lent.refuse entries) (λ n. filled n entries) (parse b) (λ j. condition 14 (WasPlan j old) ∷ condition 12 (3 * intervals j ≤ length entries) ∷ []) (λ j. Turned j old entries (turn-call b old entries)) (λ j. Turning j old entries (turn-export b old entries)) (refusal-shown entries) (λ j c. record { turn = turn-call b old entries; claim = c; is = done-shown (turn-call b old entries) (c .given) }) (turns b old entries)
 
 -- an order that is known of the refusal found first
 in-front : {R : Type 0} (refuse : ℕ → R) (o : Option ℕ) (r : R) (cs ds : List Condition) (Else : Type 0) → InOrder o some cs (o ≡ none) → ((n : ℕ) → o ≡ some n → r ≡ refuse n) → (o ≡ none → InOrder r refuse ds Else) → InOrder r refuse (cs ++ ds) Else

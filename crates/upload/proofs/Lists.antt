@@ -1,157 +1,46 @@
 -- How many values a call gives: one for each bucket of the job's line beside those that every job has.
-use Prim.Native.Nat.{ℕ, zero, suc, _+_, _*_, _≤_, _<_}
+use Prim.Native.Nat.{ℕ, _+_, _≤_}
 use mathlib.Core.Path.{_≡_, refl, sym, _∙_, ap, subst}
 use mathlib.Core.Bool.{Bool, true, false}
 use mathlib.Core.Option.{Option, none, some}
-use mathlib.Core.Logic.{_⊎_, inl, inr}
-use mathlib.Core.List.{List, [], _∷_, zipWith}
+use mathlib.Core.List.{List}
 use native.Mathlib.Omega.{arith}
-use lib.Dec.{eqb}
-use lib.ListN.{length, getD, drop, replicate, length-drop, length-replicate, drop-of-length-le}
-use lib.Seq.{getD-drop}
-use borrow.Author.Tests.{eq-eqb, ne-eqb, eqb-true}
-use Rattle.base.specs.If.{if_then_else_, one-if}
+use lib.ListN.{length, replicate, length-replicate}
+use Rattle.base.specs.If.{if_then_else_}
 use Rattle.base.specs.Answer.{Answer, refused, gives}
 use Rattle.base.specs.Refusals.{Test, guarded}
 use Rattle.base.specs.Lent as lent
 use Rattle.base.proofs.Answers.{not-refused, gives-same}
 use Rattle.base.proofs.Refusals.{Guarded, was-refused, was-done, guarded-is}
-use Rattle.model.specs.Job.{Bucket, Levels, Job, Entry}
+use Rattle.model.specs.Job.{Levels, Job, Entry}
 use Rattle.model.specs.Pins.{PinMap}
 use Rattle.model.specs.Levels.{unusedTotals}
 use Rattle.model.specs.Replay.{Totals, totals, Result, clean, stopped, replay}
-use Rattle.model.specs.Best.{late, least-total, best-plan}
+use Rattle.model.specs.Best.{late, least-total}
 use Rattle.format.specs.Parser as P
 use Rattle.format.specs.Parser.{on-read}
-use Rattle.format.specs.JobBytes.{Policed, Header, policed-by, no-header, job-of, parse, job-or-none, job-in}
-use Rattle.format.proofs.Limits.{not-true}
+use Rattle.format.specs.JobBytes.{parse}
 use Rattle.format.proofs.Places.{well-read}
-use Rattle.format.proofs.Bounds.{limited}
-use Rattle.format.proofs.Opened.{opens-by, held-job}
-use Rattle.job.specs.declared.Header as code
-use Rattle.job.specs.Answers.{extra, policed-of, plain}
-use Rattle.job.proofs.Answers.{Held}
+use Rattle.format.proofs.Opened.{held-job}
 use Rattle.pinning.specs.PinSet.{PinSet, lines}
 use Rattle.pinning.specs.Check.{checked, accept, fits}
 use Rattle.interval.specs.declared.Totals as sums
 use Rattle.interval.specs.Answers.{totals-of}
 use Rattle.model.proofs.Drains.{zip-length}
-use Rattle.replaying.specs.Calls as r
-use Rattle.replaying.specs.Calls.{Replayed, totals-are, violated, replayed, played, replay-tests, replay-call}
+use Rattle.replaying.specs.Calls.{Replayed, totals-are, replayed, played, replay-call}
 use Rattle.replaying.specs.Entries.{plan-of}
-use Rattle.replay.proofs.Levels.{bucket-count}
 use Rattle.replay.specs.Answers.{ended, answered}
 use Rattle.replay.specs.declared.Replayed as code-replayed
 use Rattle.replay.specs.declared.Replayed.the-variants as replays
 use Rattle.planning.specs.Calls as p
-use Rattle.planning.specs.Calls.{searched, search-in, plan-tests, plan-in, plan-call}
+use Rattle.planning.specs.Calls.{searched, search-in, plan-in, plan-call}
 use Rattle.planner.specs.declared.Planned as code-planned
 use Rattle.planner.specs.declared.Planned.the-variants as plans
 use Rattle.planner.specs.Answers as planner
 use Rattle.calling.specs.Sessions as s
-use Rattle.calling.specs.Sessions.{made, planned-after, session-tests, session-call, replay-session}
-use Rattle.calling.specs.Commands.{calls-tests}
+use Rattle.calling.specs.Sessions.{made, planned-after, session-call, replay-session}
 use Rattle.session.specs.Answers.{session-is}
-use Rattle.upload.specs.Exports.{buckets-in, totals-list, totals-values, header-fields}
-
--- a job that opens has one bucket or two, and bytes that do not open stand for one
-module _ (b : List ℕ) where
-  pub none-read : (n : ℕ) → parse b ≡ P.refused n → 1 ≡ buckets-in b
-  unfolding job-in job-or-none job-of
-  none-read n e = rw e
-
-  module _ (h : code.Header) (k : ℕ) (held : Held (parse b) (plain h) k) where
-    told : buckets-in b ≡ length (plain h .buckets)
-    told = bucket-count b (plain h) (opens-by b (plain h) (held .job) k (held .is) (held .header-is))
-
-    pub two-read : h .two ≡ true → 2 ≡ buckets-in b
-    unfolding plain one-if
-    two-read e = sym (told ∙ rw e)
-
-    pub one-read : h .two ≡ false → 1 ≡ buckets-in b
-    unfolding plain one-if
-    one-read e = sym (told ∙ rw e)
-
-  pub few-buckets : (1 ≤ buckets-in b) × (buckets-in b ≤ 2)
-  few-buckets = go (parse b) refl
-    where
-      go : (q : P.Result Job) → parse b ≡ q → (1 ≤ buckets-in b) × (buckets-in b ≤ 2)
-      go (P.refused n) e = (omega (arith, none-read n e), omega (arith, none-read n e))
-      go (P.took j k) e = let w = limited-buckets j k e in (omega (arith, w), omega (arith, w))
-        where
-          limited-buckets : (j : Job) (k : ℕ) → parse b ≡ P.took j k → (1 ≤ buckets-in b) × (buckets-in b ≤ 2)
-          limited-buckets j k e = rw (held-job b j k e) (let l = limited j (well-read b j k e) in (l .buckets .0, l .buckets .1))
-
--- totals of zeros
-pub zeros-are : (n : ℕ) → 1 ≤ n → n ≤ 2 → _≡_ {A = List ℕ} (0 ∷ 0 ∷ 0 ∷ 0 ∷ one-if (eqb n 2) 0) (replicate (3 + n) 0)
-unfolding one-if
-zeros-are zero h k = absurd (omega arith)
-zeros-are (suc zero) h k = refl
-zeros-are (suc (suc zero)) h k = refl
-zeros-are (suc (suc (suc n))) h k = absurd (omega arith)
-
--- room for totals, one after another
-module _ (t : sums.Totals) {n : ℕ} where
-  pub four-room : length (totals-values t) ≤ n → 4 ≤ n
-  unfolding totals-values totals-list totals-of
-  four-room h = omega arith
-
-  pub five-room : t .two ≡ true → length (totals-values t) ≤ n → 5 ≤ n
-  unfolding totals-values totals-list totals-of one-if
-  five-room e h = rw e at h
-
-  pub four-room-behind : 2 + length (totals-values t) ≤ n → 6 ≤ n
-  unfolding totals-values totals-list totals-of
-  four-room-behind h = omega arith
-
-  pub five-room-behind : t .two ≡ true → 2 + length (totals-values t) ≤ n → 7 ≤ n
-  unfolding totals-values totals-list totals-of one-if
-  five-room-behind e h = rw e at h
-
--- fields of a second bucket
-pub twelve : (two : Bool) (n : ℕ) → two ≡ true → n ≡ 9 + 3 * extra two → n ≡ 12
-unfolding extra if_then_else_
-twelve two n e h = rw e at h
-
-pub fields-two : (n : ℕ) → header-fields n ≡ true → n ≡ 9 + 3 * extra (eqb n 12)
-unfolding header-fields if_then_else_ extra
-fields-two n e = go (eqb n 12) refl e
-  where
-    go : (t : Bool) → eqb n 12 ≡ t → (if t then true else eqb n 9) ≡ true → n ≡ 9 + 3 * (if t then 1 else 0)
-    go true q e = eqb-true n 12 q
-    go false q e = eqb-true n 9 e
-
-pub header-told : (n : ℕ) → header-fields n ≡ true → (n ≡ 9) ⊎ (n ≡ 12)
-unfolding header-fields if_then_else_
-header-told n e = go (eqb n 12) refl e
-  where
-    go : (t : Bool) → eqb n 12 ≡ t → (if t then true else eqb n 9) ≡ true → (n ≡ 9) ⊎ (n ≡ 12)
-    go true q e = inr (eqb-true n 12 q)
-    go false q e = inl (eqb-true n 9 e)
-
-pub no-told : (n : ℕ) → header-fields n ≡ false → (n ≡ 9) ⊎ (n ≡ 12) → ⊥
-unfolding header-fields if_then_else_
-no-told n e (inl q) = let z : true ≡ false = rw q at e in absurd (not-true (sym z))
-no-told n e (inr q) = let z : true ≡ false = rw q at e in absurd (not-true (sym z))
-
-three-of : (l : List ℕ) → length l ≡ 3 → l ≡ getD l 0 0 ∷ getD l 1 0 ∷ getD l 2 0 ∷ []
-three-of [] e = absurd (omega arith)
-three-of (a ∷ []) e = absurd (omega arith)
-three-of (a ∷ b ∷ []) e = absurd (omega arith)
-three-of (a ∷ b ∷ c ∷ []) e = refl
-three-of (a ∷ b ∷ c ∷ d ∷ l) e = absurd (omega arith)
-
-pub three-read : (fields : List ℕ) (two : Bool) → two ≡ true → length fields ≡ 12 → one-if two (record { size = getD fields 9 0; drain = getD fields 10 0; fill = getD fields 11 0 }) ≡ policed-by (drop 9 fields)
-unfolding one-if policed-by
-three-read fields two e n = rw (e, three-of (drop 9 fields) (rw length-drop (omega arith)), getD-drop, getD-drop, getD-drop)
-
-pub none-behind : (fields : List ℕ) (two : Bool) (k : Policed) → two ≡ false → length fields ≡ 9 + 3 * extra two → one-if two k ≡ policed-by (drop 9 fields)
-unfolding one-if policed-by extra if_then_else_
-none-behind fields two k e n = let m : length fields ≤ 9 = omega (arith, rw e at n) in rw (e, drop-of-length-le fields m)
-
--- a header with these buckets behind the first
-pub with-more : (u d b l : ℕ) (k : Policed) (r c : ℕ) (more other : List Policed) → more ≡ other → _≡_ {A = Header} (record { units = u; delay = d; decoder = b; level = l; buckets = k ∷ more; rates = r; choices = c }) (record { units = u; delay = d; decoder = b; level = l; buckets = k ∷ other; rates = r; choices = c })
-with-more u d b l k r c more other e = rw e
+use Rattle.values.specs.Lists.{buckets-in, totals-list, totals-values}
 
 -- totals have a number for each bucket
 totals-count : (j : Job) (start : Levels) (q : List Entry) → length (start .buckets) ≡ length (j .line .buckets) → length (totals j 0 start q .unused) ≡ length (j .line .buckets)

@@ -16,12 +16,13 @@ use Rattle.format.specs.Parser as P
 use Rattle.format.specs.JobBytes.{header-of, parse}
 use Rattle.replaying.specs.Entries.{plan-of}
 use Rattle.replaying.specs.Calls.{Replayed}
-use Rattle.replaying.specs.Claims.{InShape, DemandTwo, Reported}
+use Rattle.replaying.specs.Claims.{InShape, DemandTwo, Reported, WasPlan, Turned}
 use Rattle.writing.specs.Claims.{Asks, Written}
 use Rattle.calling.specs.Sessions.{Session}
 use Rattle.calling.specs.Claims.{AllKinds, Whole, book-numbers, book-pins, SessionClaim}
+use Rattle.values.specs.Lists.{pins-list}
 use Rattle.upload.specs.Exports as x
-use Rattle.upload.specs.Exports.{opened, open-export, pins-list, called, calls-export, planned, after-session, plan-export, replayed, after-replay, replay-export, reported, report-export, written, write-export}
+use Rattle.upload.specs.Exports.{opened, open-export, called, calls-export, planned, after-session, plan-export, replayed, after-replay, replay-export, Filled, filled, report-export, turn-export, written, write-export}
 
 -- the calls as numbers, before one is made
 abbrev pub CallConditions : List ℕ → List Condition
@@ -46,7 +47,7 @@ pub record Planning (j : Job) (calls answers table entries values : List ℕ) (r
   pub else-done : (r .number ≡ 13 → ⊥) → r .number ≡ 0
 
 abbrev pub PlanConditions : Job → List ℕ → List ℕ → List ℕ → List ℕ → List Condition
-PlanConditions j calls answers table entries = CallConditions calls ++ (condition 11 (words j ≤ length table) ∷ condition 12 (length calls / 3 ≤ length answers) ∷ condition 12 (2 * intervals j ≤ length entries) ∷ [])
+PlanConditions j calls answers table entries = CallConditions calls ++ (condition 11 (words j ≤ length table) ∷ condition 12 (length calls / 3 ≤ length answers) ∷ condition 12 (3 * intervals j ≤ length entries) ∷ [])
 
 abbrev pub Plans : Type 0
 Plans = (b calls answers table entries values : List ℕ) → Looks (plan-export b calls answers table entries values) (λ n. planned n answers table entries values) (parse b) (λ j. PlanConditions j calls answers table entries ++ (condition 12 (3 + length (j .line .buckets) ≤ length values) ∷ [])) (λ j. Planning j calls answers table entries values (plan-export b calls answers table entries values))
@@ -64,13 +65,22 @@ abbrev pub Replays : Type 0
 Replays = (b calls entries levels values : List ℕ) → Looks (replay-export b calls entries levels values) (λ n. replayed n levels values) (parse b) (λ j. ReplayConditions j calls entries levels ++ (condition 12 (5 + length (j .line .buckets) ≤ length values) ∷ [])) (λ j. Replaying j calls entries levels values (replay-export b calls entries levels values))
 
 -- the report: the sums of (6)
-pub record Reporting (j : Job) (entries sums : List ℕ) (r : x.Reported) : Type 0 where
+pub record Reporting (j : Job) (entries sums : List ℕ) (r : Filled) : Type 0 where
   pub report : Ended (Unit {0})
   pub claim : Reported j (plan-of j entries) sums report
-  pub is : r ≡ reported 0 (report .list)
+  pub is : r ≡ filled 0 (report .list)
 
 abbrev pub Reports : Type 0
-Reports = (b entries sums : List ℕ) → Looks (report-export b entries sums) (λ n. reported n sums) (parse b) (λ j. condition 14 (InShape j entries) ∷ condition 12 (length (j .units) + 1 ≤ length sums) ∷ []) (λ j. Reporting j entries sums (report-export b entries sums))
+Reports = (b entries sums : List ℕ) → Looks (report-export b entries sums) (λ n. filled n sums) (parse b) (λ j. condition 14 (InShape j entries) ∷ condition 12 (length (j .units) + 1 ≤ length sums) ∷ []) (λ j. Reporting j entries sums (report-export b entries sums))
+
+-- turning an old plan
+pub record Turning (j : Job) (old entries : List ℕ) (r : Filled) : Type 0 where
+  pub turn : Ended (Unit {0})
+  pub claim : Turned j old entries turn
+  pub is : r ≡ filled 0 (turn .list)
+
+abbrev pub Turns : Type 0
+Turns = (b old entries : List ℕ) → Looks (turn-export b old entries) (λ n. filled n entries) (parse b) (λ j. condition 14 (WasPlan j old) ∷ condition 12 (3 * intervals j ≤ length entries) ∷ []) (λ j. Turning j old entries (turn-export b old entries))
 
 -- writing: fields that are neither nine nor twelve are no header; then the writer's own order, then room for the value, which is how many bytes the job took
 pub record Writing (fields rates sizes distortions job values : List ℕ) (r : x.Written) : Type 0 where

@@ -21,7 +21,7 @@ use Rattle.writing.specs.Calls.{write-limits, room-tests, write-refusal, write-
 use Rattle.writing.proofs.Order.{Accepted, accepted}
 use Rattle.writing.proofs.Writes.{header-given, taken, room-for}
 use Rattle.writing.proofs.Refusals.{size-given, refused-first, limits-kept, room-left}
-use Rattle.writer.specs.Answers.{put-at}
+use Rattle.fields.specs.Written.{put-at}
 use Rattle.writer.proofs.Records.{put-job}
 
 -- the verdict before writing: the limits, then the room

@@ -18,12 +18,12 @@ use Rattle.format.specs.JobBytes.{Policed, Header, further-buckets, bucket-valu
 use Rattle.format.specs.Places.{header-size, rates-size, unit-size}
 use Rattle.format.proofs.RoundTrip.{header-total}
 use Rattle.format.proofs.Spelling.{bytes-length}
-use Rattle.job.specs.declared.Header as code
-use Rattle.job.specs.Answers.{policed-of, plain}
+use Rattle.header.specs.declared.Header as code
+use Rattle.header.specs.Answers.{policed-of, plain}
 use Rattle.writing.specs.Lists.{parted, codings-from}
 use Rattle.writing.proofs.Lists.{codings-take, codings-drop}
-use Rattle.writer.specs.Answers.{put-at}
-use Rattle.writer.proofs.Setting.{put-next, put-nothing}
+use Rattle.fields.specs.Written.{put-at}
+use Rattle.fields.proofs.Setting.{put-next, put-nothing}
 
 -- a record: its head, then its fields
 pub put-record : (f : Form) (vs l m o : List ℕ) (at len : ℕ) → 2 + total (f .widths) ≡ len → m ≡ put-at l at (spelled (2 ∷ 2 ∷ []) (len ∷ f .kind ∷ [])) → o ≡ put-at m (at + 4) (spelled (f .widths) vs) → o ≡ put-at l at (record-bytes f vs)

@@ -1,7 +1,6 @@
 -- What the writer's answers mean in the terms of the crates below, case by case.
 use Prim.Native.Nat.{ℕ}
 use mathlib.Core.List.{List}
-use lib.Seq.{sets}
 use Rattle.base.specs.Answer.{Answer, refused, gives}
 use Rattle.base.specs.Lent.{Ended}
 use Rattle.writer.specs.declared.Wrote.{Wrote}
@@ -14,7 +13,3 @@ wrote-answer (w.Refused n) = refused n
 
 unfoldable pub wrote : Wrote → List ℕ → Ended ℕ
 wrote r out = record { answer = wrote-answer r; list = out }
-
--- these bytes from a place on, the rest of the list as before
-unfoldable pub put-at : List ℕ → ℕ → List ℕ → List ℕ
-put-at l at new = sets l at new

@@ -11,12 +11,13 @@ ghost use Rattle.format.specs.Parser.{all-bytes};
 ghost use Rattle.format.specs.Records.{record-bytes};
 ghost use Rattle.format.specs.JobBytes.{header-limits, rate-limits, coding-limits, nine-values, unit-values, entry-widths, rates-form, header-bytes, unit-bytes};
 ghost use Rattle.format.specs.Places.{header-size, rates-size, unit-size, job-size};
-ghost use Rattle.job.specs.Answers.{policed-of, plain, verdict};
+ghost use Rattle.header.specs.Answers.{policed-of, plain, verdict};
 ghost use Rattle.writing.specs.Lists.{parted, codings-from};
 ghost use Rattle.writing.specs.Calls.{length-limits, write-limits, write-refusal, write-call};
-ghost use Rattle.writer.specs.Answers.{wrote, put-at};
-use job::Header;
-use job::Verdict;
+ghost use Rattle.writer.specs.Answers.{wrote};
+ghost use Rattle.fields.specs.Written.{put-at};
+use header::Header;
+use header::Verdict;
 
 // How many bytes the job took, or the refusal's number.
 pub enum Wrote {
@@ -48,8 +49,8 @@ fn rates_verdict(rates: &[u16]) -> Verdict
     let mut low = 0;
     for i in 0..rates.len() {
         let rate = rates[i];
-        if !job::rate_fits(low, rate) {
-            return Verdict::Refused(job::refusal::RATES);
+        if !header::rate_fits(low, rate) {
+            return Verdict::Refused(header::refusal::RATES);
         }
         low = rate + 1;
     }
@@ -62,8 +63,8 @@ fn codings_verdict(sizes: &[u16], distortions: &[u32]) -> Verdict
     ensures { λ r. ⌜ verdict r ≡ broken (coding-limits (codings-from (now (sizes .entry)) (now (distortions .entry)))) ⌝ }
 {
     for x in 0..sizes.len() {
-        if !job::coding_fits(sizes[x], distortions[x]) {
-            return Verdict::Refused(job::refusal::CODINGS);
+        if !header::coding_fits(sizes[x], distortions[x]) {
+            return Verdict::Refused(header::refusal::CODINGS);
         }
     }
     Verdict::Fits
@@ -85,26 +86,6 @@ fn lists_verdict(header: Header, rates: &[u16], sizes: &[u16], distortions: &[u3
     codings_verdict(sizes, distortions)
 }
 
-// A number as two bytes, the lower first.
-fn put16(out: &mut [u8], at: usize, value: u16)
-    requires { ⌜ at + 2 ≤ length (now out) ⌝ }
-    ensures { λ _. ⌜ now (out .exit) ≡ put-at (now (out .entry)) at (bytes 2 value) ⌝ }
-{
-    let next = at + 1;
-    out[at] = (value % 256) as u8;
-    out[next] = (value / 256) as u8;
-}
-
-// As four bytes.
-fn put32(out: &mut [u8], at: usize, value: u32)
-    requires { ⌜ at + 4 ≤ length (now out) ⌝ }
-    ensures { λ _. ⌜ now (out .exit) ≡ put-at (now (out .entry)) at (bytes 4 value) ⌝ }
-{
-    let next = at + 2;
-    put16(out, at, (value % 65536) as u16);
-    put16(out, next, (value / 65536) as u16);
-}
-
 // Numbers one after another, two bytes each.
 fn put_numbers(out: &mut [u8], at: usize, numbers: &[u16])
     requires { ⌜ at + 2 * length (now numbers) ≤ length (now out) ⌝ }
@@ -112,7 +93,7 @@ fn put_numbers(out: &mut [u8], at: usize, numbers: &[u16])
 {
     let mut place = at;
     for i in 0..numbers.len() {
-        put16(out, place, numbers[i]);
+        fields::put16(out, place, numbers[i]);
         place += 2;
     }
 }
@@ -125,8 +106,8 @@ fn put_codings(out: &mut [u8], at: usize, sizes: &[u16], distortions: &[u32])
     let mut place = at;
     for x in 0..sizes.len() {
         let next = place + 2;
-        put16(out, place, sizes[x]);
-        put32(out, next, distortions[x]);
+        fields::put16(out, place, sizes[x]);
+        fields::put32(out, next, distortions[x]);
         place += 6;
     }
 }
@@ -229,7 +210,7 @@ pub fn write_refusal(
         return Verdict::Refused(n);
     }
     if out < job_size(header) {
-        return Verdict::Refused(job::refusal::LIST);
+        return Verdict::Refused(header::refusal::LIST);
     }
     Verdict::Fits
 }

@@ -13,12 +13,12 @@ add-next c = search needs
 shared-slice-read-t6 : tie.Need-shared-slice-read-t6
 shared-slice-read-t6 c = search needs
 
-shared-slice-read-t8 : tie.Need-shared-slice-read-t8
-shared-slice-read-t8 c = search needs
+-- src/lib.rt:52:17
+u16-at-requires : tie.Need-u16-at-requires
+u16-at-requires c κs = search needs
 
 returns : tie.Need-returns
-returns c = let a = c .before .before in entry-read _ (a .args .place) (a .pre)
+returns c = let a = c .before .before .before in entry-read _ (a .args .place) _ (a .pre) (c .u16-at .ensures)
 
 pub entry-at-spec : {M : Type 1} → statement M
-entry-at-spec =
-    tie.close (tie.spec mul-at add-next shared-slice-read-t6 shared-slice-read-t8 returns)
+entry-at-spec = tie.close (tie.spec mul-at add-next shared-slice-read-t6 u16-at-requires returns)

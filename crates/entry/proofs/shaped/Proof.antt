@@ -6,14 +6,15 @@ use borrow.Author.Tests.{not-true, not-false}
 use mathlib.Core.Bool.{true, false}
 use mathlib.Core.Path.{_≡_, sym, _∙_, ap}
 use Rattle.entry.proofs.Shapes.{shaped-not-long, shaped-by-entries}
-use Rattle.job.specs.Answers.{plain}
-use Rattle.replaying.specs.Entries.{entry-size, rate-field, choice-field, entry-fits, entries-fit}
+use Rattle.header.specs.Answers.{plain}
+use Rattle.replaying.specs.Entries.{entry-size, rate-field, choice-field, fits-under, entries-fit}
+use Rattle.format.specs.Choices.{no-choice}
 use Rattle.base.proofs.All.{all-none, all-more, all-stop}
 use Rattle.entry.proofs.shaped.Statement.{statement}
 use Rattle.entry.proofs.shaped.Tie as tie
 
 abbrev Inv-loop : tie.InvT-loop
-Inv-loop header entries total place₀ place = (place ≤ total) × (entries-fit (plain header) entries place ≡ true)
+Inv-loop header entries total place₀ place = (place ≤ total) × (entries-fit no-choice (plain header) (rate-field entries) (choice-field entries) place ≡ true)
 
 abbrev μ-loop : tie.MeasureT-loop
 μ-loop header entries total place₀ place = total - place
@@ -39,7 +40,7 @@ entry-fits-requires : tie.Need-entry-fits-requires Inv-loop μ-loop
 entry-fits-requires c κs = search needs
 
 -- the test of an entry, in the terms of the bytes
-tested : (c : tie.After-entry-fits Inv-loop μ-loop) → c .entry-fits .result ≡ entry-fits (plain (c .before .before .before .before .before .before .before .args .header)) (c .before .before .before .loop .place) (rate-field (c .before .before .before .before .before .before .before .args .entries .now) (c .before .before .before .loop .place)) (choice-field (c .before .before .before .before .before .before .before .args .entries .now) (c .before .before .before .loop .place))
+tested : (c : tie.After-entry-fits Inv-loop μ-loop) → c .entry-fits .result ≡ fits-under no-choice (plain (c .before .before .before .before .before .before .before .args .header)) (c .before .before .before .loop .place) (rate-field (c .before .before .before .before .before .before .before .args .entries .now) (c .before .before .before .loop .place)) (choice-field (c .before .before .before .before .before .before .before .args .entries .now) (c .before .before .before .loop .place))
 tested c = let r = c .before .entry-at .ensures in c .entry-fits .ensures ∙ rw (r .rate, r .choice)
 
 returns-2 : tie.Need-returns-2 Inv-loop μ-loop

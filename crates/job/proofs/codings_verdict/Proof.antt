@@ -9,7 +9,7 @@ use Rattle.format.specs.Limits.{broken}
 use Rattle.format.specs.JobBytes.{coding-limits, codings, entry-widths}
 use Rattle.format.proofs.Left.{codings-left, codings-start, codings-end, codings-step, codings-here}
 use Rattle.format.proofs.Places.{entries-count}
-use Rattle.job.specs.Answers.{verdict}
+use Rattle.header.specs.Answers.{verdict}
 use Rattle.job.proofs.Loops.{coding-there}
 use Rattle.job.proofs.codings_verdict.Statement.{statement}
 use Rattle.job.proofs.codings_verdict.Tie as tie

@@ -1,6 +1,7 @@
 -- `job::header_verdict` meets its contract.
 use Rattle.base.specs.If.{if_then_else_}
-use Rattle.job.specs.Answers.{extra, form-of}
+use Rattle.header.specs.Answers.{extra}
+use Rattle.job.specs.Answers.{form-of}
 use borrow.Author.Needs.{needs}
 use Rattle.job.proofs.header_verdict.Statement.{statement}
 use Rattle.job.proofs.header_verdict.Tie as tie

@@ -10,7 +10,7 @@ use Rattle.format.specs.Limits.{broken}
 use Rattle.format.specs.JobBytes.{rate-limits}
 use Rattle.format.proofs.Limits.{of-kept}
 use Rattle.format.proofs.Left.{rates-left, rates-start, rates-end, rates-step, rates-here}
-use Rattle.job.specs.Answers.{verdict}
+use Rattle.header.specs.Answers.{verdict}
 use Rattle.job.proofs.Loops.{rates-count, rate-there}
 use Rattle.job.proofs.rates_verdict.Statement.{statement}
 use Rattle.job.proofs.rates_verdict.Tie as tie

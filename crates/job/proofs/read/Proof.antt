@@ -1,6 +1,6 @@
 -- `job::read` meets its contract: the header's record, the rates' record and the units, each from the verdict on it.
 use native.Mathlib.Omega.{arith}
-use Rattle.job.specs.Answers.{plain}
+use Rattle.header.specs.Answers.{plain}
 use Rattle.job.proofs.Opening.{first-refused, header-room, fields-room, front-room, header-kept, second-refused, rates-room, then-units}
 use borrow.Author.Needs.{needs}
 use Rattle.job.proofs.read.Statement.{statement}

@@ -6,7 +6,8 @@ use borrow.Author.Needs.{needs}
 use lib.ListN.{length, drop}
 use Rattle.format.specs.Parser.{further, many}
 use Rattle.format.specs.JobBytes.{unit-parser}
-use Rattle.job.specs.Answers.{plain, answering, reading}
+use Rattle.header.specs.Answers.{plain}
+use Rattle.job.specs.Answers.{answering, reading}
 use Rattle.job.proofs.Opening.{units-left, units-start, units-end, units-refused, units-step, units-room}
 use Rattle.job.proofs.read_units.Statement.{statement}
 use Rattle.job.proofs.read_units.Tie as tie

@@ -7,8 +7,9 @@ use Rattle.format.specs.JobBytes.{Header, header-limits, header-form, rates-for
 use Rattle.format.proofs.Records.{total-same, total-entries}
 use Rattle.format.proofs.RoundTrip.{header-total}
 use Rattle.format.specs.Records.{plain-form}
-use Rattle.job.specs.Answers.{extra, form-of}
-use Rattle.job.proofs.Verdicts.{fits}
+use Rattle.header.specs.Answers.{extra}
+use Rattle.job.specs.Answers.{form-of}
+use Rattle.header.proofs.Verdicts.{fits}
 use Rattle.job.proofs.Records.{record-refused, record-there, record-by-fields, body-room}
 use borrow.Author.Needs.{needs}
 use Rattle.job.proofs.record_verdict.Statement.{statement}

@@ -1,7 +1,8 @@
 -- `layer::fill_layer` meets its contract.
 use native.Mathlib.Omega.{arith}
-use Rattle.layer.specs.Answers.{combine, line-is, priced}
-use Rattle.layer.proofs.Sizes.{row-small}
+use Rattle.decoder.specs.Answers.{combine, priced}
+use Rattle.sender.specs.Answers.{line-is}
+use Rattle.sender.proofs.Sizes.{row-small}
 use Rattle.layer.proofs.Passes.{passes-make}
 use Rattle.model.specs.Table.{sizes}
 use Rattle.model.proofs.Places.{span-positive}

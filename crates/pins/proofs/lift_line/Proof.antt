@@ -1,9 +1,10 @@
 -- `pins::lift_line` meets its contract: 7, then 10, else the pin is lifted and the totals have it.
 use Rattle.pins.proofs.Totals.{held}
 use Rattle.pins.proofs.Calls.{lift-seven, lift-ten, lift-taken, place-below, pinned-below}
-use Rattle.pins.specs.Answers.{set-of, number, handed}
+use Rattle.pinset.specs.Answers.{set-of}
+use Rattle.pins.specs.Answers.{number, handed}
 use Rattle.pinning.specs.Calls.{take-in}
-use Rattle.job.specs.Answers.{plain}
+use Rattle.header.specs.Answers.{plain}
 use mathlib.Core.Path.{refl, sym, _∙_}
 use borrow.Author.Needs.{needs}
 use Rattle.pins.proofs.lift_line.Statement.{statement}
@@ -31,6 +32,10 @@ sub-at c =
 cast-at : tie.Need-cast-at
 cast-at c = search needs
 
+-- src/lib.rt:301:15
+mul-old : tie.Need-mul-old
+mul-old c = search needs
+
 element-copy-out-old : tie.Need-element-copy-out-old
 unfolding plain
 element-copy-out-old c =
@@ -47,9 +52,6 @@ returns-2 c =
     let e = t .before .before in
     let o = e .before in
     c .refused2 .ensures ∙ lift-ten _ _ _ (o .before .before .pre) _ (sym (o .outside .ensures) ∙ e .if1 .left) (t .if2 .taken)
-
-cast-coding-at : tie.Need-cast-coding-at
-cast-coding-at c = search needs
 
 coding-at-requires : tie.Need-coding-at-requires
 coding-at-requires c κs = search needs
@@ -82,10 +84,10 @@ lift-line-spec =
     returns
     sub-at
     cast-at
+    mul-old
     element-copy-out-old
     refused-requires-2
     returns-2
-    cast-coding-at
     coding-at-requires
     without-pin-requires
     returns-3)

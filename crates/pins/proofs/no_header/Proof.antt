@@ -1,6 +1,6 @@
 -- `pins::no_header` meets its contract: zeros, and one bucket.
 use Rattle.base.specs.If.{one-if}
-use Rattle.job.specs.Answers.{policed-of, plain}
+use Rattle.header.specs.Answers.{policed-of, plain}
 use mathlib.Core.Path.{refl}
 use Rattle.pins.proofs.no_header.Statement.{statement}
 use Rattle.pins.proofs.no_header.Tie as tie

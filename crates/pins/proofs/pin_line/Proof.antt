@@ -3,9 +3,10 @@ use Rattle.pins.proofs.Totals.{room}
 use Rattle.format.proofs.Opened.{choices-are, job-limits}
 use native.Mathlib.Omega.{arith}
 use Rattle.pins.proofs.Calls.{pin-seven, pin-eight, pin-nine, pin-taken, place-below}
-use Rattle.pins.specs.Answers.{set-of, number, handed}
+use Rattle.pinset.specs.Answers.{set-of}
+use Rattle.pins.specs.Answers.{number, handed}
 use Rattle.pinning.specs.Calls.{take-in}
-use Rattle.job.specs.Answers.{plain}
+use Rattle.header.specs.Answers.{plain}
 use mathlib.Core.Path.{sym, _∙_}
 use borrow.Author.Needs.{needs}
 use Rattle.pins.proofs.pin_line.Statement.{statement}
@@ -45,6 +46,10 @@ sub-at c =
 cast-at : tie.Need-cast-at
 cast-at c = search needs
 
+-- src/lib.rt:280:15
+mul-old : tie.Need-mul-old
+mul-old c = search needs
+
 element-copy-out-old : tie.Need-element-copy-out-old
 unfolding plain
 element-copy-out-old c =
@@ -66,13 +71,6 @@ returns-3 c =
 
 coding-at-requires : tie.Need-coding-at-requires
 coding-at-requires c κs = search needs
-
-cast-with-pin : tie.Need-cast-with-pin
-unfolding plain
-cast-with-pin c =
-    let l = c .before .before .before in
-    let s = l .before .before .before .before in
-    (record { fits = omega (arith, choices-are _ _ (s .pre .opens), job-limits _ _ (s .pre .opens) .choices) })
 
 with-pin-requires : tie.Need-with-pin-requires
 unfolding plain
@@ -105,10 +103,10 @@ pin-line-spec =
     returns-2
     sub-at
     cast-at
+    mul-old
     element-copy-out-old
     refused-requires-3
     returns-3
     coding-at-requires
-    cast-with-pin
     with-pin-requires
     returns-4)

@@ -1,6 +1,6 @@
 -- `plan::print_plan` meets its contract.
 use Rattle.job.proofs.Answers.{answer-took}
-use Rattle.job.specs.Answers.{plain}
+use Rattle.header.specs.Answers.{plain}
 use Rattle.format.proofs.Opened.{opens-by, few-intervals}
 use borrow.Author.Needs.{needs}
 use Rattle.plan.proofs.print_plan.Statement.{statement}

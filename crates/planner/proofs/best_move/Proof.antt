@@ -1,6 +1,8 @@
 -- `planner::best_move` meets its contract.
-use Rattle.planner.proofs.Moves.{layered, rate-below, choice-below, reached-end, best-move}
-use Rattle.job.specs.Answers.{plain}
+use Rattle.planner.proofs.Moves.{layered, choices-fit, rate-below, choice-below, below-mark, reached-end, best-move}
+use Rattle.table.proofs.Jobs.{few-units}
+use Rattle.planner.specs.Answers.{order-is}
+use Rattle.header.specs.Answers.{plain}
 use native.Mathlib.Omega.{arith}
 use borrow.Author.Needs.{needs}
 use Rattle.planner.proofs.best_move.Statement.{statement}
@@ -8,7 +10,7 @@ use Rattle.planner.proofs.best_move.Tie as tie
 
 choices-in-requires : tie.Need-choices-in-requires
 unfolding plain
-choices-in-requires c κs = let a = c .before .before in (a .pre .starts .opens, a .pre .starts .pins-size, a .pre .before)
+choices-in-requires c κs = let a = c .before .before in (a .pre .starts .pins-size, few-units _ _ (a .pre .starts .opens), a .pre .before)
 
 best-entry-requires : tie.Need-best-entry-requires
 best-entry-requires c κs =
@@ -31,39 +33,16 @@ element-copy-out-sent c =
     let l = rate-below _ _ _ _ _ _ _ _ (a .pre) _ (i .choices-in .ensures) _ _ (e .best-entry .ensures) in
     omega (arith, a .pre .starts .line .rates, a .pre .starts .line .size)
 
-mul-size : tie.Need-mul-size
-mul-size c =
+candidate-at-requires : tie.Need-candidate-at-requires
+candidate-at-requires c κs =
     let e = c .before in
     let i = e .before in
     let a = i .before .before .before in
-    let l = choice-below _ _ _ _ _ _ _ _ (a .pre) _ (i .choices-in .ensures) _ _ (e .best-entry .ensures) in
-    record { fits = omega arith }
-
-element-copy-out-size : tie.Need-element-copy-out-size
-element-copy-out-size c =
-    let e = c .before in
-    let i = e .before in
-    let a = i .before .before .before in
-    choice-below _ _ _ _ _ _ _ _ (a .pre) _ (i .choices-in .ensures) _ _ (e .best-entry .ensures)
-
-mul-distortion : tie.Need-mul-distortion
-mul-distortion c =
-    let e = c .before .before in
-    let i = e .before in
-    let a = i .before .before .before in
-    let l = choice-below _ _ _ _ _ _ _ _ (a .pre) _ (i .choices-in .ensures) _ _ (e .best-entry .ensures) in
-    record { fits = omega arith }
-
-element-copy-out-distortion : tie.Need-element-copy-out-distortion
-element-copy-out-distortion c =
-    let e = c .before .before in
-    let i = e .before in
-    let a = i .before .before .before in
-    choice-below _ _ _ _ _ _ _ _ (a .pre) _ (i .choices-in .ensures) _ _ (e .best-entry .ensures)
+    (choices-fit (order-is (a .args .order)) _ _ _ _ _ _ _ (a .pre) _ (i .choices-in .ensures), choice-below _ _ _ _ _ _ _ _ (a .pre) _ (i .choices-in .ensures) _ _ (e .best-entry .ensures))
 
 cast-index : tie.Need-cast-index
 cast-index c =
-    let e = c .before .before .before in
+    let e = c .before .before in
     let i = e .before in
     let a = i .before .before .before in
     let l = rate-below _ _ _ _ _ _ _ _ (a .pre) _ (i .choices-in .ensures) _ _ (e .best-entry .ensures) in
@@ -74,27 +53,29 @@ interval-of-requires c κs = search needs
 
 choice-number-requires : tie.Need-choice-number-requires
 choice-number-requires c κs =
-    let e = c .before .before .before .before .before in
+    let e = c .before .before .before .before in
     let i = e .before in
     let a = i .before .before .before in
-    choice-below _ _ _ _ _ _ _ _ (a .pre) _ (i .choices-in .ensures) _ _ (e .best-entry .ensures)
+    below-mark _ _ _ _ _ _ _ _ (a .pre) _ (i .choices-in .ensures) _ _ (e .best-entry .ensures)
 
 levels-after-requires : tie.Need-levels-after-requires
 levels-after-requires c κs =
     let x = c .before .before in
-    let e = x .before .before .before .before in
+    let k = x .before in
+    let e = k .before .before in
     let i = e .before in
     let a = i .before .before .before in
-    reached-end _ _ _ _ _ _ _ _ (a .pre) _ (i .choices-in .ensures) _ _ (e .best-entry .ensures) _ (x .interval-of .ensures)
+    reached-end _ _ _ _ _ _ _ _ (a .pre) _ (i .choices-in .ensures) _ _ (e .best-entry .ensures) _ (k .candidate-at .ensures) _ (x .interval-of .ensures)
 
 returns : tie.Need-returns
 returns c =
     let d = c .before in
     let x = d .before .before in
-    let e = x .before .before .before .before in
+    let k = x .before in
+    let e = k .before .before in
     let i = e .before in
     let a = i .before .before .before in
-    best-move _ _ _ _ _ _ _ _ (a .pre) _ (i .choices-in .ensures) _ _ (e .best-entry .ensures) _ (x .interval-of .ensures) _ _ (d .choice-number .ensures) (c .levels-after .ensures)
+    best-move _ _ _ _ _ _ _ _ (a .pre) _ (i .choices-in .ensures) _ _ (e .best-entry .ensures) _ (k .candidate-at .ensures) _ (x .interval-of .ensures) _ _ (d .choice-number .ensures) (c .levels-after .ensures)
 
 pub best-move-spec : {M : Type 1} → statement M
 best-move-spec =
@@ -104,10 +85,7 @@ best-move-spec =
     best-entry-requires
     mul-sent
     element-copy-out-sent
-    mul-size
-    element-copy-out-size
-    mul-distortion
-    element-copy-out-distortion
+    candidate-at-requires
     cast-index
     interval-of-requires
     choice-number-requires

@@ -1,8 +1,8 @@
 -- `planner::levels_after` meets its contract.
-use Rattle.planner.proofs.Jobs.{not-reached}
-use Rattle.planner.specs.Answers.{step-of}
+use Rattle.planner.proofs.Moves.{not-reached}
+use Rattle.line.specs.Answers.{step-of}
 use Rattle.interval.specs.Answers.{outcome-is}
-use Rattle.job.specs.Answers.{plain}
+use Rattle.header.specs.Answers.{plain}
 use mathlib.Core.Path.{sym, _∙_, ap}
 use borrow.Author.Needs.{needs}
 use Rattle.planner.proofs.levels_after.Statement.{statement}

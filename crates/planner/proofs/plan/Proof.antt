@@ -1,8 +1,8 @@
 -- `planner::plan` meets its contract.
 use Rattle.planner.proofs.Answering.{plan-refused}
 use Rattle.planner.specs.Answers.{answered, planned}
-use Rattle.pins.specs.Answers.{set-of}
-use Rattle.pins.proofs.Answering.{ready}
+use Rattle.pinset.specs.Answers.{set-of}
+use Rattle.pinset.proofs.Answering.{ready}
 use Rattle.job.proofs.Answers.{answer-took, answer-refused}
 use borrow.Author.Needs.{needs}
 use Rattle.planner.proofs.plan.Statement.{statement}

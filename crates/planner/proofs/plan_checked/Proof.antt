@@ -1,8 +1,8 @@
 -- `planner::plan_checked` meets its contract.
-use Rattle.job.specs.Answers.{plain}
+use Rattle.header.specs.Answers.{plain}
 use Rattle.planner.proofs.Answering.{plans-from, plan-from-start}
 use Rattle.planner.specs.Answers.{order-is}
-use Rattle.pins.specs.Answers.{set-of}
+use Rattle.pinset.specs.Answers.{set-of}
 use mathlib.Core.Path.{_∙_}
 use borrow.Author.Needs.{needs}
 use Rattle.planner.proofs.plan_checked.Statement.{statement}

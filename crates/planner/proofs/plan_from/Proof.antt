@@ -4,7 +4,7 @@ use Rattle.model.specs.Best.{late}
 use mathlib.Core.List.{[]}
 use Rattle.planner.proofs.Answering.{over-fits, from-11, from-12, searches, from-searched}
 use Rattle.planner.specs.Answers.{answered, planned}
-use Rattle.job.specs.Answers.{plain}
+use Rattle.header.specs.Answers.{plain}
 use mathlib.Core.Path.{_∙_}
 use native.Mathlib.Omega.{arith}
 use borrow.Author.Needs.{needs}

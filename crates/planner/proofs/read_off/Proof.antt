@@ -1,11 +1,13 @@
 -- `planner::read_off` meets its contract.
 use Rattle.planner.proofs.Plans.{ReadTo, read-start, read-on, read-end}
-use Rattle.planner.proofs.Jobs.{line-buckets, drains-most}
-use Rattle.planner.specs.Answers.{line-is, job-on, order-is}
+use Rattle.planner.proofs.Plans.{line-buckets, drains-most}
+use Rattle.line.specs.Answers.{line-is}
+use Rattle.table.specs.Answers.{job-on}
+use Rattle.planner.specs.Answers.{order-is}
 use Rattle.format.specs.JobBytes.{job-in}
 use Rattle.format.proofs.Opened.{few-intervals, intervals-are}
 use Rattle.model.proofs.Lines.{intervals-on}
-use Rattle.job.specs.Answers.{plain}
+use Rattle.header.specs.Answers.{plain}
 use Rattle.pinning.specs.PinSet.{lines}
 use Rattle.interval.specs.Answers.{levels-of, line-of, no-totals}
 use mathlib.Core.Path.{refl, _∙_, ap}

@@ -1,10 +1,11 @@
 -- `planner::search` meets its contract.
 use Rattle.planner.proofs.Answering.{tabled, start-low, start-below, start-word, no-value, stands, search-13, search-best}
-use Rattle.planner.proofs.Sizes.{layer-small, layer-product}
-use Rattle.planner.specs.Answers.{job-on, answered, planned, Standing}
+use Rattle.line.proofs.Sizes.{layer-small, layer-product}
+use Rattle.table.specs.Answers.{job-on}
+use Rattle.planner.specs.Answers.{answered, planned, Standing}
 use Rattle.pinning.specs.PinSet.{lines}
 use Rattle.interval.specs.Answers.{levels-of}
-use Rattle.job.specs.Answers.{plain}
+use Rattle.header.specs.Answers.{plain}
 use Rattle.format.proofs.Opened.{few-intervals}
 use Rattle.trellis.specs.Table.{encode}
 use Rattle.model.specs.Best.{least-total}

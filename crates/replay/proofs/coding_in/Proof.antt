@@ -1,6 +1,6 @@
 -- `replay::coding_in` meets its contract: nothing up to the delay, after it the coding as it stands in the bytes.
 use Rattle.replay.specs.Answers.{no-coding, coded}
-use Rattle.job.specs.Answers.{plain, coding-of}
+use Rattle.header.specs.Answers.{plain, coding-of}
 use mathlib.Core.Path.{refl}
 use borrow.Author.Needs.{needs}
 use Rattle.replay.proofs.coding_in.Statement.{statement}

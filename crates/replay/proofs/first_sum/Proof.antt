@@ -2,7 +2,7 @@
 use Rattle.replay.proofs.Sums.{sent-most, window-most, window-more}
 use Rattle.format.proofs.Opened.{job-limits, delay-is, few-intervals}
 use Rattle.replaying.specs.Entries.{plan-of}
-use Rattle.job.specs.Answers.{plain}
+use Rattle.header.specs.Answers.{plain}
 use Rattle.format.specs.JobBytes.{job-in}
 use Rattle.model.specs.Levels.{sentAfter, effectiveBuffer}
 use Rattle.base.specs.Lists.{sum}

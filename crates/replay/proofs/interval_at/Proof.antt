@@ -1,6 +1,6 @@
 -- `replay::interval_at` meets its contract: rate, coding, pin and choice are those of the entry in this place.
 use native.Mathlib.Omega.{arith}
-use Rattle.job.specs.Answers.{plain}
+use Rattle.header.specs.Answers.{plain}
 use Rattle.format.proofs.Opened.{job-limits, units-are, delay-is}
 use Rattle.replay.proofs.Entries.{entries-size, interval-is}
 use borrow.Author.Needs.{needs}

@@ -1,6 +1,6 @@
 -- `replay::levels_each` meets its contract: with two buckets 3, with one 2.
 use Rattle.base.specs.If.{one-if}
-use Rattle.job.specs.Answers.{plain}
+use Rattle.header.specs.Answers.{plain}
 use Rattle.replay.proofs.levels_each.Statement.{statement}
 use Rattle.replay.proofs.levels_each.Tie as tie
 

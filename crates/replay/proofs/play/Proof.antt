@@ -5,7 +5,7 @@ use Rattle.format.proofs.Opened.{job-limits, few-intervals, intervals-are, star
 use Rattle.replay.specs.Answers.{answered, ended}
 use Rattle.interval.specs.Answers.{outcome-is, start-of}
 use Rattle.pinning.specs.PinSet.{lines}
-use Rattle.job.specs.Answers.{plain}
+use Rattle.header.specs.Answers.{plain}
 use Rattle.format.specs.JobBytes.{job-in}
 use mathlib.Core.Path.{sym, _∙_, ap}
 use Prim.Native.Nat.{suc, _≤_, _<_, _-_}

@@ -3,7 +3,7 @@ use Rattle.replay.proofs.Sums.{sum-small, leaves-less, next-sum, sums-e
 use Rattle.format.proofs.Opened.{job-limits, units-are, delay-is}
 use Rattle.base.proofs.Builds.{build-more}
 use Rattle.replaying.specs.Entries.{plan-of}
-use Rattle.job.specs.Answers.{plain}
+use Rattle.header.specs.Answers.{plain}
 use Rattle.format.specs.JobBytes.{job-in}
 use Rattle.model.specs.Levels.{effectiveBuffer}
 use Rattle.base.specs.Lists.{build}

@@ -1,8 +1,8 @@
 -- `replay::replay` meets its contract: what the check refuses is handed back, and the rest is `replay_checked`.
 use Rattle.replay.proofs.Answering.{replay-refused}
 use Rattle.replay.specs.Answers.{answered, ended}
-use Rattle.pins.specs.Answers.{set-of}
-use Rattle.pins.proofs.Answering.{ready}
+use Rattle.pinset.specs.Answers.{set-of}
+use Rattle.pinset.proofs.Answering.{ready}
 use Rattle.job.proofs.Answers.{answer-took, answer-refused}
 use borrow.Author.Needs.{needs}
 use Rattle.replay.proofs.replay.Statement.{statement}

@@ -2,8 +2,8 @@
 use Rattle.replay.proofs.Answering.{shaped-plan, replay-14, replay-12, replay-played}
 use Rattle.replay.proofs.Levels.{few-levels, room-for-all}
 use Rattle.replay.specs.Answers.{answered, ended}
-use Rattle.pins.specs.Answers.{set-of}
-use Rattle.job.specs.Answers.{plain}
+use Rattle.pinset.specs.Answers.{set-of}
+use Rattle.header.specs.Answers.{plain}
 use borrow.Author.Tests.{not-true, not-false}
 use mathlib.Core.Path.{sym, _∙_}
 use native.Mathlib.Omega.{arith}

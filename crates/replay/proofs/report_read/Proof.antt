@@ -1,7 +1,7 @@
 -- `replay::report_read` meets its contract: 14 for a plan out of shape, 12 for a list too short, else the sums.
 use Rattle.replay.proofs.Answering.{shaped-plan, report-14, report-12, report-done}
 use Rattle.replay.specs.Answers.{report-answer, reported}
-use Rattle.job.specs.Answers.{plain}
+use Rattle.header.specs.Answers.{plain}
 use borrow.Author.Tests.{not-true, not-false}
 use mathlib.Core.Path.{sym, _∙_}
 use native.Mathlib.Omega.{arith}

@@ -1,7 +1,7 @@
 -- `replay::sent_at` meets its contract: the rate that the entry names is what the interval sends.
 use Rattle.replay.proofs.Entries.{entries-size}
 use Rattle.replay.proofs.Sums.{sent-read}
-use Rattle.job.specs.Answers.{plain}
+use Rattle.header.specs.Answers.{plain}
 use mathlib.Core.Path.{_∙_}
 use native.Mathlib.Omega.{arith}
 use borrow.Author.Needs.{needs}

@@ -1,6 +1,6 @@
 -- `session::calls_refusal` meets its contract.
 use Rattle.session.proofs.Answering.{calls-not-read, calls-not-due, calls-12, calls-fit}
-use Rattle.job.specs.Answers.{verdict}
+use Rattle.header.specs.Answers.{verdict}
 use Rattle.job.proofs.Answers.{answer-took, answer-refused}
 use Rattle.format.proofs.Opened.{opens-by}
 use mathlib.Core.Path.{sym, _∙_, ap}

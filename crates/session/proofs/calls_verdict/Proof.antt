@@ -2,7 +2,7 @@
 use Rattle.session.proofs.Calling.{KindsFit, kind-not-due, last-cut, whole-calls}
 use Rattle.base.proofs.All.{all-none, all-more}
 use Rattle.calling.specs.Commands.{kind-of}
-use Rattle.job.specs.Answers.{verdict}
+use Rattle.header.specs.Answers.{verdict}
 use lib.ListN.{length}
 use mathlib.Core.Path.{_≡_, sym, _∙_}
 use Prim.Native.Nat.{_≤_, _-_, _/_}

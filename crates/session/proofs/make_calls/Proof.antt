@@ -2,8 +2,8 @@
 use Rattle.session.proofs.Answering.{calls-refused, calls-room, calls-made}
 use Rattle.session.specs.Answers.{called-answer, called}
 use Rattle.base.specs.Lent.{refuse}
-use Rattle.pins.specs.Answers.{set-of}
-use Rattle.job.specs.Answers.{verdict}
+use Rattle.pinset.specs.Answers.{set-of}
+use Rattle.header.specs.Answers.{verdict}
 use mathlib.Core.Path.{sym, _∙_, ap}
 use borrow.Author.Needs.{needs}
 use Rattle.session.proofs.make_calls.Statement.{statement}

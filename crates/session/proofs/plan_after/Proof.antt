@@ -4,7 +4,7 @@ use Rattle.session.specs.Answers.{session-is}
 use Rattle.planner.specs.Answers.{answered, planned}
 use Rattle.planning.specs.Calls as plan
 use Rattle.calling.specs.Sessions.{refuse}
-use Rattle.job.specs.Answers.{verdict}
+use Rattle.header.specs.Answers.{verdict}
 use mathlib.Core.Path.{sym, _∙_, ap}
 use borrow.Author.Needs.{needs}
 use Rattle.session.proofs.plan_after.Statement.{statement}

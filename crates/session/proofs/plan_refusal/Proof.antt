@@ -1,7 +1,7 @@
 -- `session::plan_refusal` meets its contract.
 use Rattle.session.proofs.Answering.{plan-not-read, plan-not-due, plan-11, plan-12-answers, plan-12-entries, plan-fits}
 use native.Mathlib.Omega.{arith}
-use Rattle.job.specs.Answers.{plain, verdict}
+use Rattle.header.specs.Answers.{plain, verdict}
 use Rattle.job.proofs.Answers.{answer-took, answer-refused}
 use Rattle.format.proofs.Opened.{opens-by}
 use mathlib.Core.Path.{sym, _∙_, ap}

@@ -1,6 +1,7 @@
 -- `session::put_numbers` meets its contract.
 use Rattle.session.proofs.Sessions.{ran-start, ran-on, Going, going-start, going-on, going-end}
-use Rattle.pins.specs.Answers.{set-of, opening, handed}
+use Rattle.pinset.specs.Answers.{set-of}
+use Rattle.pins.specs.Answers.{opening, handed}
 use Rattle.pinning.specs.Calls.{Opening}
 use mathlib.Core.Path.{ap}
 use Prim.Native.Nat.{_≤_, _-_}

@@ -3,7 +3,7 @@ use Rattle.calling.proofs.Sessions.{replay-refused}
 use Rattle.session.proofs.Answering.{replay-done}
 use Rattle.replay.specs.Answers.{answered, ended}
 use Rattle.base.specs.Lent.{refuse}
-use Rattle.job.specs.Answers.{verdict}
+use Rattle.header.specs.Answers.{verdict}
 use mathlib.Core.Path.{sym, _∙_, ap}
 use borrow.Author.Needs.{needs}
 use Rattle.session.proofs.replay_after.Statement.{statement}

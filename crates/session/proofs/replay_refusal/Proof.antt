@@ -4,7 +4,7 @@ use Rattle.replay.proofs.Levels.{few-levels}
 use mathlib.Core.Path.{sym, _∙_, ap}
 use borrow.Author.Tests.{not-true, not-false}
 use native.Mathlib.Omega.{arith}
-use Rattle.job.specs.Answers.{plain, verdict}
+use Rattle.header.specs.Answers.{plain, verdict}
 use Rattle.job.proofs.Answers.{answer-took, answer-refused}
 use Rattle.format.proofs.Opened.{opens-by}
 use Rattle.session.proofs.Answering.{replay-not-read, replay-not-due, replay-14, replay-12, replay-fits}

@@ -1,6 +1,7 @@
 -- `session::set_after` meets its contract.
 use Rattle.session.proofs.Sessions.{Ran, ran-start, ran-on, ran-end}
-use Rattle.pins.specs.Answers.{set-of, opening, handed}
+use Rattle.pinset.specs.Answers.{set-of}
+use Rattle.pins.specs.Answers.{opening, handed}
 use Rattle.calling.specs.Sessions.{made}
 use Rattle.pinning.specs.Calls.{Opening, CallsMade}
 use mathlib.Core.Path.{ap, sym}

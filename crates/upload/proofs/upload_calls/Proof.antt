@@ -1,6 +1,6 @@
 -- `upload::upload_calls` meets its contract.
 use Rattle.upload.proofs.Answering.{calls-before, calls-12, calls-refused, calls-done}
-use Rattle.job.specs.Answers.{verdict}
+use Rattle.header.specs.Answers.{verdict}
 use mathlib.Core.Path.{sym, _∙_, ap}
 use borrow.Author.Needs.{needs}
 use Rattle.upload.proofs.upload_calls.Statement.{statement}

@@ -1,9 +1,10 @@
 -- `upload::upload_plan` meets its contract: what refuses, the room for the values, the session.
 use mathlib.Core.Path.{sym, _∙_, ap}
 use native.Mathlib.Omega.{arith}
-use Rattle.job.specs.Answers.{verdict}
+use Rattle.header.specs.Answers.{verdict}
 use Rattle.upload.proofs.Answering.{plan-before, plan-12, plan-refused, plan-best}
-use Rattle.upload.proofs.Lists.{plan-room, few-buckets}
+use Rattle.values.proofs.Buckets.{few-buckets}
+use Rattle.upload.proofs.Lists.{plan-room}
 use borrow.Author.Needs.{needs}
 use Rattle.upload.proofs.upload_plan.Statement.{statement}
 use Rattle.upload.proofs.upload_plan.Tie as tie

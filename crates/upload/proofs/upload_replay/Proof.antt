@@ -1,10 +1,10 @@
 -- `upload::upload_replay` meets its contract: what refuses, the room for the values, the replay.
 use mathlib.Core.Path.{sym, _∙_, ap}
 use native.Mathlib.Omega.{arith}
-use lib.ListN.{length-replicate}
-use Rattle.job.specs.Answers.{verdict}
+use Rattle.header.specs.Answers.{verdict}
 use Rattle.upload.proofs.Answering.{replay-before, replay-12, replay-refused, replay-clean, replay-violated}
-use Rattle.upload.proofs.Lists.{replay-room, few-buckets, zero-room}
+use Rattle.values.proofs.Buckets.{few-buckets}
+use Rattle.upload.proofs.Lists.{replay-room, zero-room}
 use borrow.Author.Needs.{needs}
 use Rattle.upload.proofs.upload_replay.Statement.{statement}
 use Rattle.upload.proofs.upload_replay.Tie as tie

@@ -1,12 +1,11 @@
 -- `upload::upload_write` meets its contract.
 use borrow.Author.Tests.{not-true, not-false}
 use borrow.Author.Needs.{needs}
-use Rattle.upload.proofs.Lists.{fields-two, header-told, no-told}
--- `upload::upload_write` meets its contract.
+use Rattle.values.proofs.Headers.{fields-two, header-told, no-told}
 use mathlib.Core.List.{[], _∷_}
 use mathlib.Core.Path.{sym, _∙_, ap}
 use native.Mathlib.Omega.{arith}
-use Rattle.job.specs.Answers.{verdict}
+use Rattle.header.specs.Answers.{verdict}
 use Rattle.base.proofs.Lent.{stored}
 use Rattle.upload.proofs.Answering.{write-3, write-before, write-12, write-refused, write-done}
 use Rattle.upload.proofs.upload_write.Statement.{statement}

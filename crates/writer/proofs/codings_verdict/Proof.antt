@@ -2,7 +2,7 @@
 use Rattle.format.specs.Limits.{broken}
 use Rattle.format.specs.JobBytes.{coding-limits}
 use Rattle.format.proofs.Left.{codings-left, codings-start, codings-end, codings-step, codings-here}
-use Rattle.job.specs.Answers.{verdict}
+use Rattle.header.specs.Answers.{verdict}
 use Rattle.writing.specs.Lists.{codings-from}
 use Rattle.writing.proofs.Lists.{codings-count, coding-in}
 use Prim.Native.Nat.{_-_, _≤_}

@@ -1,7 +1,7 @@
 -- `writer::job_size` meets its contract.
 use Rattle.writer.proofs.Setting.{product-fits, sum-fits}
-use Rattle.job.specs.Answers.{plain}
-use Rattle.job.proofs.Fields.{small-size}
+use Rattle.header.specs.Answers.{plain}
+use Rattle.header.proofs.Fields.{small-size}
 use native.Mathlib.Omega.{arith}
 use borrow.Author.Needs.{needs}
 use Rattle.writer.proofs.job_size.Statement.{statement}

@@ -1,7 +1,7 @@
 -- `writer::lengths_verdict` meets its contract.
 use Rattle.writer.proofs.Setting.{product-fits}
-use Rattle.job.specs.Answers.{plain}
-use Rattle.job.proofs.Verdicts.{refuses, fits}
+use Rattle.header.specs.Answers.{plain}
+use Rattle.header.proofs.Verdicts.{refuses, fits}
 use mathlib.Core.Path.{refl}
 use native.Mathlib.Omega.{arith}
 use borrow.Author.Needs.{needs}

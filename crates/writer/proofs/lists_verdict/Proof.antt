@@ -1,6 +1,6 @@
 -- `writer::lists_verdict` meets its contract.
 use Rattle.format.proofs.Limits.{all-kept}
-use Rattle.job.specs.Answers.{verdict}
+use Rattle.header.specs.Answers.{verdict}
 use Rattle.writing.proofs.Order.{at-header, at-lengths, at-rates, at-codings}
 use mathlib.Core.Path.{sym, ap, _∙_}
 use native.Mathlib.Omega.{arith}

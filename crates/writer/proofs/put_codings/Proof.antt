@@ -1,5 +1,6 @@
 -- `writer::put_codings` meets its contract: what is left to write decides, whichever turn the loop is at.
-use Rattle.writer.proofs.Setting.{codings-left, codings-start, codings-step, codings-end, put-size}
+use Rattle.writer.proofs.Setting.{codings-left, codings-start, codings-step, codings-end}
+use Rattle.fields.proofs.Setting.{put-size}
 use Rattle.writing.specs.Lists.{codings-from}
 use Rattle.writing.proofs.Lists.{codings-count, coding-in}
 use Prim.Native.Nat.{_+_, _-_, _*_, _≤_}

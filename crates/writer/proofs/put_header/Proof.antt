@@ -1,5 +1,5 @@
 -- `writer::put_header` meets its contract: with one bucket the nine fields are all, with two the second's follow.
-use Rattle.job.proofs.Fields.{two-size}
+use Rattle.header.proofs.Fields.{two-size}
 use Rattle.writer.proofs.Records.{put-one, put-two}
 use borrow.Author.Tests.{not-true, not-false}
 use native.Mathlib.Omega.{arith}

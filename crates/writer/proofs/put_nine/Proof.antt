@@ -1,6 +1,6 @@
 -- `writer::put_nine` meets its contract: the numbers are the head and the nine fields in their order.
 use Rattle.format.specs.JobBytes.{nine-values}
-use Rattle.job.specs.Answers.{policed-of, plain}
+use Rattle.header.specs.Answers.{policed-of, plain}
 use borrow.Author.Needs.{needs}
 use Rattle.writer.proofs.put_nine.Statement.{statement}
 use Rattle.writer.proofs.put_nine.Tie as tie

@@ -1,5 +1,6 @@
 -- `writer::put_numbers` meets its contract: what is left to write decides, whichever turn the loop is at.
-use Rattle.writer.proofs.Setting.{numbers-left, numbers-start, numbers-step, numbers-end, put-size}
+use Rattle.writer.proofs.Setting.{numbers-left, numbers-start, numbers-step, numbers-end}
+use Rattle.fields.proofs.Setting.{put-size}
 use Prim.Native.Nat.{_+_, _-_, _*_, _≤_}
 use mathlib.Core.Path.{_≡_, refl, sym, _∙_}
 use native.Mathlib.Omega.{arith}

@@ -1,11 +1,11 @@
 -- `writer::put_units` meets its contract: what is left to write decides, whichever turn the loop is at.
-use Rattle.writer.proofs.Setting.{put-size}
+use Rattle.fields.proofs.Setting.{put-size}
 use Rattle.writer.proofs.Records.{part-length, unit-part, units-left, units-start, units-step, units-end, room}
 use Rattle.writing.specs.Lists.{codings-from}
 use Rattle.writing.proofs.Lists.{codings-count}
 use Rattle.format.specs.Places.{unit-size}
-use Rattle.job.specs.Answers.{plain}
-use Rattle.writer.specs.Answers.{put-at}
+use Rattle.header.specs.Answers.{plain}
+use Rattle.fields.specs.Written.{put-at}
 use Prim.Native.Nat.{_+_, _-_, _*_, _≤_}
 use mathlib.Core.Path.{_≡_, refl, sym, ap, _∙_}
 use native.Mathlib.Omega.{arith}

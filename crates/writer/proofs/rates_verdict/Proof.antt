@@ -3,7 +3,7 @@ use Rattle.format.specs.Limits.{broken}
 use Rattle.format.specs.JobBytes.{rate-limits}
 use Rattle.format.proofs.Limits.{of-kept}
 use Rattle.format.proofs.Left.{rates-left, rates-start, rates-end, rates-step, rates-here}
-use Rattle.job.specs.Answers.{verdict}
+use Rattle.header.specs.Answers.{verdict}
 use Prim.Native.Nat.{_-_, _≤_}
 use mathlib.Core.Path.{_≡_, refl, sym, _∙_}
 use native.Mathlib.Omega.{arith}

@@ -1,5 +1,5 @@
 -- `writer::write_job` meets its contract: refused, or the header, the rates and the units one behind another.
-use Rattle.job.proofs.Fields.{small-size}
+use Rattle.header.proofs.Fields.{small-size}
 use Rattle.writer.proofs.Answering.{write-refused, write-accepted, write-room, write-done}
 use Rattle.writing.proofs.Order.{Accepted}
 use Rattle.writing.specs.Calls.{write-refusal}
@@ -11,7 +11,7 @@ use mathlib.Core.Path.{_≡_, sym, _∙_, ap}
 use lib.ListN.{length}
 use Rattle.writer.specs.Answers.{wrote-answer, wrote}
 use native.Mathlib.Omega.{arith}
-use Rattle.job.specs.Answers.{plain, verdict}
+use Rattle.header.specs.Answers.{plain, verdict}
 use borrow.Author.Needs.{needs}
 use Rattle.writer.proofs.write_job.Statement.{statement}
 use Rattle.writer.proofs.write_job.Tie as tie

@@ -1,7 +1,7 @@
 -- `writer::write_refusal` meets its contract: the lists, then the room.
 use Rattle.writer.proofs.Answering.{limits-refuse, room-refuses, all-fits}
 use native.Mathlib.Omega.{arith}
-use Rattle.job.specs.Answers.{verdict}
+use Rattle.header.specs.Answers.{verdict}
 use mathlib.Core.Path.{sym, _∙_, ap}
 use borrow.Author.Needs.{needs}
 use Rattle.writer.proofs.write_refusal.Statement.{statement}

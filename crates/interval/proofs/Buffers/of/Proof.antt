@@ -1,6 +1,6 @@
 -- `interval::Buffers::of` meets its contract.
 use mathlib.Core.Path.{refl}
-use Rattle.job.specs.Answers.{policed-of, plain}
+use Rattle.header.specs.Answers.{policed-of, plain}
 use Rattle.format.specs.JobBytes.{bucket-of}
 use Rattle.interval.specs.Answers.{second-of, line-of}
 use Rattle.interval.proofs.Steps.{mapped-one}

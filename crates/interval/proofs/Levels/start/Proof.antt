@@ -1,5 +1,5 @@
 -- `interval::Levels::start` meets its contract.
-use Rattle.job.specs.Answers.{policed-of, plain}
+use Rattle.header.specs.Answers.{policed-of, plain}
 use Rattle.interval.specs.Answers.{levels-of, start-of}
 use Rattle.interval.proofs.Steps.{levels-one}
 use Rattle.interval.proofs.Levels.start.Statement.{statement}

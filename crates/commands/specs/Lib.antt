@@ -1,0 +1,2 @@
+-- What the records and answers of this crate mean.
+pub mod Answers

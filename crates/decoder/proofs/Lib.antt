@@ -1,0 +1,6 @@
+-- Laws that belong to no one function.
+pub mod Blocks
+pub mod Near
+pub mod Choices
+pub mod Offers
+pub mod Decoding

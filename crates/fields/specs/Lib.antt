@@ -1,0 +1,2 @@
+-- What writing a field means.
+pub mod Written

@@ -1,0 +1,2 @@
+-- What a header and a verdict mean.
+pub mod Answers

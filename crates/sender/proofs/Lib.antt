@@ -1,0 +1,6 @@
+-- Laws that belong to no one function.
+pub mod Blocks
+pub mod Sizes
+pub mod Rates
+pub mod Rows
+pub mod Column

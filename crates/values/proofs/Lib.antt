@@ -1,0 +1,4 @@
+-- Laws that belong to no one function.
+pub mod Buckets
+pub mod Rooms
+pub mod Headers

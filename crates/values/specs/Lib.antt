@@ -1,0 +1,2 @@
+-- What the values of the exported calls are.
+pub mod Lists

@@ -1,0 +1,163 @@
+// The values that the exported calls give, as numbers in a list that is lent, and a header from a list of its fields.
+ghost use mathlib.Core.Path.{_≡_};
+ghost use Prim.Native.Nat.{_+_, _*_, _≤_};
+ghost use mathlib.Core.List.{[], _∷_};
+ghost use lib.ListN.{length, drop, replicate};
+ghost use Rattle.base.specs.If.{one-if};
+ghost use Rattle.base.specs.Lent.{over};
+ghost use Rattle.format.specs.JobBytes.{policed-by, header-of};
+ghost use Rattle.header.specs.Answers.{extra, policed-of, plain};
+ghost use Rattle.interval.specs.Answers.{violation};
+ghost use Rattle.values.specs.Lists.{buckets-in, opened-values, totals-values, violation-number, header-fields};
+use header::Bucket;
+use header::Header;
+use interval::Totals;
+use interval::Violation;
+use job::Reading;
+use session::PinTotals;
+
+// How many fields a header has, with one bucket and with two.
+const FIELDS: usize = 9;
+
+pub const TWO_FIELDS: usize = 12;
+
+// Of a job that opens: how many bytes it took, N, T, and how many words its table has.
+pub fn put_opened(values: &mut [u64], taken: usize, header: Header)
+    requires { ⌜ 4 ≤ length (now values) ⌝ }
+    ensures { λ _. ⌜ now (values .exit) ≡ over (opened-values taken (plain header)) (now (values .entry)) ⌝ }
+{
+    values[0] = taken as u64;
+    values[1] = header.units as u64;
+    values[2] = entry::intervals(header) as u64;
+    values[3] = table::table_words(header) as u64;
+}
+
+// How many buckets the line of a job has; one where the bytes hold no job.
+pub fn buckets_in(job: &[u8]) -> usize
+    ensures { λ r. ⌜ r ≡ buckets-in (now (job .entry)) ⌝ }
+{
+    match job::read(job) {
+        Reading::Refused(_) => 1,
+        Reading::Read { header, taken: _ } => { if header.two { 2 } else { 1 } }
+    }
+}
+
+// Distortion, source size, channel size and the unused drain of each bucket.
+pub fn put_totals(values: &mut [u64], totals: Totals)
+    requires { ⌜ length (totals-values totals) ≤ length (now values) ⌝ }
+    ensures { λ _. ⌜ now (values .exit) ≡ over (totals-values totals) (now (values .entry)) ⌝ }
+{
+    values[0] = totals.distortion as u64;
+    values[1] = totals.source as u64;
+    values[2] = totals.channel as u64;
+    values[3] = totals.unused as u64;
+    if totals.two {
+        values[4] = totals.unused2 as u64;
+    }
+}
+
+// Of pins: how many, the sum of their sizes and the sum of their distortions.
+pub fn put_pins(values: &mut [u64], totals: PinTotals)
+    requires { ⌜ 3 ≤ length (now values) ⌝ }
+    ensures { λ _. ⌜ now (values .exit) ≡ over (totals .count ∷ totals .size ∷ totals .distortion ∷ []) (now (values .entry)) ⌝ }
+{
+    values[0] = totals.count as u64;
+    values[1] = totals.size as u64;
+    values[2] = totals.distortion as u64;
+}
+
+// The numbers are names that callers have stored. 1 to 4 are in document 01's order of tests, and stayed when document 02, E2, changed that order and E5 put a second bucket between.
+pub fn violation_number(x: Violation) -> u64
+    ensures { λ r. ⌜ r ≡ violation-number (violation x) ⌝ }
+{
+    match x {
+        Violation::DecoderUnderflow => 1,
+        Violation::DecoderOverflow => 2,
+        Violation::BucketOverflow => 3,
+        Violation::PinNotHeld => 4,
+        Violation::SecondOverflow => 5,
+    }
+}
+
+// The violation's number, or 0, its interval, or 0, and the totals, 0 where there is a violation.
+pub fn put_replayed(values: &mut [u64], violation: u64, interval: u16, totals: Totals)
+    requires { ⌜ 2 + length (totals-values totals) ≤ length (now values) ⌝ }
+    ensures { λ _. ⌜ now (values .exit) ≡ over (violation ∷ interval ∷ totals-values totals) (now (values .entry)) ⌝ }
+{
+    values[0] = violation;
+    values[1] = interval as u64;
+    values[2] = totals.distortion as u64;
+    values[3] = totals.source as u64;
+    values[4] = totals.channel as u64;
+    values[5] = totals.unused as u64;
+    if totals.two {
+        values[6] = totals.unused2 as u64;
+    }
+}
+
+// Totals of zeros over so many buckets.
+pub fn no_totals(buckets: usize) -> Totals
+    requires { ⌜ (1 ≤ buckets) × (buckets ≤ 2) ⌝ }
+    ensures { λ r. ⌜ totals-values r ≡ replicate (3 + buckets) 0 ⌝ }
+{
+    Totals {
+        distortion: 0,
+        source: 0,
+        channel: 0,
+        unused: 0,
+        two: buckets == 2,
+        unused2: 0,
+    }
+}
+
+// Whether so many fields are a header.
+pub fn fields_fit(count: usize) -> bool
+    ensures { λ r. ⌜ r ≡ header-fields count ⌝ }
+{
+    match count {
+        FIELDS => true,
+        TWO_FIELDS => true,
+        _ => false,
+    }
+}
+
+// The second bucket among a header's fields, where there is one.
+fn second_of(fields: &[u16], two: bool) -> Bucket
+    requires { ⌜ length (now fields) ≡ 9 + 3 * extra two ⌝ }
+    ensures { λ r. ⌜ one-if two (policed-of r) ≡ policed-by (drop 9 (now (fields .entry))) ⌝ }
+{
+    if two {
+        return Bucket {
+            size: fields[9],
+            drain: fields[10],
+            fill: fields[11],
+        };
+    }
+    Bucket {
+        size: 0,
+        drain: 0,
+        fill: 0,
+    }
+}
+
+// The header of nine fields in their order, or of twelve.
+pub fn header_of(fields: &[u16], two: bool) -> Header
+    requires { ⌜ length (now fields) ≡ 9 + 3 * extra two ⌝ }
+    ensures { λ r. ⌜ plain r ≡ header-of (now (fields .entry)) ⌝ }
+{
+    Header {
+        units: fields[0],
+        delay: fields[1],
+        decoder: fields[2],
+        level: fields[5],
+        first: Bucket {
+            size: fields[3],
+            drain: fields[4],
+            fill: fields[6],
+        },
+        two,
+        second: second_of(fields, two),
+        rates: fields[7],
+        choices: fields[8],
+    }
+}
