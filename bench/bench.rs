@@ -534,16 +534,16 @@ fn draft_of(size: &Size) -> Draft {
     Draft::new(levels.map(|level| level as u16), &rates, &units)
 }
 
-/// Units whose choices have all sizes that the decoder holds, or as many of them as there
-/// are choices, in any order: the first pass has as much to do as it can have. Larger
-/// ones lose less, more or less.
-fn spread_draft(size: &Size) -> Draft {
+/// Units whose choices have so many sizes, spread over all that the decoder holds, in any
+/// order; with as many sizes as choices the first pass has as much to do as it can have.
+/// Larger ones lose less, more or less.
+fn spread_draft(size: &Size, sizes: usize) -> Draft {
     let mut rng = Rng(3);
     let mut draft = draft_of(size);
     for unit in &mut draft.units {
         let last = size.choices - 1;
         for (choice, coding) in unit.iter_mut().enumerate() {
-            let grains = choice * size.decoder / last;
+            let grains = choice % sizes * size.decoder / (sizes - 1);
             let lost = size.decoder - grains;
             *coding = (grains as u16, (lost * lost * rng.from(3, 9) + rng.from(0, 60)) as u32);
         }
@@ -786,7 +786,7 @@ fn plan_tables(with_full: bool) {
     let mut plans = Plans::new("planning, the largest job that opens", false);
     plans.add("512 units, 1,000 choices", FULL.steps(), &job_of(&FULL), false);
     if with_full {
-        let job = spread_draft(&FULL).bytes();
+        let job = spread_draft(&FULL, FULL.choices).bytes();
         plans.add("the same, of all sizes", FULL.steps(), &job, false);
     }
     plans.add("512 units, 31 choices", FEWER.steps(), &job_of(&FEWER), with_full);
@@ -1032,18 +1032,20 @@ fn many_choice_tables() {
     let mut plans = Plans::new("planning, by choices of all sizes that the decoder holds", true);
     for choices in [31, 125, 500, 1000] {
         let size = Size { choices, ..base };
-        let job = spread_draft(&size).bytes();
+        let job = spread_draft(&size, choices).bytes();
         plans.add(format!("{choices} choices"), size.steps(), &job, false);
     }
 
-    println!("  the library alone, the least of seven in turn; 1,000 choices are to take at most");
-    println!("  4.00 times what 31 take, and hardly more than 500, which have all sizes too:");
+    println!("  the library alone, the least of seven in turn, for 31 choices, 1,000 of the same 31");
+    println!("  sizes, and 500 and 1,000 of all sizes; 1,000 are to take at most 4.00 times what 31");
+    println!("  take on the same sizes, and of all sizes hardly more than 500:");
     for (units, grains) in [(400, 63), (400, 127), (128, 255)] {
         let base = Size { units, decoder: grains, bucket: grains, ..base };
-        let jobs = [31, 500, 1000].map(|choices| spread_draft(&Size { choices, ..base }).bytes());
+        let jobs = [(31, 31), (1000, 31), (500, 500), (1000, 1000)]
+            .map(|(choices, sizes)| spread_draft(&Size { choices, ..base }, sizes).bytes());
         let opened = upload_planner::open(&jobs[0]).expect("a job");
         let (mut table, mut entries) = (vec![0; opened.table_words], vec![0; opened.plan_bytes()]);
-        let mut least = [f64::MAX; 3];
+        let mut least = [f64::MAX; 4];
         for _ in 0..7 {
             for (job, best) in jobs.iter().zip(&mut least) {
                 let start = Instant::now();
@@ -1052,12 +1054,14 @@ fn many_choice_tables() {
                 planned.expect("a plan");
             }
         }
-        let [few, half, most] = least;
+        let [few, same, half, most] = least;
         let times = least.map(shown).join(", ");
-        let [to_few, to_half] = [few, half].map(|time| most / time);
         println!(
-            "  {units} units, decoder and bucket of {grains}: 31, 500 and 1,000 choices {times}; \
-             1,000 to 31 x{to_few:.2}, to 500 x{to_half:.2}"
+            "  {units} units, decoder and bucket of {grains}: {times}; 1,000 to 31 on the same \
+             sizes x{:.2}, of all sizes x{:.2}, 1,000 to 500 x{:.2}",
+            same / few,
+            most / few,
+            most / half
         );
     }
 }
