@@ -1,4 +1,4 @@
--- The check of a set against a job, refusal 6: "header differs; a pin byte is neither the mark nor below M; one past N is not the mark; a total is not the sum over the pins".
+-- The check of a set against a job, refusal 6: the header differs; a pin is neither the mark nor below M; one past N is not the mark; a total is not the sum over the pins (document 01, "Where each refusal is checked"; the mark is that of document 02, E6).
 use Prim.Native.Nat.{ℕ, suc, _<_, _≤_}
 use mathlib.Core.Path.{_≡_}
 use mathlib.Core.Logic.{_⊎_}
