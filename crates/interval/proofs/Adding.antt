@@ -6,7 +6,7 @@ use native.Mathlib.Omega.{arith}
 use lib.ListN.{length, getD, length-map}
 use Rattle.model.specs.Job.{Bucket, bucketAt, Job, Entry, sends}
 use Rattle.model.specs.Levels.{unusedTotals}
-use Rattle.base.specs.Lists.{sum}
+use Rattle.base.specs.Lists.{sum, gathered}
 use Rattle.model.specs.Step.{bucket-step, after-sending}
 use Rattle.model.specs.Replay.{total-distortion, totals}
 use Rattle.model.specs.Replay as r
@@ -97,5 +97,5 @@ module _ (j : Job) (whole : r.Totals) where
       }
 
   pub added-end : (i : ℕ) (at : Levels) (sum : Totals) → Added j whole i at sum [] → totals-of sum ≡ whole
-  unfolding plus totals total-distortion unusedTotals sum
+  unfolding plus totals total-distortion unusedTotals gathered
   added-end i at sum a = sym (a .sums ∙ totals-same (omega arith) (omega arith) (omega arith) (each-zero (totals-of sum .unused) (j .line .buckets) (levels-of at .buckets) (a .count) (a .levels)))

@@ -6,7 +6,7 @@ use native.Mathlib.Omega.{arith}
 use lib.IntN.{ℤ, pos, _+ℤ_, _-ℤ_, +ℤ-assoc, +ℤ-comm, -ℤ-+ℤ-cancel, pos-+ℤ-pos}
 use Rattle.model.specs.Job.{Job, Entry, waits, PlanFits}
 use Rattle.model.specs.Levels.{sent, taken, decoderLevel, sentAfter, effectiveBuffer, unitsTaken}
-use Rattle.base.specs.Lists.{sum}
+use Rattle.base.specs.Lists.{sum, gathered}
 use Rattle.model.specs.Claims.{EffectiveBuffers, RunningBuffers}
 use Rattle.model.proofs.Sums.{sum-first}
 use Rattle.model.proofs.Units.{units}
@@ -17,7 +17,7 @@ module _ (j : Job) (p : List Entry) where
   takenTo n = sum (taken j 0 p) n
 
   sent-split : (i n : ℕ) → sentAfter j p 0 (i + n) ≡ sentAfter j p 0 i + sentAfter j p i n
-  unfolding sum sentAfter
+  unfolding gathered sentAfter
   sent-split i zero = let e : i + 0 ≡ i = omega arith in rw e (omega arith)
   sent-split i (suc n) =
       let e : i + suc n ≡ suc (i + n) = omega arith in
@@ -40,7 +40,7 @@ module _ (j : Job) (p : List Entry) where
 
   -- (16) summed up, which is (4)
   level-sum : (b n : ℕ) → decoderLevel j 0 p b n +ℤ pos (takenTo n) ≡ pos (b + sentAfter j p 0 n)
-  unfolding sum decoderLevel sentAfter
+  unfolding gathered decoderLevel sentAfter
   level-sum b zero = pos-+ℤ-pos b 0
   level-sum b (suc n) =
       let e : 0 + suc n ≡ suc n = omega arith in
@@ -48,12 +48,12 @@ module _ (j : Job) (p : List Entry) where
 
   module _ (fits : PlanFits j 0 p) where
     waits-to : (n : ℕ) → n ≤ j .delay → takenTo n ≡ 0
-    unfolding sum
+    unfolding gathered
     waits-to zero h = refl
     waits-to (suc n) h = let ih = waits-to n (omega arith) in let e = units j p .waits fits (suc n) h .0 in omega arith
 
     units-to : (i : ℕ) → takenTo (i + j .delay) ≡ unitsTaken j p i
-    unfolding sum unitsTaken
+    unfolding gathered unitsTaken
     units-to zero = let e : 0 + j .delay ≡ j .delay = omega arith in rw e (waits-to (j .delay) (omega arith))
     units-to (suc i) =
         let e : suc i + j .delay ≡ suc (i + j .delay) = omega arith in
@@ -69,7 +69,7 @@ effective-buffers j p b i fits =
 
 -- a window and the number behind it, or the number before it and the next window
 window-next : (j : Job) (p : List Entry) (i n : ℕ) → sentAfter j p i n + sent j p (i + n + 1) ≡ sent j p (i + 1) + sentAfter j p (i + 1) n
-unfolding sum sentAfter
+unfolding gathered sentAfter
 window-next j p i n =
     let e : i + n + 1 ≡ i + suc n = omega arith in
     rw e (sum-first (λ k. sent j p (i + k)) (λ k. sent j p (i + 1 + k)) (λ k. ap (sent j p) (omega arith)) n)

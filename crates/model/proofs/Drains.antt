@@ -9,7 +9,7 @@ use native.Mathlib.Omega.{arith}
 use lib.ListN.{length, getD}
 use Rattle.model.specs.Job.{Bucket, bucketAt, Levels, no-levels, Job, Entry}
 use Rattle.model.specs.Levels.{bucketLevel, bucketLevels, unusedDrain, unusedTotals}
-use Rattle.base.specs.Lists.{sum}
+use Rattle.base.specs.Lists.{sum, gathered}
 use Rattle.model.specs.Pins.{PinMap}
 use Rattle.model.specs.Admissible.{ending, LevelsOf}
 use Rattle.model.specs.Step.{bucket-step}
@@ -29,7 +29,7 @@ bucket-steps drain l c = record {
     go (no h) = inl (omega arith)
 
 pub drain-balance : DrainBalance
-unfolding sum bucketLevel unusedDrain
+unfolding gathered bucketLevel unusedDrain
 drain-balance j s p k l zero = omega arith
 drain-balance j s p k l (suc n) = let ih = drain-balance j s p k l n in omega (arith, suc-mul n (k .drain))
 

@@ -12,6 +12,7 @@ pub mod Entries
 pub mod Walks
 pub mod Units
 pub mod Planning
+pub mod Evenness
 pub mod OneBest
 pub mod PinTotals
 pub mod Places

@@ -1,6 +1,6 @@
 -- The order of entries is strict, so that a set of plans has at most one best: `OneBest`.
 use Prim.Native.Nat.{ℕ}
-use mathlib.Core.Path.{_≡_, sym}
+use mathlib.Core.Path.{_≡_}
 use mathlib.Core.Logic.{inl, inr}
 use mathlib.Core.Option.{Option}
 use mathlib.Core.List.{List}
@@ -8,7 +8,6 @@ use native.Mathlib.Omega.{arith}
 use Rattle.trellis.specs.Claims.{Strict}
 use Rattle.trellis.proofs.TieOrder.{no-later-antisym}
 use Rattle.model.specs.Job.{Entry}
-use Rattle.model.specs.Replay.{total-distortion}
 use Rattle.model.specs.Best.{Order, late, early, ChoiceBefore, smaller, Before}
 use Rattle.model.specs.Claims.{OneBest}
 
@@ -31,8 +30,5 @@ before-strict o = record {
 }
 
 pub one-best : (Among : List Entry → Type 0) → OneBest Among
-one-best Among j s o p q x y =
-    let h = x .least-of-all q (y .among) in
-    let k = y .least-of-all p (x .among) in
-    let e : total-distortion j s q ≡ total-distortion j s p = omega arith in
-    no-later-antisym (before-strict o) (x .first-of-these q (y .among) e) (y .first-of-these p (x .among) (sym e))
+one-best Among j s a o p q x y =
+    no-later-antisym (before-strict o) (x .first-of-these q (y .among) (y .least-of-all p (x .among))) (y .first-of-these p (x .among) (x .least-of-all q (y .among)))

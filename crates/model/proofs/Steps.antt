@@ -7,11 +7,13 @@ use native.Mathlib.Omega.{arith}
 use lib.ListN.{length}
 use lib.IntN.{ℤ, pos, _+ℤ_, _-ℤ_}
 use Rattle.trellis.specs.Table.{Closed}
-use Rattle.model.specs.Job.{Bucket, Line, Levels, Job, sends, takes, intervals}
-use Rattle.model.specs.Pins.{PinMap, pinAt}
+use Rattle.trellis.specs.Limit.{keeps-to, limited}
+use Rattle.trellis.proofs.Limit.{only-some}
+use Rattle.model.specs.Job.{Bucket, Line, Levels, Job, sends, takes, distorts, intervals}
+use Rattle.model.specs.Pins.{pinAt}
 use Rattle.model.specs.Admissible.{holds, verify, Ending, Sound, Shows}
 use Rattle.model.specs.Step.{decoder-step, reaches, after-sending, outcome-of, outcome}
-use Rattle.model.specs.Best.{Order, reached, trellis-of}
+use Rattle.model.specs.Best.{Order, reached, all-walks, Open, trellis-of}
 use Rattle.model.specs.Table.{InLayer}
 use Rattle.model.proofs.Decoder.{verified-level, decoder-steps}
 use Rattle.model.proofs.Outcome.{Judged, good, outcome-judged}
@@ -56,6 +58,6 @@ module _ (line : Line) (pinned choice : Option ℕ) (c r : ℕ) (s u : Levels) w
   pub outcome-closed : InLayer line s → reached (outcome-of line pinned choice (s .decoder) (s .buckets) c r) ≡ some u → InLayer line u
   outcome-closed a k = reaches-in-layer (a .count) (reached-some (outcome-of line pinned choice (s .decoder) (s .buckets) c r) u k)
 
-pub layer-closed : (j : Job) (m : PinMap) (o : Order) → Closed (trellis-of j m o) (intervals j) (λ t s. InLayer (j .line) s)
-unfolding trellis-of outcome
-layer-closed j m o t s u e h a l k = outcome-closed (j .line) (pinAt j m (suc t)) (e .choice) (sends j e) (takes j (suc t) e) s u a k
+pub layer-closed : (j : Job) (k : Open) (o : Order) → Closed (trellis-of j k o) (intervals j) (λ t s. InLayer (j .line) s)
+unfolding trellis-of all-walks limited outcome
+layer-closed j k o t s u e h a l x = outcome-closed (j .line) (pinAt j (k .pins) (suc t)) (e .choice) (sends j e) (takes j (suc t) e) s u a (only-some (keeps-to (k .limit) (distorts j (suc t) e)) _ u x .1)

@@ -1,22 +1,28 @@
--- Sums over the intervals of a plan: of its first entry, and of the rest from the levels that the first entry leads to.
+-- Sums over the intervals of a plan, and the greatest number: of its first entry, and of the rest from the levels that the first entry leads to.
 use Prim.Native.Nat.{ℕ, zero, suc, _+_}
-use mathlib.Core.Path.{_≡_, refl, _∙_}
+use mathlib.Core.Path.{_≡_, refl, sym, _∙_, ap₂}
 use mathlib.Core.List.{List, [], _∷_, zipWith}
 use native.Mathlib.Numerals.{add-one}
 use native.Mathlib.Omega.{arith}
 use lib.ListN.{length}
+use Rattle.trellis.specs.Trellis.{Combines}
+use Rattle.trellis.proofs.Optimality.{sum-combines}
 use Rattle.model.specs.Job.{Bucket, Levels, Job, Entry, sends, takes, distorts}
 use Rattle.model.specs.Levels.{entryOf, sent, taken, distorted, bucketLevel, unusedDrain, unusedTotals}
-use Rattle.base.specs.Lists.{sum}
+use Rattle.base.specs.Lists.{sum, gathered}
 use Rattle.model.specs.Step.{bucket-step, after-sending}
 use Rattle.model.specs.Replay.{Totals, total-distortion, totals}
 use Rattle.model.proofs.Levels.{taken-rest, bucket-rest}
 
 -- the first number and the rest, which another function gives
+pub gathered-first : (_⊕_ : ℕ → ℕ → ℕ) → Combines _⊕_ → (f g : ℕ → ℕ) → ((i : ℕ) → f (suc (suc i)) ≡ g (suc i)) → (n : ℕ) → gathered _⊕_ f (suc n) ≡ _⊕_ (f 1) (gathered _⊕_ g n)
+unfolding gathered
+gathered-first _⊕_ c f g e zero = c .left-zero (f 1) ∙ sym (c .right-zero (f 1))
+gathered-first _⊕_ c f g e (suc n) =
+    ap₂ _⊕_ (gathered-first _⊕_ c f g e n) (e n) ∙ c .associates (f 1) (gathered _⊕_ g n) (g (suc n))
+
 pub sum-first : (f g : ℕ → ℕ) → ((i : ℕ) → f (suc (suc i)) ≡ g (suc i)) → (n : ℕ) → sum f (suc n) ≡ f 1 + sum g n
-unfolding sum
-sum-first f g e zero = omega arith
-sum-first f g e (suc n) = let ih = sum-first f g e n in let q = e n in omega arith
+sum-first = gathered-first _+_ sum-combines
 
 -- numbers one list after the other, and totals
 unfoldable pub plus-each : List ℕ → List ℕ → List ℕ
@@ -62,9 +68,12 @@ module _ (j : Job) (s : ℕ) (e : Entry) (p : List Entry) where
   unfolding distorted entryOf
   distorted-rest n = let q : s + suc (suc n) ≡ suc s + suc n = omega arith in rw q
 
-  pub distortion-first : total-distortion j s (e ∷ p) ≡ distorts j (suc s) e + total-distortion j (suc s) p
+  pub distortions-first : (_⊕_ : ℕ → ℕ → ℕ) → Combines _⊕_ → gathered _⊕_ (distorted j s (e ∷ p)) (suc (length p)) ≡ _⊕_ (distorts j (suc s) e) (gathered _⊕_ (distorted j (suc s) p) (length p))
+  distortions-first _⊕_ c = gathered-first _⊕_ c (distorted j s (e ∷ p)) (distorted j (suc s) p) distorted-rest (length p) ∙ unfold distorted entryOf in rw add-one
+
+  distortion-first : total-distortion j s (e ∷ p) ≡ distorts j (suc s) e + total-distortion j (suc s) p
   unfolding total-distortion
-  distortion-first = sum-first (distorted j s (e ∷ p)) (distorted j (suc s) p) distorted-rest (length p) ∙ unfold distorted entryOf in rw add-one
+  distortion-first = distortions-first _+_ sum-combines
 
   unused-rest : (k : Bucket) (l n : ℕ) → unusedDrain j s (e ∷ p) k l (suc (suc n)) ≡ unusedDrain j (suc s) p k (bucket-step (k .drain) l (sends j e) .level) (suc n)
   unfolding unusedDrain sent entryOf

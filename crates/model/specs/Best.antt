@@ -1,5 +1,5 @@
--- The best plan: the trellis of a job with its pins, for the theory of the crate `trellis` (document 01, "The best plan").
-use Prim.Native.Nat.{ℕ, suc, _+_, _-_, _<_}
+-- The best plan: the trellis of a job with its pins, for the theory of the crate `trellis` (document 01, "The best plan"; document 02, E7).
+use Prim.Native.Nat.{ℕ, suc, _+_, _-_, _<_, max}
 use mathlib.Core.Path.{_≡_}
 use mathlib.Core.Logic.{_⊎_}
 use mathlib.Core.Option.{Option, none, some}
@@ -7,6 +7,7 @@ use mathlib.Core.List.{List, map}
 use lib.Dec.{leb}
 use lib.ListN.{length}
 use Rattle.trellis.specs.Trellis.{Trellis, least, best}
+use Rattle.trellis.specs.Limit.{limited}
 use Rattle.trellis.specs.Pairs.{Pair, rows}
 use Rattle.base.specs.If.{if_then_else_}
 use Rattle.model.specs.Job.{Levels, Job, Entry, distorts, intervals}
@@ -55,19 +56,47 @@ reached (violates v) = none
 reached (reaches s) = some s
 
 -- states are levels, moves are entries, a step is an interval without a violation, costs are distortions
-unfoldable pub trellis-of : Job → PinMap → Order → Trellis Levels Entry
-trellis-of j m o = record {
+unfoldable pub all-walks : Job → PinMap → Order → Trellis Levels Entry
+all-walks j m o = record {
   moves = entries o j;
   step = λ t s e. reached (outcome j m t s e);
   cost = λ t e. distorts j t e;
 }
 
--- of the plans for the intervals after s, from the levels there
-module _ (j : Job) (m : PinMap) (s : ℕ) (start : Levels) where
-  -- the least total distortion, or none
-  unfoldable pub least-total : Option ℕ
-  least-total = least (trellis-of j m late) _+_ (intervals j - s) s start
+-- which choices are open to a search: those that hold the pins and, where there is a limit, have a distortion of at most that (document 02, E7)
+pub record Open : Type 0 where
+  pub pins : PinMap
+  pub limit : Option ℕ
 
-  -- the plan with the least total distortion that is first in the order
-  unfoldable pub best-plan : Order → List Entry
-  best-plan o = best (trellis-of j m o) _+_ (intervals j - s) s start
+abbrev pub unlimited : PinMap → Open
+unlimited m = record { pins = m; limit = none }
+
+unfoldable pub trellis-of : Job → Open → Order → Trellis Levels Entry
+trellis-of j k o = limited (k .limit) (all-walks j (k .pins) o)
+
+-- of the plans for the intervals after s, from the levels there
+-- the least that their distortions come to, combined in a way, or none
+unfoldable pub least-by : (ℕ → ℕ → ℕ) → Job → Open → ℕ → Levels → Option ℕ
+least-by _⊕_ j k s start = least (trellis-of j k late) _⊕_ (intervals j - s) s start
+
+-- the least total distortion
+abbrev pub least-total : Job → Open → ℕ → Levels → Option ℕ
+least-total j k s start = least-by _+_ j k s start
+
+-- the least greatest distortion that holds the pins
+abbrev pub least-greatest : Job → PinMap → ℕ → Levels → Option ℕ
+least-greatest j m s start = least-by max j (unlimited m) s start
+
+-- the plan with the least total distortion that is first in the order
+unfoldable pub best-plan : Job → Open → ℕ → Levels → Order → List Entry
+best-plan j k s start o = best (trellis-of j k o) _+_ (intervals j - s) s start
+
+-- what is to be least (document 02, E7): the total distortion; or, for even pictures, the greatest distortion of a unit, and of the plans in which that is least the total
+pub data Aim : Type 0 where
+  total : Aim
+  even : Aim
+
+-- the choices that an aim leaves open to the search for the least total: for even pictures none above the least greatest distortion. Where no plan holds the pins there is no such distortion, and nothing is left out
+unfoldable pub open-for : Aim → Job → PinMap → ℕ → Levels → Open
+open-for total j m s start = unlimited m
+open-for even j m s start = record { pins = m; limit = least-greatest j m s start }

@@ -10,21 +10,33 @@ use lib.IntN.{pos, _+ℤ_}
 use lib.Signed.{_≤ℤ_}
 use Rattle.trellis.specs.Table.{first-at, marked-offer}
 use Rattle.trellis.specs.Trellis.{NoLater}
+use Rattle.trellis.specs.Limit.{UpTo}
 use Rattle.model.specs.Job.{Bucket, bucketAt, nothing, Levels, Job, Entry, distorts, intervals, PlanFits}
 use Rattle.model.specs.Levels.{entryOf, sent, taken, distorted, decoderLevel, bucketLevel, unusedDrain, sentAfter, effectiveBuffer, unitsTaken}
 use Rattle.base.specs.Lists.{sum}
 use Rattle.model.specs.Pins.{PinMap}
 use Rattle.model.specs.Admissible.{Violation, decoder-overflow, decoder-underflow, breaks, holds, AllWithin, Verified, ending, SoundFor, Admissible, FirstViolation, LevelsOf}
 use Rattle.model.specs.Step.{decoder-step, bucket-step, reaches, outcome}
-use Rattle.model.specs.Replay.{total-distortion, totals, Replay, clean, stopped, replay, last-levels}
-use Rattle.model.specs.Best.{Order, Before, entries, trellis-of, least-total, best-plan}
+use Rattle.model.specs.Replay.{total-distortion, greatest-distortion, totals, Replay, clean, stopped, replay, last-levels}
+use Rattle.model.specs.Best.{Order, Before, Open, unlimited, Aim, total, even, entries, trellis-of, least-total, least-greatest, best-plan, open-for}
 use Rattle.model.specs.Table.{mark, bound, InLayer, words, wordAt, IsTable, FollowsRule, Bounded}
 
--- of the plans in a set, p has the least total distortion, and of those with as little none comes before it
-pub record BestOf (j : Job) (s : ℕ) (o : Order) (Among : List Entry → Type 0) (p : List Entry) : Type 0 where
+-- p is no worse than q by an aim: its total is no more; for even pictures, its greatest distortion is less, or they are as great and its total is no more
+abbrev pub NoWorse : Aim → Job → ℕ → List Entry → List Entry → Type 0
+NoWorse total j s p q = total-distortion j s p ≤ total-distortion j s q
+NoWorse even j s p q = (greatest-distortion j s p < greatest-distortion j s q) ⊎ ((greatest-distortion j s p ≡ greatest-distortion j s q) × (total-distortion j s p ≤ total-distortion j s q))
+
+-- of the plans in a set, p is the best by an aim: none is better, and of those that are no worse none comes before it
+pub record BestOf (j : Job) (s : ℕ) (a : Aim) (o : Order) (Among : List Entry → Type 0) (p : List Entry) : Type 0 where
   pub among : Among p
-  pub least-of-all : (q : List Entry) → Among q → total-distortion j s p ≤ total-distortion j s q
-  pub first-of-these : (q : List Entry) → Among q → total-distortion j s q ≡ total-distortion j s p → NoLater (Before o) p q
+  pub least-of-all : (q : List Entry) → Among q → NoWorse a j s p q
+  pub first-of-these : (q : List Entry) → Among q → NoWorse a j s q p → NoLater (Before o) p q
+
+-- g is the greatest distortion of a unit in a plan: no interval of it has more, and one has so much; a plan for no interval has 0
+pub record GreatestClaim (j : Job) (s : ℕ) (p : List Entry) (g : ℕ) : Type 0 where
+  pub no-more : (n : ℕ) → n < length p → distorted j s p (suc n) ≤ g
+  pub attained : 0 < length p → (n : ℕ) × (n < length p) × (distorted j s p (suc n) ≡ g)
+  pub empty : length p ≡ 0 → g ≡ 0
 
 -- the decoder's step in natural numbers, from the level b where c is sent and r decoded: over before short, and else what is left after the unit
 pub record DecoderClaim (size b c r : ℕ) : Type 0 where
@@ -48,6 +60,11 @@ pub record RunningClaim (j : Job) (p : List Entry) (i : ℕ) : Type 0 where
 pub record BalanceClaim (j : Job) (s : ℕ) (start : Levels) (p : List Entry) (r : Replay) : Type 0 where
   pub balance : (i : ℕ) → i < length (j .line .buckets) → getD (start .buckets) i 0 + totals j s start p .channel + getD (totals j s start p .unused) i 0 ≡ length p * bucketAt (j .line .buckets) i .drain + getD (last-levels start (r .levels) .buckets) i 0
 
+-- the choices of which a table is left, after a plan whose greatest distortion is g: all that hold the pins; for even pictures none above g
+unfoldable pub kept-open : Aim → PinMap → ℕ → Open
+kept-open total m g = unlimited m
+kept-open even m g = record { pins = m; limit = some g }
+
 module _ (j : Job) (m : PinMap) (s : ℕ) (start : Levels) where
   -- r is the replay of p: the levels that it writes are those of (16) and (17)
   pub record ReplayClaim (p : List Entry) (r : Replay) : Type 0 where
@@ -61,11 +78,32 @@ module _ (j : Job) (m : PinMap) (s : ℕ) (start : Levels) where
     pub stopped-iff : (n : ℕ) (v : Violation) → (r .result ≡ stopped (s + suc n) v) ↔ FirstViolation j m s start p n v
     pub stopped-after : (t : ℕ) (v : Violation) → r .result ≡ stopped t v → t ≡ s + suc (length (r .levels))
 
-  -- the least total is none exactly where no plan is admissible; else it is the distortion of `best-plan`, which is the best of the admissible plans
+  -- the least greatest distortion is none exactly where no plan is admissible; else an admissible plan has it, and none has less
+  pub record EvennessClaim : Type 0 where
+    pub none-iff : (least-greatest j m s start ≡ none) ↔ ((p : List Entry) → Admissible j m s start p → ⊥)
+    pub attained : (g : ℕ) → least-greatest j m s start ≡ some g → (p : List Entry) × Admissible j m s start p × (greatest-distortion j s p ≡ g)
+    pub no-less : (g : ℕ) → least-greatest j m s start ≡ some g → (p : List Entry) → Admissible j m s start p → g ≤ greatest-distortion j s p
+
+  -- by an aim, with the choices k that it leaves open: no plan is found exactly where none is admissible, and then nothing was left out; else the plan is the best of the admissible ones by that aim, and what was left out is what is above its own greatest distortion
+  pub record AimClaim (a : Aim) (o : Order) (k : Open) : Type 0 where
+    pub none-iff : (least-total j k s start ≡ none) ↔ ((p : List Entry) → Admissible j m s start p → ⊥)
+    pub none-open : least-total j k s start ≡ none → k ≡ unlimited m
+    pub best-is : (v : ℕ) → least-total j k s start ≡ some v → BestOf j s a o (Admissible j m s start) (best-plan j k s start o)
+    pub best-open : (v : ℕ) → least-total j k s start ≡ some v → k ≡ kept-open a m (greatest-distortion j s (best-plan j k s start o))
+    pub its-distortion : (v : ℕ) → least-total j k s start ≡ some v → total-distortion j s (best-plan j k s start o) ≡ v
+
+-- with the choices k open
+module _ (j : Job) (k : Open) (s : ℕ) (start : Levels) where
+  -- a plan that is admissible with these pins, and no unit of which is above the limit, if there is one
+  pub record Permits (p : List Entry) : Type 0 where
+    pub admissible : Admissible j (k .pins) s start p
+    pub up-to : UpTo (k .limit) (greatest-distortion j s p)
+
+  -- the least total is none exactly where there is no such plan; else it is the distortion of `best-plan`, which is the best of them
   pub record PlanningClaim (o : Order) : Type 0 where
-    pub none-iff : (least-total j m s start ≡ none) ↔ ((p : List Entry) → Admissible j m s start p → ⊥)
-    pub best-is : (v : ℕ) → least-total j m s start ≡ some v → BestOf j s o (Admissible j m s start) (best-plan j m s start o)
-    pub its-distortion : (v : ℕ) → least-total j m s start ≡ some v → total-distortion j s (best-plan j m s start o) ≡ v
+    pub none-iff : (least-total j k s start ≡ none) ↔ ((p : List Entry) → Permits p → ⊥)
+    pub best-is : (v : ℕ) → least-total j k s start ≡ some v → BestOf j s total o Permits (best-plan j k s start o)
+    pub its-distortion : (v : ℕ) → least-total j k s start ≡ some v → total-distortion j s (best-plan j k s start o) ≡ v
 
 -- which unit an interval decodes, of a plan p for a whole job: interval u + d decodes unit u, units counted from 1
 pub record UnitsClaim (j : Job) (p : List Entry) : Type 0 where
@@ -85,13 +123,14 @@ pub record PinnedClaim (j : Job) (m : PinMap) (start : Levels) (p : List Entry) 
   pub pins : (u c : ℕ) → 1 ≤ u → u ≤ length (j .units) → getD m (u - 1) none ≡ some c → entryOf p (u + j .delay) .choice ≡ some c
 
 -- a plan is read off the table: its first entry is the first that offers the state's word v by way of the next layer, and the rest is the best plan from the levels which that entry reaches
-pub record ReadOffClaim (j : Job) (m : PinMap) (o : Order) (table : List ℕ) (t : ℕ) (s : Levels) (v : ℕ) : Type 0 where
+pub record ReadOffClaim (j : Job) (k : Open) (o : Order) (table : List ℕ) (t : ℕ) (s : Levels) (v : ℕ) : Type 0 where
   pub entry : Entry
   pub end : Levels
-  pub first : first-at (marked-offer (trellis-of j m o) _+_ mark bound t (wordAt j table (suc t)) s) v (entries o j (suc t)) ≡ some entry
-  pub reached : outcome j m (suc t) s entry ≡ reaches end
-  pub adds : (w : ℕ) × (least-total j m (suc t) end ≡ some w) × (distorts j (suc t) entry + w ≡ v)
-  pub rest : best-plan j m t s o ≡ entry ∷ best-plan j m (suc t) end o
+  pub first : first-at (marked-offer (trellis-of j k o) _+_ mark bound t (wordAt j table (suc t)) s) v (entries o j (suc t)) ≡ some entry
+  pub up-to : UpTo (k .limit) (distorts j (suc t) entry)
+  pub reached : outcome j (k .pins) (suc t) s entry ≡ reaches end
+  pub adds : (w : ℕ) × (least-total j k (suc t) end ≡ some w) × (distorts j (suc t) entry + w ≡ v)
+  pub rest : best-plan j k t s o ≡ entry ∷ best-plan j k (suc t) end o
 
 -- how many words the table has and where a state's word stands, with one bucket, as document 01 writes it
 pub record OneBucket (j : Job) (k : Bucket) : Type 0 where
@@ -145,20 +184,30 @@ EffectiveBuffers = (j : Job) (p : List Entry) (b i : ℕ) → PlanFits j 0 p →
 abbrev pub RunningBuffers : Type 0
 RunningBuffers = (j : Job) (p : List Entry) (i : ℕ) → RunningClaim j p i
 
--- demand 3, of the definitions
+-- demand 3, of the definitions: with any choices open
 abbrev pub Planning : Type 0
-Planning = (j : Job) (m : PinMap) (s : ℕ) (start : Levels) (o : Order) → s ≤ intervals j → PlanningClaim j m s start o
+Planning = (j : Job) (k : Open) (s : ℕ) (start : Levels) (o : Order) → s ≤ intervals j → PlanningClaim j k s start o
+
+-- E7, of the definitions
+abbrev pub Greatest : Type 0
+Greatest = (j : Job) (s : ℕ) (p : List Entry) → GreatestClaim j s p (greatest-distortion j s p)
+
+abbrev pub Evenness : Type 0
+Evenness = (j : Job) (m : PinMap) (s : ℕ) (start : Levels) → s ≤ intervals j → EvennessClaim j m s start
+
+abbrev pub Aims : Type 0
+Aims = (j : Job) (m : PinMap) (s : ℕ) (start : Levels) (a : Aim) (o : Order) → s ≤ intervals j → AimClaim j m s start a o (open-for a j m s start)
 
 -- "the" best plan: a set has at most one
 abbrev pub OneBest : (List Entry → Type 0) → Type 0
-OneBest Among = (j : Job) (s : ℕ) (o : Order) (p q : List Entry) → BestOf j s o Among p → BestOf j s o Among q → p ≡ q
+OneBest Among = (j : Job) (s : ℕ) (a : Aim) (o : Order) (p q : List Entry) → BestOf j s a o Among p → BestOf j s a o Among q → p ≡ q
 
 -- a table that follows the rule of a layer holds the least distortion of every state
 abbrev pub TableLaw : Type 0
-TableLaw = (j : Job) (m : PinMap) (table : List ℕ) → Bounded j → FollowsRule j m table → IsTable j m 0 table
+TableLaw = (j : Job) (k : Open) (table : List ℕ) → Bounded j → FollowsRule j k table → IsTable j k 0 table
 
 abbrev pub ReadOff : Type 0
-ReadOff = (j : Job) (m : PinMap) (o : Order) (table : List ℕ) (t : ℕ) (s : Levels) (v : ℕ) → Bounded j → IsTable j m t table → t < intervals j → InLayer (j .line) s → least-total j m t s ≡ some v → ReadOffClaim j m o table t s v
+ReadOff = (j : Job) (k : Open) (o : Order) (table : List ℕ) (t : ℕ) (s : Levels) (v : ℕ) → Bounded j → IsTable j k t table → t < intervals j → InLayer (j .line) s → least-total j k t s ≡ some v → ReadOffClaim j k o table t s v
 
 abbrev pub WordsOfOne : Type 0
 WordsOfOne = (j : Job) (k : Bucket) → j .line .buckets ≡ k ∷ [] → OneBucket j k

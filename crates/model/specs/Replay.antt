@@ -4,7 +4,7 @@ use mathlib.Core.List.{List, [], _∷_}
 use lib.ListN.{length}
 use Rattle.model.specs.Job.{Levels, Job, Entry}
 use Rattle.model.specs.Levels.{sent, taken, distorted, unusedTotals}
-use Rattle.base.specs.Lists.{sum}
+use Rattle.base.specs.Lists.{sum, greatest}
 use Rattle.model.specs.Pins.{PinMap}
 use Rattle.model.specs.Admissible.{Violation}
 use Rattle.model.specs.Step.{Outcome, violates, reaches, outcome}
@@ -19,6 +19,10 @@ pub record Totals : Type 0 where
 -- the total distortion of a plan for the intervals after s
 unfoldable pub total-distortion : Job → ℕ → List Entry → ℕ
 total-distortion j s p = sum (distorted j s p) (length p)
+
+-- the greatest distortion of a unit in it (document 02, E7); an interval without a unit has 0
+unfoldable pub greatest-distortion : Job → ℕ → List Entry → ℕ
+greatest-distortion j s p = greatest (distorted j s p) (length p)
 
 -- its totals, from the levels `start` after interval s
 unfoldable pub totals : Job → ℕ → Levels → List Entry → Totals

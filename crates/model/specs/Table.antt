@@ -5,9 +5,8 @@ use mathlib.Core.List.{List, [], _∷_, map}
 use lib.ListN.{length, getD, take, drop}
 use Rattle.trellis.specs.Table.{encode, marked-stage}
 use Rattle.model.specs.Job.{Line, Levels, Job, intervals, codingAt}
-use Rattle.model.specs.Pins.{PinMap}
 use Rattle.model.specs.Admissible.{AllWithin}
-use Rattle.model.specs.Best.{late, trellis-of, least-total}
+use Rattle.model.specs.Best.{Open, late, trellis-of, least-total}
 
 -- the word for "cannot be completed", and the largest word that is read as a distortion (document 02, E9)
 abbrev pub mark : ℕ
@@ -61,10 +60,10 @@ words j = (intervals j + 1) * layerWords (j .line)
 unfoldable pub wordAt : Job → List ℕ → ℕ → Levels → ℕ
 wordAt j table t s = getD table (t * layerWords (j .line) + place (tops (j .line)) (flat s)) 0
 
--- the list begins with the table of the job with these pins, whose layers before `first` may hold other words: each word is the least distortion that the intervals after t can add from its state
-pub record IsTable (j : Job) (m : PinMap) (first : ℕ) (table : List ℕ) : Type 0 where
+-- the list begins with the table of the job with these choices open, whose layers before `first` may hold other words: each word is the least distortion that the intervals after t can add from its state
+pub record IsTable (j : Job) (k : Open) (first : ℕ) (table : List ℕ) : Type 0 where
   pub enough : words j ≤ length table
-  pub holds : (t : ℕ) (s : Levels) → first ≤ t → t ≤ intervals j → InLayer (j .line) s → wordAt j table t s ≡ encode 4294967295 (least-total j m t s)
+  pub holds : (t : ℕ) (s : Levels) → first ≤ t → t ≤ intervals j → InLayer (j .line) s → wordAt j table t s ≡ encode 4294967295 (least-total j k t s)
 
 -- the words of a layer, and the word of a state among them
 unfoldable pub layerOf : Line → List ℕ → ℕ → List ℕ
@@ -74,10 +73,10 @@ unfoldable pub wordIn : Line → List ℕ → Levels → ℕ
 wordIn line layer s = getD layer (place (tops line) (flat s)) 0
 
 -- the last layer's words are 0; those of each earlier layer follow from the next layer, a word above the bound being read as "cannot be completed"
-pub record FollowsRule (j : Job) (m : PinMap) (table : List ℕ) : Type 0 where
+pub record FollowsRule (j : Job) (k : Open) (table : List ℕ) : Type 0 where
   pub enough : words j ≤ length table
   pub last : (i : ℕ) → i < layerWords (j .line) → getD (layerOf (j .line) table (intervals j)) i 0 ≡ 0
-  pub rule : (t i : ℕ) → t < intervals j → i < layerWords (j .line) → getD (layerOf (j .line) table t) i 0 ≡ marked-stage (trellis-of j m late) _+_ mark bound t (wordIn (j .line) (layerOf (j .line) table (suc t))) (stateAt (j .line) i)
+  pub rule : (t i : ℕ) → t < intervals j → i < layerWords (j .line) → getD (layerOf (j .line) table t) i 0 ≡ marked-stage (trellis-of j k late) _+_ mark bound t (wordIn (j .line) (layerOf (j .line) table (suc t))) (stateAt (j .line) i)
 
 -- document 01's limits on what is summed: at most 512 units, and each distortion at most 1,000,000
 pub record Bounded (j : Job) : Type 0 where

@@ -8,7 +8,7 @@ use native.Mathlib.Omega.{arith}
 use lib.ListN.{length, getD, drop, List·getD-eq-default}
 use Rattle.model.specs.Job.{Job, Entry, intervals, sends}
 use Rattle.model.specs.Levels.{no-entry, entryOf, sent, sentAfter, effectiveBuffer, effectiveBuffers}
-use Rattle.base.specs.Lists.{sum, build}
+use Rattle.base.specs.Lists.{sum, build, gathered}
 use Rattle.base.proofs.Builds.{build-length}
 use Rattle.model.proofs.Buffers.{running-buffers}
 use Rattle.format.specs.JobBytes.{Header, job-in}
@@ -43,13 +43,13 @@ module _ (j : Job) (limits : InLimits j) (p : List Entry) where
   sent-most n = sends-most (entryOf p n)
 
   pub window-most : (i n : ℕ) → sentAfter j p i n ≤ n * 4095
-  unfolding sum sentAfter
+  unfolding gathered sentAfter
   window-most i zero = omega arith
   window-most i (suc n) = omega (arith, window-most i n, sent-most (i + suc n))
 
 -- one rate more
 pub window-more : (j : Job) (p : List Entry) (n : ℕ) → sentAfter j p 0 n + sent j p (n + 1) ≡ sentAfter j p 0 (n + 1)
-unfolding sum sentAfter
+unfolding gathered sentAfter
 window-more j p n = let z : 0 + suc n ≡ suc n = omega arith in rw (add-one n, z)
 
 -- a sum and any rate are small

@@ -6,6 +6,7 @@ pub mod Scans
 pub mod Tables
 pub mod Congruence
 pub mod Bounds
+pub mod Limit
 pub mod Simulation
 pub mod Sorted
 pub mod Pairs

@@ -1,12 +1,12 @@
 -- The value function is the least total of a walk, and `best` is a walk that has it.
-use Prim.Native.Nat.{ℕ, zero, suc, _+_, _≤_}
+use Prim.Native.Nat.{ℕ, zero, suc, _+_, _≤_, max}
 use mathlib.Core.Path.{_≡_, refl, sym, _∙_, ap}
 use mathlib.Core.Logic.{_↔_}
 use mathlib.Core.Option.{Option, none, some, Option·some-injective, Option·none-ne-some}
 use mathlib.Core.List.{List, _∷_}
 use native.Mathlib.Omega.{arith}
 use Rattle.trellis.specs.Minimum.{AtMost, at-most, first, Sorted}
-use Rattle.trellis.specs.Trellis.{Trellis, Monotone, Cancels, Walk, stop, move, raise, via, chosen, lead, after, total, offer, stage, least, best, Optimal}
+use Rattle.trellis.specs.Trellis.{Trellis, Monotone, Combines, Cancels, Walk, stop, move, raise, via, chosen, lead, after, total, offer, stage, least, best, Optimal}
 use Rattle.trellis.proofs.Minimum.{at-most-value, at-most-le, minimum-le, minimum-member, First, first-of, sorted-anyhow}
 
 pub sum-monotone : Monotone _+_
@@ -14,6 +14,24 @@ sum-monotone c a b h = omega arith
 
 pub sum-cancels : Cancels _+_
 sum-cancels c a b h = omega arith
+
+pub sum-combines : Combines _+_
+sum-combines = record {
+  monotone = sum-monotone;
+  at-most-sum = λ a b. omega arith;
+  left-zero = λ a. omega arith;
+  right-zero = λ a. omega arith;
+  associates = λ a b c. omega arith;
+}
+
+pub greatest-combines : Combines max
+greatest-combines = record {
+  monotone = λ c a b h. omega arith;
+  at-most-sum = λ a b. omega arith;
+  left-zero = λ a. omega arith;
+  right-zero = λ a. omega arith;
+  associates = λ a b c. omega arith;
+}
 
 module _ (_⊕_ : ℕ → ℕ → ℕ) where
   infixl 65 _⊕_

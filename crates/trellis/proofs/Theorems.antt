@@ -1,9 +1,10 @@
 -- The claims of specs/Claims, each by its law.
-use Rattle.trellis.specs.Claims.{Value, Ties, TableLaw, Simulation}
+use Rattle.trellis.specs.Claims.{Value, Ties, TableLaw, Simulation, Limits}
 use Rattle.trellis.proofs.Optimality.{none-iff, best-optimal, optimal-value}
 use Rattle.trellis.proofs.TieOrder.{best-foremost, foremost-best}
 use Rattle.trellis.proofs.Tables.{marked-least}
 use Rattle.trellis.proofs.Simulation.{walk-follows, least-follows}
+use Rattle.trellis.proofs.Limit.{limited-walk, walk-limited}
 
 pub value : Value
 value S A τ _⊕_ mono n t s = record {
@@ -26,3 +27,6 @@ simulation S S₂ A τ σ R sim n t s s₂ r = record {
   walks = λ p w. walk-follows sim r w;
   value = λ _⊕_ mono v e. least-follows sim _⊕_ mono n t s s₂ v r e;
 }
+
+pub limits : Limits
+limits S A τ θ n t s p = (λ w. limited-walk θ τ w, λ w. walk-limited θ τ (w .0) (w .1))

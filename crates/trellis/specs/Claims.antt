@@ -1,11 +1,12 @@
 -- What is claimed of every trellis: each claim is a type, which a theorem of proofs/Theorems inhabits.
-use Prim.Native.Nat.{ℕ, _+_}
+use Prim.Native.Nat.{ℕ, _+_, max}
 use mathlib.Core.Path.{_≡_}
 use mathlib.Core.Logic.{_↔_}
-use mathlib.Core.Option.{none, some}
+use mathlib.Core.Option.{Option, none, some}
 use mathlib.Core.List.{List}
 use Rattle.trellis.specs.Minimum.{AtMost, Sorted}
-use Rattle.trellis.specs.Trellis.{Trellis, Monotone, Cancels, Walk, least, best, Optimal, Foremost, Simulates}
+use Rattle.trellis.specs.Trellis.{Trellis, Monotone, Cancels, Walk, total, least, best, Optimal, Foremost, Simulates}
+use Rattle.trellis.specs.Limit.{UpTo, limited}
 use Rattle.trellis.specs.Table.{Closed, encode, Marked, Small}
 
 -- a relation under which no two moves are each before the other, and none is before itself
@@ -45,3 +46,7 @@ pub record SimulationClaim {S S₂ A : Type 0} (τ : Trellis S A) (σ : Trellis 
 
 abbrev pub Simulation : Type 1
 Simulation = (S S₂ A : Type 0) (τ : Trellis S A) (σ : Trellis S₂ A) (R : ℕ → S → S₂ → Type 0) → Simulates τ σ R → (n t : ℕ) (s : S) (s₂ : S₂) → R t s s₂ → SimulationClaim τ σ n t s s₂
+
+-- the walks under a limit are the walks whose greatest cost is at most the limit
+abbrev pub Limits : Type 1
+Limits = (S A : Type 0) (τ : Trellis S A) (θ : Option ℕ) (n t : ℕ) (s : S) (p : List A) → Walk (limited θ τ) n t s p ↔ (Walk τ n t s p × UpTo θ (total τ max t p))

@@ -1,5 +1,5 @@
 -- A trellis: stages, a state at each, and moves from a stage to the next. Interval t + 1 lies between stage t and stage t + 1.
-use Prim.Native.Nat.{ℕ, zero, suc, _≤_}
+use Prim.Native.Nat.{ℕ, zero, suc, _+_, _≤_}
 use mathlib.Core.Path.{_≡_}
 use mathlib.Core.Option.{Option, none, some}
 use mathlib.Core.List.{List, [], _∷_, List·Memᴰ}
@@ -15,6 +15,14 @@ pub record Trellis (S A : Type 0) : Type 0 where
 -- a way to combine costs that keeps the order of what comes after
 abbrev pub Monotone : (ℕ → ℕ → ℕ) → Type 0
 Monotone _⊕_ = (c a b : ℕ) → a ≤ b → _⊕_ c a ≤ _⊕_ c b
+
+-- a way to combine the costs of a walk, as by their sum or by the greatest of them: what comes after keeps its order, and it comes to no more than the sum; 0 changes nothing, and it is one from which end they are combined
+pub record Combines (_⊕_ : ℕ → ℕ → ℕ) : Type 0 where
+  pub monotone : Monotone _⊕_
+  pub at-most-sum : (a b : ℕ) → _⊕_ a b ≤ a + b
+  pub left-zero : (a : ℕ) → _⊕_ 0 a ≡ a
+  pub right-zero : (a : ℕ) → _⊕_ a 0 ≡ a
+  pub associates : (a b c : ℕ) → _⊕_ (_⊕_ a b) c ≡ _⊕_ a (_⊕_ b c)
 
 -- one that shows it as well
 abbrev pub Cancels : (ℕ → ℕ → ℕ) → Type 0

@@ -5,7 +5,7 @@ use Rattle.replaying.specs.Entries.{plan-of}
 use Rattle.header.specs.Answers.{plain}
 use Rattle.format.specs.JobBytes.{job-in}
 use Rattle.model.specs.Levels.{sentAfter, effectiveBuffer}
-use Rattle.base.specs.Lists.{sum}
+use Rattle.base.specs.Lists.{sum, gathered}
 use mathlib.Core.Path.{_≡_, sym, ap, _∙_}
 use Prim.Native.Nat.{_≤_, _+_, _-_}
 use native.Mathlib.Omega.{arith}
@@ -23,7 +23,7 @@ cast-delay : tie.Need-cast-delay Inv-loop μ-loop
 cast-delay c = search needs
 
 loop-holds : tie.Need-loop-holds Inv-loop μ-loop
-unfolding sum sentAfter
+unfolding gathered sentAfter
 loop-holds c = search needs
 
 sent-at-requires : tie.Need-sent-at-requires Inv-loop μ-loop
