@@ -30,3 +30,11 @@ unfoldable pub bytes-a8 : ℕ → ℕ → ℕ → List ℕ
 bytes-a8 size drain fill =
     26 ∷ 0 ∷ 8 ∷ 0 ∷ 2 ∷ 0 ∷ 1 ∷ 0 ∷ 4 ∷ 0 ∷ 3 ∷ 0 ∷ 2 ∷ 0 ∷ 0 ∷ 0 ∷ 0 ∷ 0 ∷ 3 ∷ 0 ∷ 2 ∷ 0 ∷ size ∷ 0 ∷ drain ∷ 0 ∷ fill ∷ 0
     ∷ drop 22 bytes-a
+
+-- Job E, for even pictures (document 02, E7): Job A with K 1 and unit 2 of 4 or 2 grains, whose distortions are given. A bucket of 1 takes no more than 2 grains an interval, so that 6 arrive in all: one unit has its 4 grains, and the other 2
+unfoldable pub bytes-e : ℕ → ℕ → List ℕ
+bytes-e fine coarse =
+    20 ∷ 0 ∷ 1 ∷ 0 ∷ 2 ∷ 0 ∷ 1 ∷ 0 ∷ 4 ∷ 0 ∷ 1 ∷ 0 ∷ 2 ∷ 0 ∷ 0 ∷ 0 ∷ 0 ∷ 0 ∷ 3 ∷ 0 ∷ 2 ∷ 0
+    ∷ 8 ∷ 0 ∷ 2 ∷ 0 ∷ 0 ∷ 0 ∷ 2 ∷ 0 ∷ 4 ∷ 0
+    ∷ 14 ∷ 0 ∷ 3 ∷ 0 ∷ 4 ∷ 0 ∷ 10 ∷ 0 ∷ 0 ∷ 0 ∷ 2 ∷ 0 ∷ 30 ∷ 0 ∷ 0 ∷ 0
+    ∷ 14 ∷ 0 ∷ 3 ∷ 0 ∷ 4 ∷ 0 ∷ fine ∷ 0 ∷ 0 ∷ 0 ∷ 2 ∷ 0 ∷ coarse ∷ 0 ∷ 0 ∷ 0 ∷ []

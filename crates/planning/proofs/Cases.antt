@@ -7,7 +7,7 @@ use Rattle.model.specs.Evaluate.{evaluate}
 use Rattle.base.specs.Evaluate as base
 use Rattle.format.specs.Choices.{choice-under, choice-number}
 use Rattle.format.specs.JobBytes.{computes, same-header}
-use Rattle.format.specs.JobA.{bytes-a, bytes-a8}
+use Rattle.format.specs.JobA.{bytes-a, bytes-a8, bytes-e}
 use Rattle.format.specs.Parser.{on-read}
 use Rattle.pinning.specs.PinSet.{lines, unpinned, fresh}
 use Rattle.pinning.specs.Check.{pin-fits, pins-fit, same-totals, fits, accept, checked}
@@ -20,7 +20,7 @@ use Rattle.planning.specs.Calls as c
 use Rattle.planning.specs.Cases.{Question, Reply, reply, questions, replies, Cases}
 
 pub cases : Cases
-unfolding base.evaluate evaluate computes on-read choice-under choice-number same-header bytes-a bytes-a8 lines unpinned fresh pin-fits pins-fit same-totals fits accept checked opened open-call refuse take-in with-pin without-pin call-tests called call-in call after run one-entry entry-bytes delayed set-after encode layer layers table-from c.refuse c.searched c.search-in c.plan-tests c.plan-in c.plan-call reply questions replies
+unfolding base.evaluate evaluate computes on-read choice-under choice-number same-header bytes-a bytes-a8 bytes-e lines unpinned fresh pin-fits pins-fit same-totals fits accept checked opened open-call refuse take-in with-pin without-pin call-tests called call-in call after run one-entry entry-bytes delayed set-after encode layer layers table-from c.refuse c.searched c.search-in c.plan-tests c.plan-in c.plan-call reply questions replies
 cases = refl
 
 -- each case of the table, by its place

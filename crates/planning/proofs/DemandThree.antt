@@ -1,5 +1,5 @@
 -- Every list of calls with the planning after it: `DemandThree`.
-use Prim.Native.Nat.{ℕ, _-_, _*_, _≤_}
+use Prim.Native.Nat.{ℕ, _+_, _-_, _*_, _≤_}
 use mathlib.Core.Path.{_≡_, refl, _∙_}
 use mathlib.Core.Option.{Option, none, some}
 use mathlib.Core.List.{List, [], _∷_}
@@ -13,12 +13,13 @@ use Rattle.base.proofs.Refusals.{guarded-past, guarded-last}
 use Rattle.format.specs.Parser.{on-read}
 use Rattle.model.specs.Job.{Levels, Job, Entry, intervals}
 use Rattle.model.specs.Pins.{PinMap}
-use Rattle.model.specs.Best.{Order, late, least-total, best-plan}
-use Rattle.model.specs.Table.{words}
-use Rattle.model.specs.Claims.{PlanningClaim}
+use Rattle.model.specs.Best.{Order, Open, unlimited, least-total, best-plan, Aim, open-for}
+use Rattle.model.specs.Replay.{greatest-distortion}
+use Rattle.model.specs.Table.{words, IsTable}
+use Rattle.model.specs.Claims.{AimClaim, kept-open}
 use Rattle.base.proofs.Answers.{not-refused}
 use Rattle.model.proofs.Walks.{fits-length}
-use Rattle.model.proofs.Planning.{planning}
+use Rattle.model.proofs.Evenness.{aims}
 use Rattle.format.proofs.Bounds.{limited}
 use Rattle.format.proofs.Places.{well-read}
 use Rattle.pinning.proofs.History.{history}
@@ -31,21 +32,24 @@ use Rattle.planning.specs.Calls.{refuse, searched, search-in, plan-tests
 use Rattle.planning.specs.Claims.{BestWritten, PlanClaim, DemandThree}
 use Rattle.planning.proofs.Layers.{from-before, from-rest, from-length, from-table}
 
-module _ (j : Job) (m : PinMap) (o : Order) (s : ℕ) (start : Levels) (few : j .choices ≤ no-choice) (rates : length (j .line .rates) ≤ 256) (h : s ≤ intervals j) (table entries : List ℕ) (room : words j ≤ length table) (space : entry-size * (intervals j - s) ≤ length entries) where
+module _ (j : Job) (m : PinMap) (a : Aim) (o : Order) (s : ℕ) (start : Levels) (few : j .choices ≤ no-choice) (rates : length (j .line .rates) ≤ 256) (h : s ≤ intervals j) (table entries : List ℕ) (room : words j ≤ length table) (space : entry-size * (intervals j - s) ≤ length entries) where
+  abbrev k : Open
+  k = open-for a j m s start
+
   abbrev plan : List Entry
-  plan = best-plan j m s start o
+  plan = best-plan j k s start o
 
-  claim : PlanningClaim j m s start o
-  claim = planning j m s start o h
+  claim : AimClaim j m s start a o k
+  claim = aims j m s start a o h
 
-  module _ (v : ℕ) (e : least-total j m s start ≡ some v) where
+  module _ (v : ℕ) (e : least-total j k s start ≡ some v) where
     count : length plan ≡ intervals j - s
     count = omega (arith, fits-length (claim .best-is v e .among .shaped))
 
     size : length (entry-bytes plan) ≡ entry-size * (intervals j - s)
     size = bytes-size plan ∙ omega (arith, count)
 
-    written : BestWritten j m o s start table entries (searched j m o s start (some v) table entries)
+    written : BestWritten j m a o s start table entries (searched j k o s start (some v) table entries)
     unfolding searched
     written = record {
       plan = plan;
@@ -55,39 +59,40 @@ module _ (j : Job) (m : PinMap) (o : Order) (s : ℕ) (start : Levels) (few : j 
       totals-are = refl;
       rest = over-rest (entry-bytes plan) entries (omega (arith, size)) (entry-size * (intervals j - s)) size;
       size = over-length (entry-bytes plan) entries (omega (arith, size));
+      table-is = rw (← claim .best-open v e) (from-table j k s table h room);
     }
 
-  searched-claim : (r : Option ℕ) → least-total j m s start ≡ r → PlanClaim j m o s start table entries (searched j m o s start r table entries)
+  searched-claim : (r : Option ℕ) → least-total j k s start ≡ r → PlanClaim j m a o s start table entries (searched j k o s start r table entries)
   unfolding searched
   searched-claim none e = record {
     none-iff = (λ q. claim .none-iff .0 e, λ f. refl);
     none-kept = λ q. refl;
+    none-table = λ q. rw (← claim .none-open e) (from-table j k s table h room);
     else-best = λ f. absurd (f refl);
-    table-is = from-table j m s table h room;
-    table-before = from-before j m s table h room;
-    table-rest = from-rest j m s table h room;
-    table-size = from-length j m s table h room;
+    table-before = from-before _+_ j k s table h room;
+    table-rest = from-rest _+_ j k s table h room;
+    table-size = from-length _+_ j k s table h room;
   }
   searched-claim (some v) e = record {
     none-iff = (λ q. absurd (not-refused q), λ f. absurd (f plan (claim .best-is v e .among)));
     none-kept = λ q. absurd (not-refused q);
+    none-table = λ q. absurd (not-refused q);
     else-best = λ f. written v e;
-    table-is = from-table j m s table h room;
-    table-before = from-before j m s table h room;
-    table-rest = from-rest j m s table h room;
-    table-size = from-length j m s table h room;
+    table-before = from-before _+_ j k s table h room;
+    table-rest = from-rest _+_ j k s table h room;
+    table-size = from-length _+_ j k s table h room;
   }
 
-  pub search-claim : PlanClaim j m o s start table entries (search-in j m o s start table entries)
+  pub search-claim : PlanClaim j m a o s start table entries (search-in j m a o s start table entries)
   unfolding search-in
-  search-claim = searched-claim (least-total j m s start) refl
+  search-claim = searched-claim (least-total j k s start) refl
 
   -- where neither list is too short
-  pub plan-claim : PlanClaim j m o s start table entries (plan-in j m o s start table entries)
+  pub plan-claim : PlanClaim j m a o s start table entries (plan-in j m a o s start table entries)
   unfolding plan-in plan-tests
   plan-claim =
-      rw (guarded-past (refuse table entries) (test 11 (leb (words j) (length table))) (test 12 (leb (entry-size * (intervals j - s)) (length entries)) ∷ []) (search-in j m o s start table entries) (le-leb (words j) (length table) room)
-      ∙ guarded-last (refuse table entries) (test 12 (leb (entry-size * (intervals j - s)) (length entries))) (search-in j m o s start table entries) (le-leb (entry-size * (intervals j - s)) (length entries) space))
+      rw (guarded-past (refuse table entries) (test 11 (leb (words j) (length table))) (test 12 (leb (entry-size * (intervals j - s)) (length entries)) ∷ []) (search-in j m a o s start table entries) (le-leb (words j) (length table) room)
+      ∙ guarded-last (refuse table entries) (test 12 (leb (entry-size * (intervals j - s)) (length entries))) (search-in j m a o s start table entries) (le-leb (entry-size * (intervals j - s)) (length entries) space))
       search-claim
 
 pub demand-three : DemandThree
@@ -97,6 +102,6 @@ demand-three b j n parsed calls =
     let k = limited j (well-read b j n parsed) in
     record {
       history = h;
-      planning = λ table entries room space.
-          rw (h .passes, h .pins) (plan-claim j _ late 0 (j .start) (omega (arith, k .choices)) (omega (arith, k .rates)) (omega arith) table entries room (omega (arith, space)));
+      planning = λ a o table entries room space.
+          rw (h .passes, h .pins) (plan-claim j _ a o 0 (j .start) (omega (arith, k .choices)) (omega (arith, k .rates)) (omega arith) table entries room (omega (arith, space)));
     }

@@ -6,15 +6,16 @@ use mathlib.Core.Option.{Option, none, some, Option·map, Option·none-ne-some}
 use mathlib.Core.List.{List}
 use lib.Dec.{leb}
 use lib.ListN.{length, getD}
+use Rattle.trellis.specs.Limit.{keeps-to, only, limited}
 use Rattle.trellis.specs.Pairs.{Pair}
 use Rattle.trellis.specs.Table.{first-at, offered, marked-offer, marked-stage}
 use Rattle.trellis.proofs.Congruence.{lowest-cong, lowest-map, first-at-cong, first-at-map, offered-cong}
 use Rattle.base.specs.If.{if_then_else_}
 use Rattle.model.specs.Job.{Line, Coding, Levels, Job, coding, sends, takes, distorts}
-use Rattle.model.specs.Pins.{PinMap, pinAt}
+use Rattle.model.specs.Pins.{pinAt}
 use Rattle.model.specs.Step.{decoder-step, after-sending, overfull, pin-held, or-overflow, after-decoder, outcome-of, outcome, reaches, violates}
 use Rattle.model.specs.Admissible.{pin-not-held, Decoded, breaks, holds}
-use Rattle.model.specs.Best.{Order, late, pairs, entry, width, entries, reached, trellis-of}
+use Rattle.model.specs.Best.{Order, late, pairs, entry, width, entries, reached, all-walks, Open, trellis-of}
 use Rattle.model.specs.Table.{mark, bound, InLayer, layerWords, stateAt, wordIn}
 use Rattle.model.proofs.Entries.{pairs-member}
 use Rattle.base.proofs.Builds.{build-cong}
@@ -36,25 +37,27 @@ reached-pinned line pinned choice b ls c r = go (decoder-step (line .decoder) b 
     go (holds x) (some i) true = refl
     go (holds x) (some i) false = refl
 
-module _ (_⊕_ : ℕ → ℕ → ℕ) (j : Job) (m : PinMap) (t : ℕ) (W : Levels → ℕ) (s : Levels) where
+module _ (_⊕_ : ℕ → ℕ → ℕ) (j : Job) (m : Open) (t : ℕ) (W : Levels → ℕ) (s : Levels) where
   -- of each pair
   offer-is : (o : Order) (a : Pair) → marked-offer (trellis-of j m o) _⊕_ mark bound t W s (entry j (suc t) a) ≡ pair-offer _⊕_ (j .line) (allowed-in j m (suc t)) W s a
-  unfolding marked-offer trellis-of outcome pair-offer allowed-in choice-in entry sends takes distorts
+  unfolding marked-offer trellis-of all-walks limited outcome pair-offer allowed-in choice-in entry sends takes distorts
   offer-is o a =
       let x = (if leb′ then none else some (a .inner)) in
-      ap (λ (u : Option Levels). offered mark bound _⊕_ (coding j (suc t) x .distortion) u W) (reached-pinned (j .line) (pinAt j m (suc t)) x (s .decoder) (s .buckets) (getD (j .line .rates) (a .outer) 0) (coding j (suc t) x .size))
-      ∙ go x (pin-held (pinAt j m (suc t)) x)
+      ap (λ (u : Option Levels). offered mark bound _⊕_ (coding j (suc t) x .distortion) (only (keeps-to (m .limit) (coding j (suc t) x .distortion)) u) W) (reached-pinned (j .line) (pinAt j (m .pins) (suc t)) x (s .decoder) (s .buckets) (getD (j .line .rates) (a .outer) 0) (coding j (suc t) x .size))
+      ∙ go x (pin-held (pinAt j (m .pins) (suc t)) x) (keeps-to (m .limit) (coding j (suc t) x .distortion))
     where
       leb′ : Bool
       leb′ = leb (suc t) (j .delay)
 
-      go : (x : Option ℕ) (p : Bool) → offered mark bound _⊕_ (coding j (suc t) x .distortion) (if p then reached (outcome-of (j .line) none none (s .decoder) (s .buckets) (getD (j .line .rates) (a .outer) 0) (coding j (suc t) x .size)) else none) W ≡ coding-offer _⊕_ (j .line) W s (getD (j .line .rates) (a .outer) 0) (if p then some (coding j (suc t) x) else none)
-      go x true = unfold if_then_else_ coding-offer in refl
-      go x false = unfold if_then_else_ coding-offer offered in refl
+      go : (x : Option ℕ) (p l : Bool) → offered mark bound _⊕_ (coding j (suc t) x .distortion) (only l (if p then reached (outcome-of (j .line) none none (s .decoder) (s .buckets) (getD (j .line .rates) (a .outer) 0) (coding j (suc t) x .size)) else none)) W ≡ coding-offer _⊕_ (j .line) W s (getD (j .line .rates) (a .outer) 0) (if p then only l (some (coding j (suc t) x)) else none)
+      go x true true = unfold if_then_else_ only coding-offer in refl
+      go x true false = unfold if_then_else_ only coding-offer offered in refl
+      go x false true = unfold if_then_else_ only coding-offer offered in refl
+      go x false false = unfold if_then_else_ only coding-offer offered in refl
 
   -- the least, and the first that offers a number
   pub stage-is : marked-stage (trellis-of j m late) _⊕_ mark bound t W s ≡ least-offer _⊕_ (j .line) (width j (suc t)) (allowed-in j m (suc t)) W s
-  unfolding marked-stage trellis-of entries least-offer
+  unfolding marked-stage trellis-of all-walks limited entries least-offer
   stage-is =
       let ps = pairs late (length (j .line .rates)) (width j (suc t)) in
       lowest-map (entry j (suc t)) mark (marked-offer (trellis-of j m late) _⊕_ mark bound t W s) ps

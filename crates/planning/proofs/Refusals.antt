@@ -1,4 +1,4 @@
--- Planning is refused in document 01's order, and else gives 13 or a best plan: `PlanCalls`; and what a refusal leaves: `Keeps`.
+-- Planning is refused in document 01's order, and else gives 13 or a best plan: `PlanCalls`; what a refusal leaves: `Keeps`; and 13 is given alike by either aim: `NoPlanAlike`.
 use Prim.Native.Nat.{ℕ, _-_, _*_, _≤_}
 use mathlib.Core.Path.{_≡_, refl, sym}
 use mathlib.Core.Logic.{_↔_}
@@ -9,15 +9,17 @@ use native.Mathlib.Omega.{arith}
 use lib.Dec.{leb}
 use lib.ListN.{length}
 use borrow.Author.Tests.{leb-true, le-leb}
-use Rattle.base.specs.Refusals.{Test, guarded, condition}
+use Rattle.base.specs.Answer as base
+use Rattle.base.specs.Refusals.{Test, refusal, unless, guarded, condition}
 use Rattle.base.proofs.Answers.{refused-same, not-refused}
-use Rattle.base.proofs.Refusals.{no-more, one-more, Guarded, was-refused, was-done, guarded-is}
+use Rattle.base.proofs.Refusals.{not-none, no-more, one-more, Guarded, was-refused, was-done, guarded-is}
 use Rattle.model.specs.Job.{Levels, Job, intervals}
 use Rattle.model.specs.Pins.{PinMap}
-use Rattle.model.specs.Best.{Order, late, least-total}
+use Rattle.model.specs.Best.{Order, Open, least-total, Aim, total, even, open-for}
 use Rattle.model.specs.Table.{words}
 use Rattle.format.specs.Parser.{Result, refused, took, on-read}
 use Rattle.format.specs.JobBytes.{parse}
+use Rattle.model.proofs.Evenness.{aims}
 use Rattle.format.proofs.Bounds.{limited}
 use Rattle.format.proofs.Places.{well-read}
 use Rattle.pinning.specs.PinSet.{PinSet, lines}
@@ -25,16 +27,16 @@ use Rattle.pinning.specs.Check.{checked}
 use Rattle.pinning.proofs.Agree.{looks-checked}
 use Rattle.replaying.specs.Entries.{entry-size}
 use Rattle.planning.specs.Calls.{Planned, refuse, searched, search-in, plan-tests, plan-in, plan-call}
-use Rattle.planning.specs.Claims.{PlanClaim, Keeping, PlanCalls, Keeps}
+use Rattle.planning.specs.Claims.{PlanClaim, Keeping, PlanCalls, Keeps, NoPlanAlike}
 use Rattle.planning.proofs.DemandThree.{search-claim}
 
 pub plan-calls : PlanCalls
 unfolding plan-call plan-in plan-tests
-plan-calls b s table entries =
-    looks-checked (refuse table entries) b s (λ j. plan-tests j 0 (length table) (length entries)) (λ j. condition 11 (words j ≤ length table) ∷ condition 12 (entry-size * intervals j ≤ length entries) ∷ []) (λ j. search-in j (lines (length (j .units)) (s .pins)) late 0 (j .start) table entries) (λ j r. PlanClaim j (lines (length (j .units)) (s .pins)) late 0 (j .start) table entries r)
+plan-calls b s a o table entries =
+    looks-checked (refuse table entries) b s (λ j. plan-tests j 0 (length table) (length entries)) (λ j. condition 11 (words j ≤ length table) ∷ condition 12 (entry-size * intervals j ≤ length entries) ∷ []) (λ j. search-in j (lines (length (j .units)) (s .pins)) a o 0 (j .start) table entries) (λ j r. PlanClaim j (lines (length (j .units)) (s .pins)) a o 0 (j .start) table entries r)
     (λ j k e m. (
       one-more refl (leb-true (words j) (length table), le-leb (words j) (length table)) (one-more refl (entries-decide j) no-more),
-      λ h. search-claim j (lines (length (j .units)) (s .pins)) late 0 (j .start) (omega (arith, limited j (well-read b j k e) .choices)) (omega (arith, limited j (well-read b j k e) .rates)) (omega arith) table entries (h .0) (omega (arith, h .1)),
+      λ h. search-claim j (lines (length (j .units)) (s .pins)) a o 0 (j .start) (omega (arith, limited j (well-read b j k e) .choices)) (omega (arith, limited j (well-read b j k e) .rates)) (omega arith) table entries (h .0) (omega (arith, h .1)),
     ))
   where
     entries-decide : (j : Job) → (leb (entry-size * (intervals j - 0)) (length entries) ≡ true) ↔ (entry-size * intervals j ≤ length entries)
@@ -45,10 +47,10 @@ module _ (table entries : List ℕ) where
   unfolding refuse
   refuse-keeps n = record { entries-kept = λ k e. refl; table-kept = λ k e f. refl }
 
-  searched-keeps : (j : Job) (m : PinMap) (o : Order) (s : ℕ) (start : Levels) (v : Option ℕ) → Keeping table entries (searched j m o s start v table entries)
+  searched-keeps : (j : Job) (k : Open) (o : Order) (s : ℕ) (start : Levels) (v : Option ℕ) → Keeping table entries (searched j k o s start v table entries)
   unfolding searched
-  searched-keeps j m o s start none = record { entries-kept = λ k e. refl; table-kept = λ k e f. absurd (f (sym (refused-same e))) }
-  searched-keeps j m o s start (some v) = record { entries-kept = λ k e. absurd (not-refused e); table-kept = λ k e f. absurd (not-refused e) }
+  searched-keeps j k o s start none = record { entries-kept = λ n e. refl; table-kept = λ n e f. absurd (f (sym (refused-same e))) }
+  searched-keeps j k o s start (some v) = record { entries-kept = λ n e. absurd (not-refused e); table-kept = λ n e f. absurd (not-refused e) }
 
   pub guarded-keeps : (ts : List Test) (r : Planned) → Keeping table entries r → Keeping table entries (guarded (refuse table entries) ts r)
   guarded-keeps ts r h = go (guarded-is (refuse table entries) ts r)
@@ -62,10 +64,44 @@ module _ (table entries : List ℕ) where
   read-keeps f (refused n) h = refuse-keeps n
   read-keeps f (took j k) h = h j
 
-  pub in-keeps : (j : Job) (m : PinMap) (o : Order) (s : ℕ) (start : Levels) → Keeping table entries (plan-in j m o s start table entries)
+  pub in-keeps : (j : Job) (m : PinMap) (a : Aim) (o : Order) (s : ℕ) (start : Levels) → Keeping table entries (plan-in j m a o s start table entries)
   unfolding plan-in search-in
-  in-keeps j m o s start = guarded-keeps (plan-tests j s (length table) (length entries)) _ (searched-keeps j m o s start (least-total j m s start))
+  in-keeps j m a o s start = guarded-keeps (plan-tests j s (length table) (length entries)) _ (searched-keeps j (open-for a j m s start) o s start (least-total j (open-for a j m s start) s start))
 
 pub keeps : Keeps
 unfolding plan-call
-keeps b s table entries = read-keeps table entries _ (checked b s) (λ j. in-keeps table entries j (lines (length (j .units)) (s .pins)) late 0 (j .start))
+keeps b s a o table entries = read-keeps table entries _ (checked b s) (λ j. in-keeps table entries j (lines (length (j .units)) (s .pins)) a o 0 (j .start))
+
+-- a search gives 13 exactly where it finds nothing
+module _ (j : Job) (k : Open) (o : Order) (s : ℕ) (start : Levels) (table entries : List ℕ) where
+  searched-none : (v : Option ℕ) → (searched j k o s start v table entries .answer ≡ base.refused 13) ↔ (v ≡ none)
+  unfolding searched
+  searched-none none = (λ e. refl, λ e. refl)
+  searched-none (some v) = (λ e. absurd (not-refused e), λ e. absurd (not-none e))
+
+-- and by either aim where no plan is admissible
+module _ (o : Order) (table entries : List ℕ) where
+  search-alike : (j : Job) (m : PinMap) → (search-in j m total o 0 (j .start) table entries .answer ≡ base.refused 13) ↔ (search-in j m even o 0 (j .start) table entries .answer ≡ base.refused 13)
+  unfolding search-in
+  search-alike j m = (both total even, both even total)
+    where
+      both : (a b : Aim) → searched j (open-for a j m 0 (j .start)) o 0 (j .start) (least-total j (open-for a j m 0 (j .start)) 0 (j .start)) table entries .answer ≡ base.refused 13 → searched j (open-for b j m 0 (j .start)) o 0 (j .start) (least-total j (open-for b j m 0 (j .start)) 0 (j .start)) table entries .answer ≡ base.refused 13
+      both a b e =
+          let none-a = searched-none j (open-for a j m 0 (j .start)) o 0 (j .start) table entries (least-total j (open-for a j m 0 (j .start)) 0 (j .start)) .0 e in
+          searched-none j (open-for b j m 0 (j .start)) o 0 (j .start) table entries (least-total j (open-for b j m 0 (j .start)) 0 (j .start)) .1
+          (aims j m 0 (j .start) b o (omega arith) .none-iff .1 (aims j m 0 (j .start) a o (omega arith) .none-iff .0 none-a))
+
+  unless-alike : (n : Option ℕ) (q r : Planned) → (q .answer ≡ base.refused 13) ↔ (r .answer ≡ base.refused 13) → (unless (refuse table entries) n q .answer ≡ base.refused 13) ↔ (unless (refuse table entries) n r .answer ≡ base.refused 13)
+  unfolding unless
+  unless-alike none q r h = h
+  unless-alike (some n) q r h = (λ e. e, λ e. e)
+
+  read-alike : (r : Result Job) (f g : Job → Planned) → ((j : Job) → (f j .answer ≡ base.refused 13) ↔ (g j .answer ≡ base.refused 13)) → (on-read (refuse table entries) r f .answer ≡ base.refused 13) ↔ (on-read (refuse table entries) r g .answer ≡ base.refused 13)
+  unfolding on-read
+  read-alike (refused n) f g h = (λ e. e, λ e. e)
+  read-alike (took j k) f g h = h j
+
+pub no-plan-alike : NoPlanAlike
+unfolding plan-call plan-in guarded
+no-plan-alike b s o table entries =
+    read-alike o table entries (checked b s) _ _ (λ j. unless-alike o table entries (refusal (plan-tests j 0 (length table) (length entries))) _ _ (search-alike o table entries j (lines (length (j .units)) (s .pins))))

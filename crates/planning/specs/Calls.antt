@@ -1,5 +1,5 @@
--- What planning answers, and what it leaves in the two lists that were lent (document 01, "The best plan" and "Where each refusal is checked").
-use Prim.Native.Nat.{ℕ, _-_, _*_}
+-- What planning answers, and what it leaves in the two lists that were lent (document 01, "The best plan" and "Where each refusal is checked"; document 02, E7).
+use Prim.Native.Nat.{ℕ, _+_, _-_, _*_}
 use mathlib.Core.Option.{Option, none, some}
 use mathlib.Core.List.{List, [], _∷_}
 use lib.Dec.{leb}
@@ -9,7 +9,7 @@ use Rattle.base.specs.Refusals.{Test, test, guarded}
 use Rattle.model.specs.Job.{Levels, Job, intervals}
 use Rattle.model.specs.Pins.{PinMap}
 use Rattle.model.specs.Replay.{Totals, totals}
-use Rattle.model.specs.Best.{Order, late, least-total, best-plan}
+use Rattle.model.specs.Best.{Order, Open, least-total, best-plan, Aim, open-for}
 use Rattle.model.specs.Table.{words}
 use Rattle.format.specs.Parser.{on-read}
 use Rattle.pinning.specs.PinSet.{PinSet, lines}
@@ -28,29 +28,30 @@ pub record Planned : Type 0 where
 unfoldable pub refuse : List ℕ → List ℕ → ℕ → Planned
 refuse table entries n = record { answer = refused n; table = table; entries = entries }
 
--- what a search for the intervals after s found, from the levels `start` there: 13, which leaves the table and keeps the entries; or the best plan, its totals and its bytes
-unfoldable pub searched : Job → PinMap → Order → ℕ → Levels → Option ℕ → List ℕ → List ℕ → Planned
-searched j m o s start none table entries = record {
+-- what a search for the intervals after s found with the choices k open, from the levels `start` there: 13, which leaves the table and keeps the entries; or the best plan, its totals and its bytes
+unfoldable pub searched : Job → Open → Order → ℕ → Levels → Option ℕ → List ℕ → List ℕ → Planned
+searched j k o s start none table entries = record {
   answer = refused 13;
-  table = table-from j m s table;
+  table = table-from _+_ j k s table;
   entries = entries;
 }
-searched j m o s start (some v) table entries = record {
-  answer = gives (totals j s start (best-plan j m s start o));
-  table = table-from j m s table;
-  entries = over (entry-bytes (best-plan j m s start o)) entries;
+searched j k o s start (some v) table entries = record {
+  answer = gives (totals j s start (best-plan j k s start o));
+  table = table-from _+_ j k s table;
+  entries = over (entry-bytes (best-plan j k s start o)) entries;
 }
 
-unfoldable pub search-in : Job → PinMap → Order → ℕ → Levels → List ℕ → List ℕ → Planned
-search-in j m o s start table entries = searched j m o s start (least-total j m s start) table entries
+-- with the choices that hold the pins, and that the aim leaves open
+unfoldable pub search-in : Job → PinMap → Aim → Order → ℕ → Levels → List ℕ → List ℕ → Planned
+search-in j m a o s start table entries = searched j (open-for a j m s start) o s start (least-total j (open-for a j m s start) s start) table entries
 
 -- what planning of the intervals after s is tested for: the table, 11, then the list for their entries, 12
 unfoldable pub plan-tests : Job → ℕ → ℕ → ℕ → List Test
 plan-tests j s table entries = test 11 (leb (words j) table) ∷ test 12 (leb (entry-size * (intervals j - s)) entries) ∷ []
 
-unfoldable pub plan-in : Job → PinMap → Order → ℕ → Levels → List ℕ → List ℕ → Planned
-plan-in j m o s start table entries = guarded (refuse table entries) (plan-tests j s (length table) (length entries)) (search-in j m o s start table entries)
+unfoldable pub plan-in : Job → PinMap → Aim → Order → ℕ → Levels → List ℕ → List ℕ → Planned
+plan-in j m a o s start table entries = guarded (refuse table entries) (plan-tests j s (length table) (length entries)) (search-in j m a o s start table entries)
 
--- the job, 1 to 5, the set, 6, then the two lists: the whole job, from its starting levels, in document 01's order
-unfoldable pub plan-call : List ℕ → PinSet → List ℕ → List ℕ → Planned
-plan-call b s table entries = on-read (refuse table entries) (checked b s) (λ j. plan-in j (lines (length (j .units)) (s .pins)) late 0 (j .start) table entries)
+-- the job, 1 to 5, the set, 6, then the two lists: the whole job, from its starting levels
+unfoldable pub plan-call : List ℕ → PinSet → Aim → Order → List ℕ → List ℕ → Planned
+plan-call b s a o table entries = on-read (refuse table entries) (checked b s) (λ j. plan-in j (lines (length (j .units)) (s .pins)) a o 0 (j .start) table entries)

@@ -1,4 +1,4 @@
--- Document 01's cases of Job A that are marked (m), those of planning, and cases of Job A with another delay or a second bucket worked out by hand: what is asked, and what document 01 says, or by document 02, E2, E3 and E5, would.
+-- Document 01's cases of Job A that are marked (m), those of planning, and cases of Job A with another delay or a second bucket, and of job E, worked out by hand: what is asked, and what document 01 says, or by document 02, E2, E3, E5 and E7, would.
 use Prim.Native.Nat.{ℕ}
 use mathlib.Core.Path.{_≡_}
 use mathlib.Core.List.{List, [], _∷_, map}
@@ -6,7 +6,8 @@ use lib.ListN.{replicate}
 use Rattle.base.specs.Answer.{Answer, refused, gives}
 use Rattle.model.specs.Pins.{Call, pin, lift}
 use Rattle.model.specs.Replay.{Totals}
-use Rattle.format.specs.JobA.{bytes-a, bytes-a8}
+use Rattle.model.specs.Best.{late, Aim, total, even}
+use Rattle.format.specs.JobA.{bytes-a, bytes-a8, bytes-e}
 use Rattle.replaying.specs.Cases.{delayed, set-after}
 use Rattle.planning.specs.Calls.{plan-call}
 
@@ -14,6 +15,7 @@ use Rattle.planning.specs.Calls.{plan-call}
 pub record Question : Type 0 where
   pub job : List ℕ
   pub calls : List Call
+  pub aim : Aim
   pub words : ℕ
   pub bytes : ℕ
 
@@ -24,12 +26,15 @@ pub record Reply : Type 0 where
 
 unfoldable pub reply : Question → Reply
 reply q = record {
-  answer = plan-call (q .job) (set-after (q .job) (q .calls)) (replicate (q .words) 9) (replicate (q .bytes) 7) .answer;
-  entries = plan-call (q .job) (set-after (q .job) (q .calls)) (replicate (q .words) 9) (replicate (q .bytes) 7) .entries;
+  answer = plan-call (q .job) (set-after (q .job) (q .calls)) (q .aim) late (replicate (q .words) 9) (replicate (q .bytes) 7) .answer;
+  entries = plan-call (q .job) (set-after (q .job) (q .calls)) (q .aim) late (replicate (q .words) 9) (replicate (q .bytes) 7) .entries;
 }
 
+abbrev pub asks-for : Aim → List ℕ → List Call → ℕ → ℕ → Question
+asks-for a b ks w n = record { job = b; calls = ks; aim = a; words = w; bytes = n }
+
 abbrev pub asks-with : List ℕ → List Call → ℕ → ℕ → Question
-asks-with b ks w n = record { job = b; calls = ks; words = w; bytes = n }
+asks-with b ks w n = asks-for total b ks w n
 
 abbrev pub asks : List Call → ℕ → ℕ → Question
 asks ks w n = asks-with bytes-a ks w n
@@ -66,6 +71,19 @@ questions =
     ∷ asks-with (bytes-a8 1 2 0) [] 160 9
     ∷ asks-with (bytes-a8 1 2 0) [] 159 9
     ∷ asks-with (bytes-a8 0 0 0) [] 80 9
+    -- document 02, E7: Job A, where even pictures are the same plan, and where there is none
+    ∷ asks-for even bytes-a [] 80 9
+    ∷ asks-for even bytes-a (pin 1 0 ∷ pin 2 0 ∷ []) 80 9
+    -- job E with unit 2 at 31: the total takes 10 and 31, even pictures 30 and 12; with unit 2 pinned at 1 nothing is below 31, and the total decides
+    ∷ asks-for total (bytes-e 12 31) [] 40 9
+    ∷ asks-for even (bytes-e 12 31) [] 40 9
+    ∷ asks-for even (bytes-e 12 31) (pin 2 1 ∷ []) 40 9
+    -- at 30: the greatest is 30 either way, and the total decides; 10 in place of 12: so is the total, and the order decides
+    ∷ asks-for even (bytes-e 12 30) [] 40 9
+    ∷ asks-for even (bytes-e 10 30) [] 40 9
+    -- the lists are looked at first by either aim
+    ∷ asks-for even (bytes-e 12 31) [] 39 9
+    ∷ asks-for even (bytes-e 12 31) [] 40 8
     ∷ []
 
 abbrev pub says : ℕ → ℕ → ℕ → ℕ → List ℕ → Reply
@@ -100,6 +118,15 @@ replies =
     ∷ says-two 50 6 6 0 0 (1 ∷ 255 ∷ 255 ∷ 1 ∷ 0 ∷ 0 ∷ 1 ∷ 1 ∷ 0 ∷ [])
     ∷ refuses 11 (replicate 9 7)
     ∷ refuses 13 (replicate 9 7)
+    ∷ says 50 6 6 2 (0 ∷ 255 ∷ 255 ∷ 2 ∷ 0 ∷ 0 ∷ 1 ∷ 1 ∷ 0 ∷ [])
+    ∷ refuses 13 (replicate 9 7)
+    ∷ says 41 6 6 0 (1 ∷ 255 ∷ 255 ∷ 1 ∷ 0 ∷ 0 ∷ 1 ∷ 1 ∷ 0 ∷ [])
+    ∷ says 42 6 6 0 (1 ∷ 255 ∷ 255 ∷ 1 ∷ 1 ∷ 0 ∷ 1 ∷ 0 ∷ 0 ∷ [])
+    ∷ says 41 6 6 0 (1 ∷ 255 ∷ 255 ∷ 1 ∷ 0 ∷ 0 ∷ 1 ∷ 1 ∷ 0 ∷ [])
+    ∷ says 40 6 6 0 (1 ∷ 255 ∷ 255 ∷ 1 ∷ 0 ∷ 0 ∷ 1 ∷ 1 ∷ 0 ∷ [])
+    ∷ says 40 6 6 0 (1 ∷ 255 ∷ 255 ∷ 1 ∷ 0 ∷ 0 ∷ 1 ∷ 1 ∷ 0 ∷ [])
+    ∷ refuses 11 (replicate 9 7)
+    ∷ refuses 12 (replicate 8 7)
     ∷ []
 
 -- one computed test of the whole table

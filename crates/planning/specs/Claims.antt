@@ -11,10 +11,10 @@ use Rattle.base.specs.Refusals.{condition}
 use Rattle.model.specs.Job.{Line, Coding, Levels, Job, Entry, intervals}
 use Rattle.model.specs.Pins.{PinMap, Call, no-pins, pins-after}
 use Rattle.model.specs.Admissible.{Admissible}
-use Rattle.model.specs.Replay.{totals}
-use Rattle.model.specs.Best.{Order, late}
+use Rattle.model.specs.Replay.{greatest-distortion, totals}
+use Rattle.model.specs.Best.{Order, unlimited, Aim, total, even}
 use Rattle.model.specs.Table.{bound, layerWords, words, IsTable}
-use Rattle.model.specs.Claims.{BestOf}
+use Rattle.model.specs.Claims.{BestOf, kept-open}
 use Rattle.format.specs.Parser.{took, Looks}
 use Rattle.format.specs.JobBytes.{header-in, parse}
 use Rattle.pinning.specs.PinSet.{PinSet, lines}
@@ -27,34 +27,36 @@ use Rattle.planning.specs.Prices.{priced-by}
 use Rattle.planning.specs.Calls.{Planned, refuse, plan-call}
 
 -- of the intervals after s, from the levels `start` there; a whole job is planned from 0 and its starting levels. The list for the entries is that of these intervals
-module _ (j : Job) (m : PinMap) (o : Order) (s : ℕ) (start : Levels) (table entries : List ℕ) where
-  -- the entries at exit begin with the bytes of a plan which is the best of the admissible ones; the answer has its totals, which are sums over the entries written; the rest of the list is as before
+module _ (j : Job) (m : PinMap) (a : Aim) (o : Order) (s : ℕ) (start : Levels) (table entries : List ℕ) where
+  -- the entries at exit begin with the bytes of a plan which is the best of the admissible ones by the aim; the answer has its totals, which are sums over the entries written; the rest of the list is as before
   pub record BestWritten (r : Planned) : Type 0 where
     pub plan : List Entry
-    pub best : BestOf j s o (Admissible j m s start) plan
+    pub best : BestOf j s a o (Admissible j m s start) plan
     pub bytes : take (3 * (intervals j - s)) (r .entries) ≡ entry-bytes plan
     pub read-back : plan-from (r .entries) 0 (intervals j - s) ≡ plan
     pub totals-are : r .answer ≡ gives (totals j s start plan)
     pub rest : drop (3 * (intervals j - s)) (r .entries) ≡ drop (3 * (intervals j - s)) entries
     pub size : length (r .entries) ≡ length entries
+    -- the words of the table from layer s on are the least distortions of every state, reached or not; for even pictures of the choices up to the plan's greatest distortion
+    pub table-is : IsTable j (kept-open a m (greatest-distortion j s plan)) s (r .table)
 
   -- of a job with these pins, from lists that are long enough, whatever stands in them
   pub record PlanClaim (r : Planned) : Type 0 where
-    -- 13 exactly where no plan is admissible; then the entries are as before
+    -- 13 exactly where no plan is admissible, whatever the aim; then the entries are as before, and the table is that of all choices which hold the pins
     pub none-iff : (r .answer ≡ refused 13) ↔ ((p : List Entry) → Admissible j m s start p → ⊥)
     pub none-kept : r .answer ≡ refused 13 → r .entries ≡ entries
+    pub none-table : r .answer ≡ refused 13 → IsTable j (unlimited m) s (r .table)
     -- every other answer is a best plan
     pub else-best : (r .answer ≡ refused 13 → ⊥) → BestWritten r
-    -- either way the words of the table from layer s on are the least distortions of every state, and the rest of the list is as before
-    pub table-is : IsTable j m s (r .table)
+    -- either way the rest of the table's list is as before
     pub table-before : take (s * layerWords (j .line)) (r .table) ≡ take (s * layerWords (j .line)) table
     pub table-rest : drop (words j) (r .table) ≡ drop (words j) table
     pub table-size : length (r .table) ≡ length table
 
--- demand 3 of one list of calls, refused ones included, from the set that opening answers: the set holds what the book of document 01 holds, and planning then is as claimed for the book's lines
+-- demand 3 of one list of calls, refused ones included, from the set that opening answers: the set holds what the book of document 01 holds, and planning then, by either aim and in either order, is as claimed for the book's lines
 pub record Demand (b : List ℕ) (j : Job) (n : ℕ) (calls : List Call) : Type 0 where
   pub history : HistoryClaim b j n calls (run b (open-call b .set) calls)
-  pub planning : (table entries : List ℕ) → words j ≤ length table → 3 * intervals j ≤ length entries → PlanClaim j (pins-after (j .choices) (no-pins (length (j .units))) calls) late 0 (j .start) table entries (plan-call b (run b (open-call b .set) calls .set) table entries)
+  pub planning : (a : Aim) (o : Order) (table entries : List ℕ) → words j ≤ length table → 3 * intervals j ≤ length entries → PlanClaim j (pins-after (j .choices) (no-pins (length (j .units))) calls) a o 0 (j .start) table entries (plan-call b (run b (open-call b .set) calls .set) a o table entries)
 
 -- a refusal leaves both lists as they came, 13 the table aside
 pub record Keeping (table entries : List ℕ) (r : Planned) : Type 0 where
@@ -69,10 +71,14 @@ DemandThree = (b : List ℕ) (j : Job) (n : ℕ) → parse b ≡ took j n → (c
 
 -- demands 1 and 3, of planning with any set: the job, 1 to 5, then the set, the table and the list for the entries; where nothing of these refuses it, 13 or a best plan
 abbrev pub PlanCalls : Type 0
-PlanCalls = (b : List ℕ) (s : PinSet) (table entries : List ℕ) → Looks (plan-call b s table entries) (refuse table entries) (parse b) (λ j. condition 6 (Matches j s) ∷ condition 11 (words j ≤ length table) ∷ condition 12 (3 * intervals j ≤ length entries) ∷ []) (λ j. PlanClaim j (lines (length (j .units)) (s .pins)) late 0 (j .start) table entries (plan-call b s table entries))
+PlanCalls = (b : List ℕ) (s : PinSet) (a : Aim) (o : Order) (table entries : List ℕ) → Looks (plan-call b s a o table entries) (refuse table entries) (parse b) (λ j. condition 6 (Matches j s) ∷ condition 11 (words j ≤ length table) ∷ condition 12 (3 * intervals j ≤ length entries) ∷ []) (λ j. PlanClaim j (lines (length (j .units)) (s .pins)) a o 0 (j .start) table entries (plan-call b s a o table entries))
 
 abbrev pub Keeps : Type 0
-Keeps = (b : List ℕ) (s : PinSet) (table entries : List ℕ) → Keeping table entries (plan-call b s table entries)
+Keeps = (b : List ℕ) (s : PinSet) (a : Aim) (o : Order) (table entries : List ℕ) → Keeping table entries (plan-call b s a o table entries)
+
+-- document 02, E7: 13 is given in the same cases by either aim
+abbrev pub NoPlanAlike : Type 0
+NoPlanAlike = (b : List ℕ) (s : PinSet) (o : Order) (table entries : List ℕ) → (plan-call b s total o table entries .answer ≡ refused 13) ↔ (plan-call b s even o table entries .answer ≡ refused 13)
 
 -- document 02, E6: a layer from the D + 1 prices of an interval's choices is the layer from all of them, however many they are and however distortions combine, as long as more distortion never comes to less
 abbrev pub FewPrices : Type 0

@@ -1,18 +1,18 @@
--- The table of a job with its pins, word after word: no search, only the least totals (document 01, "The best plan").
+-- The table of a job with the choices that are open, word after word: no search, only the least that distortions come to (document 01, "The best plan").
 use Prim.Native.Nat.{ℕ, zero, suc, _-_, _*_}
 use mathlib.Core.List.{List, [], _++_}
 use lib.ListN.{take, drop}
 use Rattle.trellis.specs.Table.{encode}
 use Rattle.model.specs.Job.{Job, intervals}
 use Rattle.base.specs.Lists.{build}
-use Rattle.model.specs.Pins.{PinMap}
-use Rattle.model.specs.Best.{least-total}
+use Rattle.model.specs.Best.{Open, least-by}
 use Rattle.model.specs.Table.{mark, layerWords, stateAt, words}
 
-module _ (j : Job) (m : PinMap) where
+-- over how distortions combine: by their sum, which is document 01's table, or by the greatest of them
+module _ (_⊕_ : ℕ → ℕ → ℕ) (j : Job) (k : Open) where
   -- the layer after interval t: each state's least distortion to the end, or the mark
   unfoldable pub layer : ℕ → List ℕ
-  layer t = build (layerWords (j .line)) (λ i. encode mark (least-total j m t (stateAt (j .line) i)))
+  layer t = build (layerWords (j .line)) (λ i. encode mark (least-by _⊕_ j k t (stateAt (j .line) i)))
 
   -- n layers, from that of t on
   unfoldable pub layers : ℕ → ℕ → List ℕ
