@@ -13,7 +13,7 @@ use lib.Seq.{getD-set-same, getD-set-other}
 use Rattle.base.specs.If.{if_then_else_}
 use Rattle.model.specs.Table.{mark, bound}
 use Rattle.planning.specs.Passes.{charged, row-offer, least-below}
-use Rattle.decoder.specs.declared.Aim.{Aim}
+use Rattle.decoder.specs.declared.Measure.{Measure}
 use Rattle.decoder.specs.Answers.{combine, coding-if, priced, no-prices}
 use Rattle.planning.specs.Prices.{price-open, price-at}
 use Rattle.block.specs.Blocks.{Lessened, Lowered, LeastOf}
@@ -23,7 +23,7 @@ use Rattle.decoder.proofs.Blocks.{lessened-low}
 use Rattle.decoder.proofs.Near.{closed-min, closed-marked, combined-closed}
 
 -- a size: the words so many rows before those of the block
-module _ (aim : Aim) (count width start : ℕ) (words : List ℕ) (size price : ℕ) (room : start + count ≤ length words) (fits : price ≤ bound) (near : NearWords words) where
+module _ (measure : Measure) (count width start : ℕ) (words : List ℕ) (size price : ℕ) (room : start + count ≤ length words) (fits : price ≤ bound) (near : NearWords words) where
   abbrev back : ℕ
   back = size * width
 
@@ -33,12 +33,12 @@ module _ (aim : Aim) (count width start : ℕ) (words : List ℕ) (size price : 
   read-size : length read ≡ count - (back - start)
   read-size = part-size (start - back) (count - (back - start)) words (omega arith)
 
-  size-neared : (old new : List ℕ) → Lessened (back - start) (length read) (λ i. combine aim price (getD read i 0)) old new → Neared count (λ i. row-offer (combine aim) width words (start + i) (price-open size price)) old new
+  size-neared : (old new : List ℕ) → Lessened (back - start) (length read) (λ i. combine measure price (getD read i 0)) old new → Neared count (λ i. row-offer (combine measure) width words (start + i) (price-open size price)) old new
   unfolding price-open row-offer if_then_else_
   size-neared old new a =
       record { size = a .size; low = λ i h. lessened-low (back - start) (length read) _ old new a i; each = λ i h. rw (le-ltb bound price fits) (go i h (decLt (start + i) back)) }
     where
-      go : (i : ℕ) → i < count → Dec (start + i < back) → closed (getD new i 0) ≡ min (closed (getD old i 0)) (if ltb (start + i) back then mark else charged (combine aim) price (getD words (start + i - back) 0))
+      go : (i : ℕ) → i < count → Dec (start + i < back) → closed (getD new i 0) ≡ min (closed (getD old i 0)) (if ltb (start + i) back then mark else charged (combine measure) price (getD words (start + i - back) 0))
       go i h (yes b) = rw (lt-ltb (start + i) back b, a .before i (omega arith)) (omega (arith, closed-marked (getD old i 0)))
       go i h (no b) =
           let skip : ℕ = back - start in
@@ -48,10 +48,10 @@ module _ (aim : Aim) (count width start : ℕ) (words : List ℕ) (size price : 
           let q = a .here (i - skip) (omega (arith, read-size)) in
           let w = part-at (start - back) (count - skip) words (i - skip) n in
           let v : ℕ = getD words (start + i - back) 0 in
-          rw (le-ltb (start + i) back (omega arith), rw (at, w, from) at q) (closed-min (combine aim price v) (getD old i 0) ∙ rw (combined-closed aim price v fits (near .each (start + i - back) (omega arith))) (omega arith))
+          rw (le-ltb (start + i) back (omega arith), rw (at, w, from) at q) (closed-min (combine measure price v) (getD old i 0) ∙ rw (combined-closed measure price v fits (near .each (start + i - back) (omega arith))) (omega arith))
 
   -- with what the code computed
-  pub size-made : (old new : List ℕ) (skip from n : ℕ) → skip ≡ back - start → from ≡ start - back → n ≡ count - skip → Lessened skip (length (take (from + n - from) (drop from words))) (λ i. combine aim price (getD (take (from + n - from) (drop from words)) i 0)) old new → Neared count (λ i. row-offer (combine aim) width words (start + i) (price-open size price)) old new
+  pub size-made : (old new : List ℕ) (skip from n : ℕ) → skip ≡ back - start → from ≡ start - back → n ≡ count - skip → Lessened skip (length (take (from + n - from) (drop from words))) (λ i. combine measure price (getD (take (from + n - from) (drop from words)) i 0)) old new → Neared count (λ i. row-offer (combine measure) width words (start + i) (price-open size price)) old new
   size-made old new skip from n p q r a =
       let m : n ≡ count - (back - start) = r ∙ ap (λ (k : ℕ). count - k) p in
       size-neared old new (rw (m, p, q) at a)

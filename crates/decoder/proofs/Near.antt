@@ -14,8 +14,8 @@ use Rattle.base.specs.If.{if_then_else_}
 use Rattle.model.specs.Job as model
 use Rattle.model.specs.Table.{mark, bound}
 use Rattle.planning.specs.Passes.{least-below, charged, row-offer}
-use Rattle.decoder.specs.declared.Aim.{Aim}
-use Rattle.decoder.specs.declared.Aim.the-variants as aim
+use Rattle.decoder.specs.declared.Measure.{Measure}
+use Rattle.decoder.specs.declared.Measure.the-variants as measure
 use Rattle.decoder.specs.Answers.{combine}
 use Rattle.block.specs.Blocks.{Made, LeastOf}
 use Rattle.decoder.specs.Near.{far, near, closed, Upto, NearWords, Neared, NearestOf}
@@ -51,10 +51,10 @@ module _ (_⊕_ : ℕ → ℕ → ℕ) where
       go (yes p) = rw (lt-leb w bound p, le-ltb (d ⊕ w) far (high p)) refl
       go (no p) = let q : w ≤ bound = omega arith in rw (le-leb w bound q, lt-ltb (d ⊕ w) far (low q)) refl
 
-pub combined-closed : (a : Aim) (d w : ℕ) → d ≤ bound → (bound < w → w ≡ far) → closed (combine a d w) ≡ charged (combine a) d w
+pub combined-closed : (a : Measure) (d w : ℕ) → d ≤ bound → (bound < w → w ≡ far) → closed (combine a d w) ≡ charged (combine a) d w
 unfolding combine
-combined-closed aim.Total d w h e = sum-closed _+_ d w (λ k. omega arith) (λ k. omega (arith, e k))
-combined-closed aim.Greatest d w h e = sum-closed max d w (λ k. omega arith) (λ k. omega (arith, e k))
+combined-closed measure.Sum d w h e = sum-closed _+_ d w (λ k. omega arith) (λ k. omega (arith, e k))
+combined-closed measure.Greatest d w h e = sum-closed max d w (λ k. omega arith) (λ k. omega (arith, e k))
 
 -- a word above the bound becomes far, which is above the bound too
 pub near-far : (w : ℕ) → bound < near w → near w ≡ far

@@ -1,4 +1,4 @@
--- How an aim and prices read in the terms of `model`.
+-- How a measure and prices read in the terms of `model`.
 use Prim.Native.Nat.{ℕ, _+_, max}
 use mathlib.Core.Bool.{Bool}
 use mathlib.Core.Option.{Option, none, some}
@@ -9,13 +9,13 @@ use Rattle.model.specs.Job as model
 use Rattle.model.specs.Table.{mark}
 use Rattle.planning.specs.Rule.{Allowed}
 use Rattle.planning.specs.Prices.{price-open}
-use Rattle.decoder.specs.declared.Aim.{Aim}
-use Rattle.decoder.specs.declared.Aim.the-variants as aim
+use Rattle.decoder.specs.declared.Measure.{Measure}
+use Rattle.decoder.specs.declared.Measure.the-variants as measure
 
 -- how a distortion and what follows it combine
-unfoldable pub combine : Aim → ℕ → ℕ → ℕ
-combine aim.Total = _+_
-combine aim.Greatest = max
+unfoldable pub combine : Measure → ℕ → ℕ → ℕ
+combine measure.Sum = _+_
+combine measure.Greatest = max
 
 -- a coding, where its choice is open
 unfoldable pub coding-if : Bool → ℕ → ℕ → Option model.Coding

@@ -15,8 +15,8 @@ use block::LARGEST;
 use block::NONE;
 
 // What is to be least: the sum of the distortions, or the greatest of them.
-pub enum Aim {
-    Total,
+pub enum Measure {
+    Sum,
     Greatest,
 }
 
@@ -98,25 +98,25 @@ fn larger(a: u32, b: u32) -> u32
 }
 
 // A distortion and what follows it.
-fn combined(distortion: u32, number: u32, aim: Aim) -> u32
+fn combined(distortion: u32, number: u32, measure: Measure) -> u32
     requires { ⌜ (distortion ≤ bound) × (number ≤ far) ⌝ }
-    ensures { λ r. ⌜ (r ≡ combine aim distortion number) × (r ≤ 2147483647) ⌝ }
+    ensures { λ r. ⌜ (r ≡ combine measure distortion number) × (r ≤ 2147483647) ⌝ }
 {
-    match aim {
-        Aim::Total => distortion + number,
-        Aim::Greatest => larger(distortion, number),
+    match measure {
+        Measure::Sum => distortion + number,
+        Measure::Greatest => larger(distortion, number),
     }
 }
 
 // Lessens the numbers from a place on to what a distortion and other numbers come to.
-fn lessen_combined(block: &mut [u32; 256], from: usize, words: &[u32], distortion: u32, aim: Aim)
+fn lessen_combined(block: &mut [u32; 256], from: usize, words: &[u32], distortion: u32, measure: Measure)
     requires { ⌜ (length (now block) ≡ 256) × (length (now words) ≤ 256 - from) × (distortion ≤ bound) × Upto (length (now words)) far (now words) × Upto (length (now words)) far (drop from (now block)) ⌝ }
-    ensures { λ _. ⌜ Lessened from (length (now (words .entry))) (λ i. combine aim distortion (getD (now (words .entry)) i 0)) (now (block .entry)) (now (block .exit)) ⌝ }
+    ensures { λ _. ⌜ Lessened from (length (now (words .entry))) (λ i. combine measure distortion (getD (now (words .entry)) i 0)) (now (block .entry)) (now (block .exit)) ⌝ }
 {
     let count = words.len();
     for i in 0..count {
         let at = from + i;
-        block[at] = nearer(combined(distortion, words[i], aim), block[at]);
+        block[at] = nearer(combined(distortion, words[i], measure), block[at]);
     }
 }
 
@@ -129,16 +129,16 @@ fn with_size(
     start: usize,
     size: usize,
     distortion: u32,
-    aim: Aim,
+    measure: Measure,
 )
     requires { ⌜ Numbers count (now block) × NearWords (now words) × (start + count ≤ length (now words)) × (width ≤ 65536) × (size < 256) × (distortion ≤ bound) ⌝ }
-    ensures { λ _. ⌜ Neared count (λ i. row-offer (combine aim) width (now (words .entry)) (start + i) (price-open size distortion)) (now (block .entry)) (now (block .exit)) ⌝ }
+    ensures { λ _. ⌜ Neared count (λ i. row-offer (combine measure) width (now (words .entry)) (start + i) (price-open size distortion)) (now (block .entry)) (now (block .exit)) ⌝ }
 {
     let back = size * width;
     let skip = block::beyond(back, start);
     let from = block::beyond(start, back);
     let end = from + block::beyond(count, skip);
-    lessen_combined(block, skip, &words[from..end], distortion, aim);
+    lessen_combined(block, skip, &words[from..end], distortion, measure);
 }
 
 // The words that stand in the layer from `start` on.
@@ -148,19 +148,19 @@ fn decoded_block(
     width: usize,
     sizes: &[u8],
     prices: &[u32; 256],
-    aim: Aim,
+    measure: Measure,
     start: usize,
     count: usize,
 )
     requires { ⌜ (length (now block) ≡ 256) × Decodes (now prices) (now sizes) width (now words) × (count ≤ 256) × (start + count ≤ length (now words)) ⌝ }
-    ensures { λ _. ⌜ LeastOf count (length (now (sizes .entry))) (λ i j. row-offer (combine aim) width (now (words .entry)) (start + i) (priced (now (prices .entry)) (getD (now (sizes .entry)) j 0))) (now (block .exit)) ⌝ }
+    ensures { λ _. ⌜ LeastOf count (length (now (sizes .entry))) (λ i j. row-offer (combine measure) width (now (words .entry)) (start + i) (priced (now (prices .entry)) (getD (now (sizes .entry)) j 0))) (now (block .exit)) ⌝ }
 {
     block::clear_words(block, count, FAR);
     let offers = sizes.len();
     for i in 0..offers {
         let size = sizes[i] as usize;
         let distortion = prices[size];
-        with_size(block, count, words, width, start, size, distortion, aim);
+        with_size(block, count, words, width, start, size, distortion, measure);
     }
     close_words(block, count);
 }
@@ -172,10 +172,10 @@ fn decode_blocks(
     width: usize,
     sizes: &[u8],
     prices: &[u32; 256],
-    aim: Aim,
+    measure: Measure,
 )
     requires { ⌜ (size ≤ length (now part)) × Decodes (now prices) (now sizes) width (take size (now part)) ⌝ }
-    ensures { λ _. ⌜ Made 0 size (λ i. least-below (length (now (sizes .entry))) (λ j. row-offer (combine aim) width (take size (now (part .entry))) i (priced (now (prices .entry)) (getD (now (sizes .entry)) j 0)))) (now (part .entry)) (now (part .exit)) ⌝ }
+    ensures { λ _. ⌜ Made 0 size (λ i. least-below (length (now (sizes .entry))) (λ j. row-offer (combine measure) width (take size (now (part .entry))) i (priced (now (prices .entry)) (getD (now (sizes .entry)) j 0)))) (now (part .entry)) (now (part .exit)) ⌝ }
 {
     let mut block = [FAR; 256];
     let mut left = size;
@@ -188,7 +188,7 @@ fn decode_blocks(
             width,
             sizes,
             prices,
-            aim,
+            measure,
             start,
             count,
         );
@@ -234,13 +234,13 @@ fn list_sizes(sizes: &mut [u8; 256], prices: &[u32; 256], limit: usize) -> usize
 }
 
 // The whole pass: from the next layer to the place of this one.
-pub fn decode_layer(part: &mut [u32], size: usize, width: usize, prices: &[u32; 256], aim: Aim)
+pub fn decode_layer(part: &mut [u32], size: usize, width: usize, prices: &[u32; 256], measure: Measure)
     requires { ⌜ (length (now prices) ≡ 256) × (0 < width) × (width ≤ 65536) × (size + size ≤ length (now part)) ⌝ }
-    ensures { λ _. ⌜ Made 0 size (λ i. least-below 256 (λ x. row-offer (combine aim) width (take size (drop size (now (part .entry)))) i (priced (now (prices .entry)) x))) (now (part .entry)) (now (part .exit)) ⌝ }
+    ensures { λ _. ⌜ Made 0 size (λ i. least-below 256 (λ x. row-offer (combine measure) width (take size (drop size (now (part .entry)))) i (priced (now (prices .entry)) x))) (now (part .entry)) (now (part .exit)) ⌝ }
 {
     let mut sizes = [0u8; 256];
     let limit = sizes_within(size, width);
     let count = list_sizes(&mut sizes, prices, limit);
     near_words(part, size);
-    decode_blocks(part, size, width, &sizes[..count], prices, aim);
+    decode_blocks(part, size, width, &sizes[..count], prices, measure);
 }

@@ -9,20 +9,20 @@ ghost use Rattle.model.specs.Table.{layerWords};
 ghost use Rattle.planning.specs.Rule.{layer-from};
 ghost use Rattle.decoder.specs.Answers.{combine, priced};
 ghost use Rattle.sender.specs.Answers.{line-is, LineFits};
-use decoder::Aim;
+use decoder::Measure;
 use sender::Line;
 
 // Fills one interval's layer, which is the part's first, from the next, which follows it. Levels that are never reached from the start are filled too.
-pub fn fill_layer(part: &mut [u32], line: Line, prices: &[u32; 256], aim: Aim)
+pub fn fill_layer(part: &mut [u32], line: Line, prices: &[u32; 256], measure: Measure)
     requires { ⌜ LineFits line × (length (now prices) ≡ 256) × (layerWords (line-is line) + layerWords (line-is line) ≤ length (now part)) ⌝ }
-    ensures { λ _. ⌜ now (part .exit) ≡ layer-from (combine aim) (line-is line) 256 (priced (now (prices .entry))) (take (layerWords (line-is line)) (drop (layerWords (line-is line)) (now (part .entry)))) ++ drop (layerWords (line-is line)) (now (part .entry)) ⌝ }
+    ensures { λ _. ⌜ now (part .exit) ≡ layer-from (combine measure) (line-is line) 256 (priced (now (prices .entry))) (take (layerWords (line-is line)) (drop (layerWords (line-is line)) (now (part .entry)))) ++ drop (layerWords (line-is line)) (now (part .entry)) ⌝ }
 {
     decoder::decode_layer(
         part,
         sender::layer_words(line),
         sender::row_words(line),
         prices,
-        aim,
+        measure,
     );
     sender::send_layer(part, line);
 }

@@ -2,17 +2,19 @@
 use Prim.Native.Nat.{ℕ, suc, _+_, _-_, _<_, _≤_}
 use mathlib.Core.Path.{_≡_, refl, sym, _∙_, ap}
 use mathlib.Core.Bool.{true}
+use mathlib.Core.Option.{Option, none, some}
 use mathlib.Core.List.{List, [], _∷_, map}
 use native.Mathlib.Omega.{arith}
 use lib.ListN.{length, getD, take}
 use lib.Seq.{getD-take}
 use borrow.Author.Tests.{le-leb, lt-leb, eq-eqb, ne-eqb}
+use Rattle.trellis.specs.Limit.{keeps-to, only}
 use Rattle.base.specs.If.{if_then_else_, one-if}
 use Rattle.model.specs.Job as model
 use Rattle.model.specs.Job.{bucketAt, on-line, codingAt, coding}
 use Rattle.model.specs.Pins.{PinMap, pinOf, pinAt}
 use Rattle.model.specs.Step.{pin-held}
-use Rattle.model.specs.Best.{entry, width}
+use Rattle.model.specs.Best.{entry, width, Open}
 use Rattle.model.proofs.Lines.{coding-on}
 use Rattle.format.specs.Places.{rate-at, coding-at}
 use Rattle.format.specs.JobBytes.{Policed, Header, largest-sizes, bucket-limits, header-limits, bucket-of, job-in, Opens}
@@ -28,8 +30,9 @@ use Rattle.interval.specs.declared.Buffers.{Buffers}
 use Rattle.interval.specs.Answers.{second-of, line-of, OfHeader}
 use Rattle.line.specs.declared.Line.{Line}
 use Rattle.table.specs.declared.Choices.{Choices}
+use Rattle.table.specs.declared.Limit.{Limit}
 use Rattle.line.specs.Answers.{line-is, BuffersFit}
-use Rattle.table.specs.Answers.{job-on, allowed-is, LineOf, ChoicesIn, waits, decodes, ChoicesOf, Starts}
+use Rattle.table.specs.Answers.{job-on, limit-of, open-of, allowed-is, LineOf, ChoicesIn, waits, decodes, ChoicesOf, Starts}
 use Rattle.table.proofs.Arrays.{Filled, filled-list}
 
 -- the buffers that a header tells are those of its job
@@ -86,21 +89,27 @@ line-read b h k rates o e f =
       };
     }
 
+-- what has no distortion keeps to every limit
+nothing-kept : (l : Option ℕ) → keeps-to l 0 ≡ true
+unfolding keeps-to
+nothing-kept none = refl
+nothing-kept (some g) = le-leb 0 g (omega arith)
+
 -- the choices of the interval in a place: up to the delay, and after it
-module _ (b : List ℕ) (h : Header) (pins : List ℕ) (place : ℕ) (c : Choices) (o : Opens b h) (n : length pins ≡ 512) (k : place < h .units + h .delay) where
-  none-chosen : place < h .delay → c .unit ≡ 0 → c .count ≡ 1 → ChoicesOf b h (job-in b) (lines (h .units) pins) place c
-  unfolding width allowed-is allowed-in choice-in entry pinAt pin-held coding if_then_else_
+module _ (b : List ℕ) (h : Header) (pins : List ℕ) (limit : Limit) (place : ℕ) (c : Choices) (o : Opens b h) (n : length pins ≡ 512) (k : place < h .units + h .delay) where
+  none-chosen : place < h .delay → c .unit ≡ 0 → c .count ≡ 1 → ChoicesOf b h (job-in b) (open-of (lines (h .units) pins) limit) place c
+  unfolding width allowed-is allowed-in choice-in entry pinAt pin-held coding if_then_else_ only
   none-chosen l u e =
       let t = le-leb (suc place) (job-in b .delay) (omega (arith, delay-is b h o)) in
       record {
         count = rw t e;
-        each = λ x y. let q : x ≡ 0 = omega (arith, e) in rw (q, t, eq-eqb (c .unit) 0 u);
+        each = λ x y. let q : x ≡ 0 = omega (arith, e) in rw (q, t, eq-eqb (c .unit) 0 u, nothing-kept (limit-of limit));
         fits = record { count = omega arith; small = λ z. absurd (z u) };
       }
 
-  unit-chosen : h .delay ≤ place → c .unit ≡ place - h .delay + 1 → c .count ≡ h .choices → c .pin ≡ getD pins (place - h .delay) 0 → ChoicesOf b h (job-in b) (lines (h .units) pins) place c
+  unit-chosen : h .delay ≤ place → c .unit ≡ place - h .delay + 1 → c .count ≡ h .choices → c .pin ≡ getD pins (place - h .delay) 0 → c .limit ≡ limit → ChoicesOf b h (job-in b) (open-of (lines (h .units) pins) limit) place c
   unfolding width allowed-is allowed-in choice-in entry pinAt pinOf coding if_then_else_
-  unit-chosen l u m p =
+  unit-chosen l u m p i =
       let d = delay-is b h o in
       let us = units-are b h o in
       let ms = choices-are b h o in
@@ -115,7 +124,7 @@ module _ (b : List ℕ) (h : Header) (pins : List ℕ) (place : ℕ) (c : Choice
         count = rw t (m ∙ sym ms);
         each = λ x y.
             let z : x < h .choices = omega (arith, m) in
-            rw (ne-eqb (c .unit) 0 (λ q. omega (arith, u)), p, u, t, pin-place, unit-place, lines-at (h .units) pins at (omega (arith, g .units)) (omega arith), of-choice x (λ q. omega (arith, g .choices)), coded x z);
+            rw (ne-eqb (c .unit) 0 (λ q. omega (arith, u)), p, i, u, t, pin-place, unit-place, lines-at (h .units) pins at (omega (arith, g .units)) (omega arith), of-choice x (λ q. omega (arith, g .choices)), coded x z);
         fits = record {
           count = omega (arith, m, g .choices);
           small = λ _ x y.
@@ -124,20 +133,20 @@ module _ (b : List ℕ) (h : Header) (pins : List ℕ) (place : ℕ) (c : Choice
         };
       }
 
-  choices-of : ChoicesIn h pins place c → ChoicesOf b h (job-in b) (lines (h .units) pins) place c
+  choices-of : ChoicesIn h pins limit place c → ChoicesOf b h (job-in b) (open-of (lines (h .units) pins) limit) place c
   choices-of (waits l u e) = none-chosen l u e
-  choices-of (decodes l u m p) = unit-chosen l u m p
+  choices-of (decodes l u m p i) = unit-chosen l u m p i
 
 -- over another line the same
-chosen-on : (b : List ℕ) (h : Header) (j : model.Job) (line : model.Line) (m : PinMap) (place : ℕ) (c : Choices) → ChoicesOf b h j m place c → ChoicesOf b h (on-line j line) m place c
+chosen-on : (b : List ℕ) (h : Header) (j : model.Job) (line : model.Line) (m : Open) (place : ℕ) (c : Choices) → ChoicesOf b h j m place c → ChoicesOf b h (on-line j line) m place c
 unfolding on-line width
 chosen-on b h j line m place c d = record { count = d .count; each = λ x k. d .each x k ∙ sym (same x); fits = d .fits }
   where
     same : (x : ℕ) → allowed-in (on-line j line) m (suc place) x ≡ allowed-in j m (suc place) x
     same x = unfold on-line allowed-in choice-in entry pinAt in rw (coding-on j line (suc place) (choice-in j (suc place) x)) refl
 
-pub choices-on : (b : List ℕ) (h : Header) (l : Line) (pins : List ℕ) (place : ℕ) (c : Choices) → Starts b h l pins → place < h .units + h .delay → ChoicesIn h pins place c → ChoicesOf b h (job-on b l) (lines (h .units) pins) place c
-choices-on b h l pins place c st k told = chosen-on b h (job-in b) (line-is l) (lines (h .units) pins) place c (choices-of b h pins place c (st .opens) (st .pins-size) k told)
+pub choices-on : (b : List ℕ) (h : Header) (l : Line) (pins : List ℕ) (limit : Limit) (place : ℕ) (c : Choices) → Starts b h l pins → place < h .units + h .delay → ChoicesIn h pins limit place c → ChoicesOf b h (job-on b l) (open-of (lines (h .units) pins) limit) place c
+choices-on b h l pins limit place c st k told = chosen-on b h (job-in b) (line-is l) (open-of (lines (h .units) pins) limit) place c (choices-of b h pins limit place c (st .opens) (st .pins-size) k told)
 
 pub few-units : (b : List ℕ) (h : Header) → Opens b h → h .units ≤ 512
 few-units b h o = omega (arith, units-are b h o, job-limits b h o .units)

@@ -7,14 +7,24 @@ use native.Mathlib.Omega.{arith}
 use lib.ListN.{length, take, drop, replicate, length-drop, drop-of-length-le}
 use lib.Seq.{take-all, drop-drop}
 use borrow.Rule.Slice.PartMut.{putMid}
+use Rattle.trellis.specs.Trellis.{Combines}
 use Rattle.model.specs.Job.{Line, Job, intervals}
-use Rattle.model.specs.Pins.{PinMap}
-use Rattle.model.specs.Best.{width}
+use Rattle.model.specs.Best.{width, Open}
 use Rattle.model.specs.Table.{layerWords, words, layerOf, Bounded}
+use Rattle.trellis.proofs.Optimality.{sum-combines, greatest-combines}
+use Rattle.decoder.specs.declared.Measure.{Measure}
+use Rattle.decoder.specs.declared.Measure.the-variants as measure
+use Rattle.decoder.specs.Answers.{combine}
 use Rattle.planning.specs.Rule.{Allowed, layer-from, allowed-in, refill, refilled}
 use Rattle.planning.specs.Words.{table-from}
 use Rattle.planning.proofs.Offers.{layer-from-cong}
 use Rattle.planning.proofs.Refilling.{refilled-length, table-made}
+
+-- both ways to combine distortions are ways of the theory
+pub combine-combines : (x : Measure) → Combines (combine x)
+unfolding combine
+combine-combines measure.Sum = sum-combines
+combine-combines measure.Greatest = greatest-combines
 
 -- the part that starts at a is all that is left of the list, and what comes back stands after the first a
 pub part-is : (a : ℕ) (w : List ℕ) → take (length w - a) (drop a w) ≡ drop a w
@@ -45,10 +55,10 @@ module _ (j : Job) where
   last-written w ys total size t z y = put-rest (total * size) w ys ∙ rw (y, part-is (total * size) w, t, z)
 
 -- the last layer, then those before it from s on: the table from s on
-pub table-filled : (j : Job) (m : PinMap) → Bounded j → (w last new : List ℕ) → words j ≤ length w → last ≡ take (intervals j * layerWords (j .line)) w ++ (replicate (layerWords (j .line)) 0 ++ drop (layerWords (j .line)) (drop (intervals j * layerWords (j .line)) w)) → (s total : ℕ) → s ≤ intervals j → total ≡ intervals j → new ≡ refilled j m s (total - s) last → new ≡ table-from j m s w
-table-filled j m bounded w last new room is s total h t q = q ∙ ap (λ (n : ℕ). refilled j m s (n - s) last) t ∙ table-made j m bounded w last room is s h
+pub table-filled : (_⊕_ : ℕ → ℕ → ℕ) → Combines _⊕_ → (j : Job) (m : Open) → Bounded j → (w last new : List ℕ) → words j ≤ length w → last ≡ take (intervals j * layerWords (j .line)) w ++ (replicate (layerWords (j .line)) 0 ++ drop (layerWords (j .line)) (drop (intervals j * layerWords (j .line)) w)) → (s total : ℕ) → s ≤ intervals j → total ≡ intervals j → new ≡ refilled _⊕_ j m s (total - s) last → new ≡ table-from _⊕_ j m s w
+table-filled _⊕_ c j m bounded w last new room is s total h t q = q ∙ ap (λ (n : ℕ). refilled _⊕_ j m s (n - s) last) t ∙ table-made _⊕_ j m c bounded w last room is s h
 
-module _ (j : Job) (m : PinMap) (last : ℕ) (w₀ : List ℕ) where
+module _ (_⊕_ : ℕ → ℕ → ℕ) (j : Job) (m : Open) (last : ℕ) (w₀ : List ℕ) where
   abbrev W : ℕ
   W = layerWords (j .line)
 
@@ -57,7 +67,7 @@ module _ (j : Job) (m : PinMap) (last : ℕ) (w₀ : List ℕ) where
     pub at : start ≡ place * W
     pub low : first ≤ place
     pub high : place ≤ last
-    pub is : w ≡ refilled j m place (last - place) w₀
+    pub is : w ≡ refilled _⊕_ j m place (last - place) w₀
 
   pub filling-none : (first place start : ℕ) → first ≤ last → place ≡ last → start ≡ last * W → Filling first place start w₀
   unfolding refilled
@@ -65,7 +75,7 @@ module _ (j : Job) (m : PinMap) (last : ℕ) (w₀ : List ℕ) where
       let z : last - last ≡ 0 = omega arith in
       rw (q, e) (record { at = refl; low = h; high = omega arith; is = rw z refl })
 
-  pub filling-all : (first place start : ℕ) (w : List ℕ) → Filling first place start w → place ≤ first → w ≡ refilled j m first (last - first) w₀
+  pub filling-all : (first place start : ℕ) (w : List ℕ) → Filling first place start w → place ≤ first → w ≡ refilled _⊕_ j m first (last - first) w₀
   filling-all first place start w f h = let e : place ≡ first = omega (arith, f .low) in rw e at (f .is)
 
   module _ (first place start : ℕ) (w : List ℕ) (f : Filling first place start w) (room : (last + 1) * W ≤ length w₀) where
@@ -78,7 +88,7 @@ module _ (j : Job) (m : PinMap) (last : ℕ) (w₀ : List ℕ) where
     pub long : length w ≡ length w₀
     long =
         let e : place + (last - place) ≡ last = omega (arith, f .high) in
-        ap length (f .is) ∙ refilled-length j m (last - place) place w₀ (rw e (omega (arith, roomy)))
+        ap length (f .is) ∙ refilled-length _⊕_ j m (last - place) place w₀ (rw e (omega (arith, roomy)))
 
     module _ (p : first < place) where
       pub starts : W ≤ start
@@ -103,32 +113,32 @@ module _ (j : Job) (m : PinMap) (last : ℕ) (w₀ : List ℕ) where
         begins : start - W ≡ (place - 1) * W
         begins = omega (arith, less-one place W (omega arith), f .at)
 
-        by-rule : layer-from _+_ line n a (take W (drop start w)) ≡ layer-from _+_ (j .line) (width j (suc (place - 1))) (allowed-in j m (suc (place - 1))) (layerOf (j .line) w (suc (place - 1)))
+        by-rule : layer-from _⊕_ line n a (take W (drop start w)) ≡ layer-from _⊕_ (j .line) (width j (suc (place - 1))) (allowed-in j m (suc (place - 1))) (layerOf (j .line) w (suc (place - 1)))
         unfolding layerOf
         by-rule =
             let b = allowed-in j m (suc (place - 1)) in
             let k : start ≡ suc (place - 1) * W = f .at ∙ ap (λ (i : ℕ). i * W) (sym one) in
-            rw e (layer-from-cong _+_ (j .line) n a b (take W (drop start w)) same)
-            ∙ ap (λ (i : ℕ). layer-from _+_ (j .line) i b (take W (drop start w))) q
-            ∙ ap (λ (i : ℕ). layer-from _+_ (j .line) (width j (suc (place - 1))) b (take W (drop i w))) k
+            rw e (layer-from-cong _⊕_ (j .line) n a b (take W (drop start w)) same)
+            ∙ ap (λ (i : ℕ). layer-from _⊕_ (j .line) i b (take W (drop start w))) q
+            ∙ ap (λ (i : ℕ). layer-from _⊕_ (j .line) (width j (suc (place - 1))) b (take W (drop i w))) k
 
-        again : refill j m (place - 1) w ≡ refilled j m (place - 1) (last - (place - 1)) w₀
+        again : refill _⊕_ j m (place - 1) w ≡ refilled _⊕_ j m (place - 1) (last - (place - 1)) w₀
         unfolding refilled
         again =
             let k : last - (place - 1) ≡ suc (last - place) = omega (arith, f .high) in
-            rw k (ap (refill j m (place - 1)) (f .is ∙ ap (λ (i : ℕ). refilled j m i (last - place) w₀) (sym one)))
+            rw k (ap (refill _⊕_ j m (place - 1)) (f .is ∙ ap (λ (i : ℕ). refilled _⊕_ j m i (last - place) w₀) (sym one)))
 
-        module _ (ys : List ℕ) (y : ys ≡ layer-from _+_ line n a (take (layerWords line) (drop (layerWords line) (take (length w - (start - size)) (drop (start - size) w)))) ++ drop (layerWords line) (take (length w - (start - size)) (drop (start - size) w))) where
-          made : take (start - W) w ++ ys ≡ refill j m (place - 1) w
+        module _ (ys : List ℕ) (y : ys ≡ layer-from _⊕_ line n a (take (layerWords line) (drop (layerWords line) (take (length w - (start - size)) (drop (start - size) w)))) ++ drop (layerWords line) (take (length w - (start - size)) (drop (start - size) w))) where
+          made : take (start - W) w ++ ys ≡ refill _⊕_ j m (place - 1) w
           unfolding refill
           made =
               let g : layerWords line ≡ W = ap layerWords e in
               let k : start ≡ suc (place - 1) * W = f .at ∙ ap (λ (i : ℕ). i * W) (sym one) in
-              let filled : ys ≡ layer-from _+_ line n a (take W (drop start w)) ++ drop start w = y ∙ rw (z, g, next) in
+              let filled : ys ≡ layer-from _⊕_ line n a (take W (drop start w)) ++ drop start w = y ∙ rw (z, g, next) in
               ap (λ (l : List ℕ). take (start - W) w ++ l) filled
-              ∙ ap (λ (i : ℕ). take i w ++ (layer-from _+_ line n a (take W (drop start w)) ++ drop start w)) begins
+              ∙ ap (λ (i : ℕ). take i w ++ (layer-from _⊕_ line n a (take W (drop start w)) ++ drop start w)) begins
               ∙ ap (λ (l : List ℕ). take ((place - 1) * W) w ++ (l ++ drop start w)) by-rule
-              ∙ ap (λ (i : ℕ). take ((place - 1) * W) w ++ (layer-from _+_ (j .line) (width j (suc (place - 1))) (allowed-in j m (suc (place - 1))) (layerOf (j .line) w (suc (place - 1))) ++ drop i w)) k
+              ∙ ap (λ (i : ℕ). take ((place - 1) * W) w ++ (layer-from _⊕_ (j .line) (width j (suc (place - 1))) (allowed-in j m (suc (place - 1))) (layerOf (j .line) w (suc (place - 1))) ++ drop i w)) k
 
           pub filling-more : Filling first (place - 1) (start - size) (putMid (start - size) (length w - (start - size)) w ys)
           filling-more = rw z (record {

@@ -1,15 +1,16 @@
 -- What is read of a job's bytes and pins in the terms of `model` and `planning`, how long a table is, and what the functions of this crate say and ask.
 use Prim.Native.Nat.{ℕ, suc, _+_, _-_, _*_, _<_, _≤_}
 use mathlib.Core.Path.{_≡_}
-use mathlib.Core.Option.{none, some}
+use mathlib.Core.Option.{Option, none, some}
 use mathlib.Core.List.{List, [], map}
 use lib.Dec.{eqb}
 use lib.ListN.{length, getD}
+use Rattle.trellis.specs.Limit.{keeps-to, only}
 use Rattle.base.specs.If.{if_then_else_}
 use Rattle.model.specs.Job as model
 use Rattle.model.specs.Pins.{PinMap}
 use Rattle.model.specs.Step.{pin-held}
-use Rattle.model.specs.Best.{width}
+use Rattle.model.specs.Best.{width, Open}
 use Rattle.model.specs.Table.{span, layerWords}
 use Rattle.format.specs.Limits.{each-kept}
 use Rattle.format.specs.Choices.{no-choice, choice-of}
@@ -21,6 +22,8 @@ use Rattle.interval.specs.Answers.{line-of}
 use Rattle.planning.specs.Rule.{Allowed, allowed-in}
 use Rattle.line.specs.declared.Line.{Line}
 use Rattle.table.specs.declared.Choices.{Choices}
+use Rattle.table.specs.declared.Limit.{Limit}
+use Rattle.table.specs.declared.Limit.the-variants as limit
 use Rattle.line.specs.declared.Candidate.{Candidate}
 use Rattle.line.specs.Answers.{line-is, candidate-is, LineFits}
 
@@ -28,11 +31,19 @@ use Rattle.line.specs.Answers.{line-is, candidate-is, LineFits}
 abbrev pub job-on : List ℕ → Line → model.Job
 job-on b l = model.on-line (job-in b) (line-is l)
 
--- the codings of an interval as they stand in bytes, those that its pin leaves open; without a unit nothing is decoded
+-- a limit in the model's terms, and what it leaves open with some pins
+unfoldable pub limit-of : Limit → Option ℕ
+limit-of limit.Free = none
+limit-of (limit.UpTo g) = some g
+
+abbrev pub open-of : PinMap → Limit → Open
+open-of m l = record { pins = m; limit = limit-of l }
+
+-- the codings of an interval as they stand in bytes, those that its pin and the limit leave open; without a unit nothing is decoded
 unfoldable pub allowed-is : List ℕ → format.Header → Choices → Allowed
 allowed-is b h c x =
     if eqb (c .unit) 0 then some model.nothing
-    else if pin-held (choice-of (c .pin)) (choice-of x) then some (coding-at b h (c .unit) x) else none
+    else if pin-held (choice-of (c .pin)) (choice-of x) then only (keeps-to (limit-of (c .limit)) (coding-at b h (c .unit) x .distortion)) (some (coding-at b h (c .unit) x)) else none
 
 -- (T + 1) times the words of a layer, over any buffers
 unfoldable pub words-over : format.Header → Buffers → ℕ
@@ -61,15 +72,15 @@ pub record CandidateOf (b : List ℕ) (h : format.Header) (c : Choices) (x : ℕ
   pub is : candidate-is r ≡ allowed-is b h c x
   pub small : r .distortion ≤ 1000000
 
--- the choices of the interval in a place, as header and pins tell them
-pub data ChoicesIn (h : format.Header) (pins : List ℕ) (place : ℕ) (c : Choices) : Type 0 where
-  waits : place < h .delay → c .unit ≡ 0 → c .count ≡ 1 → ChoicesIn h pins place c
-  decodes : h .delay ≤ place → c .unit ≡ place - h .delay + 1 → c .count ≡ h .choices → c .pin ≡ getD pins (place - h .delay) 0 → ChoicesIn h pins place c
+-- the choices of the interval in a place, as header, pins and limit tell them
+pub data ChoicesIn (h : format.Header) (pins : List ℕ) (l : Limit) (place : ℕ) (c : Choices) : Type 0 where
+  waits : place < h .delay → c .unit ≡ 0 → c .count ≡ 1 → ChoicesIn h pins l place c
+  decodes : h .delay ≤ place → c .unit ≡ place - h .delay + 1 → c .count ≡ h .choices → c .pin ≡ getD pins (place - h .delay) 0 → c .limit ≡ l → ChoicesIn h pins l place c
 
 -- and in the terms of the job that stands in bytes
-pub record ChoicesOf (b : List ℕ) (h : format.Header) (j : model.Job) (m : PinMap) (place : ℕ) (c : Choices) : Type 0 where
+pub record ChoicesOf (b : List ℕ) (h : format.Header) (j : model.Job) (k : Open) (place : ℕ) (c : Choices) : Type 0 where
   pub count : c .count ≡ width j (suc place)
-  pub each : (x : ℕ) → x < c .count → allowed-is b h c x ≡ allowed-in j m (suc place) x
+  pub each : (x : ℕ) → x < c .count → allowed-is b h c x ≡ allowed-in j k (suc place) x
   pub fits : ChoicesFit b h c
 
 -- the bytes of a job, any line within the limits and the pins of a set

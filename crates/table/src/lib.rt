@@ -9,13 +9,16 @@ ghost use Rattle.format.specs.JobBytes.{Opens};
 ghost use Rattle.header.specs.Answers.{plain};
 ghost use Rattle.pinning.specs.PinSet.{lines};
 ghost use Rattle.interval.specs.Answers.{line-of};
+ghost use Rattle.trellis.specs.Limit.{keeps-to};
+ghost use Rattle.model.specs.Best.{Open};
 ghost use Rattle.planning.specs.Rule.{layer-from, refilled};
+ghost use Rattle.decoder.specs.Answers.{combine};
 ghost use Rattle.planning.specs.Words.{table-from};
 ghost use Rattle.planning.specs.Prices.{price-at};
 ghost use Rattle.block.specs.Blocks.{LeastOf};
 ghost use Rattle.line.specs.Answers.{line-is, LineFits};
-ghost use Rattle.table.specs.Answers.{job-on, allowed-is, words-over, table-words, ChoicesFit, LineOf, CandidateOf, ChoicesIn, Starts, Fills};
-use decoder::Aim;
+ghost use Rattle.table.specs.Answers.{job-on, limit-of, open-of, allowed-is, words-over, table-words, ChoicesFit, LineOf, CandidateOf, ChoicesIn, Starts, Fills};
+use decoder::Measure;
 use header::Choice;
 use header::Header;
 use header::Verdict;
@@ -23,11 +26,28 @@ use interval::Buffers;
 use line::Candidate;
 use line::Line;
 
-// The choices of one interval: of which unit, how many, and the unit's pin. How each codes the unit stands in the job: a thousand codings are too many to hand on. Up to the delay there is one choice, which decodes no unit: unit 0.
+// What the distortion of a choice may be: anything, or at most so much (even pictures: document 02, E7).
+pub enum Limit {
+    Free,
+    UpTo(u32),
+}
+
+// The choices of one interval: of which unit, how many, the unit's pin, and the limit on their distortion. How each codes the unit stands in the job: a thousand codings are too many to hand on. Up to the delay there is one choice, which decodes no unit: unit 0.
 pub struct Choices {
     pub unit: u16,
     pub count: Choice,
     pub pin: Choice,
+    pub limit: Limit,
+}
+
+// Whether a distortion is within the limit.
+fn keeps_to(limit: Limit, distortion: u32) -> bool
+    ensures { λ r. ⌜ r ≡ keeps-to (limit-of limit) distortion ⌝ }
+{
+    match limit {
+        Limit::Free => true,
+        Limit::UpTo(most) => distortion <= most,
+    }
 }
 
 // The line of a job.
@@ -48,9 +68,9 @@ pub fn line_in(job: &[u8], header: Header) -> Line
 }
 
 // The choices of the interval in a place.
-pub fn choices_in(header: Header, pins: &[Choice; 512], place: usize) -> Choices
+pub fn choices_in(header: Header, pins: &[Choice; 512], limit: Limit, place: usize) -> Choices
     requires { ⌜ (length (now pins) ≡ 512) × (header .units ≤ 512) × (place < header .units + header .delay) ⌝ }
-    ensures { λ r. ⌜ ChoicesIn (plain header) (now (pins .entry)) place r ⌝ }
+    ensures { λ r. ⌜ ChoicesIn (plain header) (now (pins .entry)) limit place r ⌝ }
 {
     let delay = header.delay as usize;
     if place < delay {
@@ -58,14 +78,17 @@ pub fn choices_in(header: Header, pins: &[Choice; 512], place: usize) -> Choices
             unit: 0,
             count: 1,
             pin: header::NO_CHOICE,
+            limit,
         };
     }
     let at = place - delay;
     let unit = (at + 1) as u16;
+    let pin = pins[at];
     Choices {
         unit,
         count: header.choices,
-        pin: pins[at],
+        pin,
+        limit,
     }
 }
 
@@ -82,8 +105,10 @@ pub fn candidate_at(job: &[u8], header: Header, choices: Choices, choice: Choice
         };
     }
     let coding = header::coding_at(job, header, choices.unit, choice);
+    let held = interval::pin_holds(choices.pin, choice);
+    let limit = choices.limit;
     Candidate {
-        free: interval::pin_holds(choices.pin, choice),
+        free: held & keeps_to(limit, coding.distortion),
         size: coding.size,
         distortion: coding.distortion,
     }
@@ -104,12 +129,19 @@ fn prices_of(job: &[u8], header: Header, choices: Choices) -> [u32; 256]
 }
 
 // Fills one interval's layer, which is the part's first, from the next, which follows it. Levels that are never reached from the start are filled too.
-fn fill_layer(part: &mut [u32], line: Line, job: &[u8], header: Header, choices: Choices)
+fn fill_layer(
+    part: &mut [u32],
+    line: Line,
+    job: &[u8],
+    header: Header,
+    choices: Choices,
+    measure: Measure,
+)
     requires { ⌜ LineFits line × ChoicesFit (now job) (plain header) choices × (layerWords (line-is line) + layerWords (line-is line) ≤ length (now part)) ⌝ }
-    ensures { λ _. ⌜ now (part .exit) ≡ layer-from _+_ (line-is line) (choices .count) (allowed-is (now (job .entry)) (plain header) choices) (take (layerWords (line-is line)) (drop (layerWords (line-is line)) (now (part .entry)))) ++ drop (layerWords (line-is line)) (now (part .entry)) ⌝ }
+    ensures { λ _. ⌜ now (part .exit) ≡ layer-from (combine measure) (line-is line) (choices .count) (allowed-is (now (job .entry)) (plain header) choices) (take (layerWords (line-is line)) (drop (layerWords (line-is line)) (now (part .entry)))) ++ drop (layerWords (line-is line)) (now (part .entry)) ⌝ }
 {
     let prices = prices_of(job, header, choices);
-    layer::fill_layer(part, line::layer_line(line), &prices, Aim::Total);
+    layer::fill_layer(part, line::layer_line(line), &prices, measure);
 }
 
 // The last layer: nothing is left to add.
@@ -128,12 +160,14 @@ fn fill_layers(
     header: Header,
     line: Line,
     pins: &[Choice; 512],
+    limit: Limit,
+    measure: Measure,
     first: usize,
     last: usize,
     table: &mut [u32],
 )
     requires { ⌜ Fills (now job) (plain header) line (now pins) first last (now table) ⌝ }
-    ensures { λ _. ⌜ now (table .exit) ≡ refilled (job-on (now (job .entry)) line) (lines (header .units) (now (pins .entry))) first (last - first) (now (table .entry)) ⌝ }
+    ensures { λ _. ⌜ now (table .exit) ≡ refilled (combine measure) (job-on (now (job .entry)) line) (open-of (lines (header .units) (now (pins .entry))) limit) first (last - first) (now (table .entry)) ⌝ }
 {
     let size = line::layer_words(line);
     let mut place = last;
@@ -141,28 +175,30 @@ fn fill_layers(
     while first < place {
         place -= 1;
         start -= size;
-        let choices = choices_in(header, pins, place);
-        fill_layer(&mut table[start..], line, job, header, choices);
+        let choices = choices_in(header, pins, limit, place);
+        fill_layer(&mut table[start..], line, job, header, choices, measure);
     }
 }
 
-// Fills the table from layer `first` on, the last layer first.
+// Fills the table from layer `first` on, the last layer first: what of the distortions is least, of the choices that hold the pins and keep to the limit.
 pub fn fill_table(
     job: &[u8],
     header: Header,
     line: Line,
     pins: &[Choice; 512],
+    limit: Limit,
+    measure: Measure,
     first: usize,
     table: &mut [u32],
 )
     requires { ⌜ Starts (now job) (plain header) line (now pins) × (first ≤ header .units + header .delay) × (words (job-on (now job) line) ≤ length (now table)) ⌝ }
-    ensures { λ _. ⌜ now (table .exit) ≡ table-from (job-on (now (job .entry)) line) (lines (header .units) (now (pins .entry))) first (now (table .entry)) ⌝ }
+    ensures { λ _. ⌜ now (table .exit) ≡ table-from (combine measure) (job-on (now (job .entry)) line) (open-of (lines (header .units) (now (pins .entry))) limit) first (now (table .entry)) ⌝ }
 {
     let size = line::layer_words(line);
     let last = entry::intervals(header);
     let start = last * size;
     fill_last(&mut table[start..], size);
-    fill_layers(job, header, line, pins, first, last, table);
+    fill_layers(job, header, line, pins, limit, measure, first, last, table);
 }
 
 // How many words the table of a job with this header has over such buffers.

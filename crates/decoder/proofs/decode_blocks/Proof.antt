@@ -14,10 +14,10 @@ use Rattle.decoder.proofs.decode_blocks.Statement.{statement}
 use Rattle.decoder.proofs.decode_blocks.Tie as tie
 
 abbrev Inv-loop : tie.InvT-loop
-Inv-loop part₀ size width sizes prices aim block₀ left₀ part block left = (left ≤ size) × (length block ≡ 256) × (length part ≡ length part₀) × Made left size (λ i. least-below (length sizes) (λ j. row-offer (combine aim) width (take size part₀) i (priced prices (getD sizes j 0)))) part₀ part
+Inv-loop part₀ size width sizes prices measure block₀ left₀ part block left = (left ≤ size) × (length block ≡ 256) × (length part ≡ length part₀) × Made left size (λ i. least-below (length sizes) (λ j. row-offer (combine measure) width (take size part₀) i (priced prices (getD sizes j 0)))) part₀ part
 
 abbrev μ-loop : tie.MeasureT-loop
-μ-loop part₀ size width sizes prices aim block₀ left₀ part block left = left
+μ-loop part₀ size width sizes prices measure block₀ left₀ part block left = left
 
 loop-holds : tie.Need-loop-holds Inv-loop μ-loop
 loop-holds c = (search needs, refl, refl, made-none _ _ _)

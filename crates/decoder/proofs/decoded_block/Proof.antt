@@ -12,10 +12,10 @@ use Rattle.decoder.proofs.decoded_block.Statement.{statement}
 use Rattle.decoder.proofs.decoded_block.Tie as tie
 
 abbrev Inv-loop : tie.InvT-loop
-Inv-loop block₀ words width sizes prices aim start count offers i₀ block i = (i ≤ offers) × NearestOf count i (λ k j. row-offer (combine aim) width words (start + k) (priced prices (getD sizes j 0))) block
+Inv-loop block₀ words width sizes prices measure start count offers i₀ block i = (i ≤ offers) × NearestOf count i (λ k j. row-offer (combine measure) width words (start + k) (priced prices (getD sizes j 0))) block
 
 abbrev μ-loop : tie.MeasureT-loop
-μ-loop block₀ words width sizes prices aim start count offers i₀ block i = offers - i
+μ-loop block₀ words width sizes prices measure start count offers i₀ block i = offers - i
 
 -- a listed size has its place among the prices
 below : (c : tie.After-shared-slice-known3 Inv-loop μ-loop) → getD (c .before .before .before .before .before .before .before .args .sizes .now) (c .before .before .loop .i) 0 < 256

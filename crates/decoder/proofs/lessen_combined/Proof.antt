@@ -12,10 +12,10 @@ use Rattle.decoder.proofs.lessen_combined.Statement.{statement}
 use Rattle.decoder.proofs.lessen_combined.Tie as tie
 
 abbrev Inv-loop : tie.InvT-loop
-Inv-loop block₀ from words distortion aim count i₀ block i = (i ≤ count) × Lessened from i (λ k. combine aim distortion (getD words k 0)) block₀ block
+Inv-loop block₀ from words distortion measure count i₀ block i = (i ≤ count) × Lessened from i (λ k. combine measure distortion (getD words k 0)) block₀ block
 
 abbrev μ-loop : tie.MeasureT-loop
-μ-loop block₀ from words distortion aim count i₀ block i = count - i
+μ-loop block₀ from words distortion measure count i₀ block i = count - i
 
 loop-holds : tie.Need-loop-holds Inv-loop μ-loop
 loop-holds c = (search needs, lessened-none _ _ _)

@@ -52,7 +52,7 @@ returns : tie.Need-returns
 returns c =
     let b = c .before .before .before in
     let a = b .before .before .before .before in
-    size-made (a .args .aim) _ (a .args .width) (a .args .start) (a .args .words .now) (a .args .size) (a .args .distortion) (a .pre .2) (a .pre .5) (a .pre .1) _ _ _ _ _ (b .before .before .beyond .ensures) (b .before .beyond2 .ensures) (b .beyond3 .ensures) (c .lessen-combined .ensures)
+    size-made (a .args .measure) _ (a .args .width) (a .args .start) (a .args .words .now) (a .args .size) (a .args .distortion) (a .pre .2) (a .pre .5) (a .pre .1) _ _ _ _ _ (b .before .before .beyond .ensures) (b .before .beyond2 .ensures) (b .beyond3 .ensures) (c .lessen-combined .ensures)
 
 pub with-size-spec : {M : Type 1} → statement M
 with-size-spec =

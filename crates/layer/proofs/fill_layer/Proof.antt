@@ -33,7 +33,7 @@ returns c =
     let d = t .before .before .before .before in
     let r = d .before in
     let a = r .before .before .before .before in
-    passes-make (combine (a .args .aim)) (line-is (a .args .line)) 256 (priced (a .args .prices .now)) (a .args .part .now) (d .decode-layer .last .0) (t .send-layer .last .0) (r .row-words .result) (r .before .layer-words .result) (r .row-words .ensures) (r .before .layer-words .ensures) (omega (arith, a .pre .2)) (d .decode-layer .ensures) (t .send-layer .ensures)
+    passes-make (combine (a .args .measure)) (line-is (a .args .line)) 256 (priced (a .args .prices .now)) (a .args .part .now) (d .decode-layer .last .0) (t .send-layer .last .0) (r .row-words .result) (r .before .layer-words .result) (r .row-words .ensures) (r .before .layer-words .ensures) (omega (arith, a .pre .2)) (d .decode-layer .ensures) (t .send-layer .ensures)
 
 pub fill-layer-spec : {M : Type 1} → statement M
 fill-layer-spec =

@@ -19,17 +19,17 @@ add-unit c = search needs
 cast-unit : tie.Need-cast-unit
 cast-unit c = search needs
 
-mul-t8 : tie.Need-mul-t8
-mul-t8 c = search needs
+mul-pin : tie.Need-mul-pin
+mul-pin c = search needs
 
-element-copy-out-t11 : tie.Need-element-copy-out-t11
-element-copy-out-t11 c = search needs
+element-copy-out-pin : tie.Need-element-copy-out-pin
+element-copy-out-pin c = search needs
 
 returns-2 : tie.Need-returns-2
 unfolding plain
-returns-2 c = decodes (c .before .if1 .left) refl refl refl
+returns-2 c = decodes (c .before .if1 .left) refl refl refl refl
 
 pub choices-in-spec : {M : Type 1} → statement M
 choices-in-spec =
     tie.close
-    (tie.spec cast-delay returns add-unit cast-unit mul-t8 element-copy-out-t11 returns-2)
+    (tie.spec cast-delay returns add-unit cast-unit mul-pin element-copy-out-pin returns-2)

@@ -17,7 +17,7 @@ same-length : tie.Need-same-length
 same-length c = search needs
 
 returns : tie.Need-returns
-returns c = let f = c .before .before in let l = f .before .before in let p = l .before .before in let a = p .before .before .before in layer-made (a .args .line) (l .layer-line .result) (l .layer-line .ensures) (a .pre .0) _ _ (a .args .choices) (a .pre .1) (a .args .part .now) (f .fill-layer .last .0) (p .prices-of .result) (p .prices-of .ensures) (f .fill-layer .ensures)
+returns c = let f = c .before .before in let l = f .before .before in let p = l .before .before in let a = p .before .before .before in layer-made (a .args .line) (l .layer-line .result) (l .layer-line .ensures) (a .args .measure) (a .pre .0) _ _ (a .args .choices) (a .pre .1) (a .args .part .now) (f .fill-layer .last .0) (p .prices-of .result) (p .prices-of .ensures) (f .fill-layer .ensures)
 
 pub fill-layer-spec : {M : Type 1} → statement M
 fill-layer-spec =

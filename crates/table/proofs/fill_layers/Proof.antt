@@ -2,7 +2,8 @@
 use Rattle.table.proofs.Tabling.{Filling, filling-none, filling-all, long, starts, room-for-two, filling-more}
 use Rattle.table.proofs.Jobs.{choices-on, few-units}
 use Rattle.line.proofs.Sizes.{layer-small, layer-product}
-use Rattle.table.specs.Answers.{job-on, allowed-is}
+use Rattle.table.specs.Answers.{job-on, open-of, allowed-is}
+use Rattle.decoder.specs.Answers.{combine}
 use Rattle.pinning.specs.PinSet.{lines}
 use Rattle.header.specs.Answers.{plain}
 use Rattle.format.proofs.Opened.{few-intervals}
@@ -16,10 +17,10 @@ use Rattle.table.proofs.fill_layers.Statement.{statement}
 use Rattle.table.proofs.fill_layers.Tie as tie
 
 abbrev Inv-loop : tie.InvT-loop
-Inv-loop job header line pins first last table₀ size place₀ start₀ table place start = Filling (job-on job line) (lines (header .units) pins) last table₀ first place start table
+Inv-loop job header line pins limit measure first last table₀ size place₀ start₀ table place start = Filling (combine measure) (job-on job line) (open-of (lines (header .units) pins) limit) last table₀ first place start table
 
 abbrev μ-loop : tie.MeasureT-loop
-μ-loop job header line pins first last table₀ size place₀ start₀ table place start = place
+μ-loop job header line pins limit measure first last table₀ size place₀ start₀ table place start = place
 
 layer-words-requires : tie.Need-layer-words-requires Inv-loop μ-loop
 layer-words-requires c κs = search needs
@@ -36,7 +37,7 @@ loop-holds : tie.Need-loop-holds Inv-loop μ-loop
 unfolding on-line
 loop-holds c =
     let a = c .before .before .before in
-    filling-none _ _ _ _ _ _ _ (a .pre .ends) refl (ap (λ (n : ℕ). a .args .last * n) (c .layer-words .ensures))
+    filling-none _ _ _ _ _ _ _ _ (a .pre .ends) refl (ap (λ (n : ℕ). a .args .last * n) (c .layer-words .ensures))
 
 -- there is room for two layers, and the table is as long as it was
 two : (c : tie.In-loop Inv-loop μ-loop) → (c .before .before .layer-words .result ≤ c .before .loop .start) × (c .before .loop .start - c .before .before .layer-words .result + (c .before .before .layer-words .result + c .before .before .layer-words .result) ≤ length (c .before .loop .table)) × (length (c .before .loop .table) ≡ length (c .before .before .before .before .before .args .table .now))
@@ -44,7 +45,7 @@ unfolding on-line
 two c =
     let l = c .before in
     let a = l .before .before .before .before in
-    rw (l .before .layer-words .ensures) (starts _ _ _ _ _ (l .loop .place) (l .loop .start) (l .loop .table) (l .loop .inv) (a .pre .room) (c .loop-test .taken), room-for-two _ _ _ _ _ (l .loop .place) (l .loop .start) (l .loop .table) (l .loop .inv) (a .pre .room) (c .loop-test .taken), long _ _ _ _ _ (l .loop .place) (l .loop .start) (l .loop .table) (l .loop .inv) (a .pre .room))
+    rw (l .before .layer-words .ensures) (starts _ _ _ _ _ _ (l .loop .place) (l .loop .start) (l .loop .table) (l .loop .inv) (a .pre .room) (c .loop-test .taken), room-for-two _ _ _ _ _ _ (l .loop .place) (l .loop .start) (l .loop .table) (l .loop .inv) (a .pre .room) (c .loop-test .taken), long _ _ _ _ _ _ (l .loop .place) (l .loop .start) (l .loop .table) (l .loop .inv) (a .pre .room))
 
 sub-place : tie.Need-sub-place Inv-loop μ-loop
 sub-place c = search needs
@@ -74,7 +75,7 @@ fill-layer-requires : tie.Need-fill-layer-requires Inv-loop μ-loop
 fill-layer-requires c κs =
     let b = c .before in
     let a = b .before .before .before .before .before .before in
-    let d = choices-on _ _ (a .args .line) _ _ _ (a .pre .starts) (omega (arith, b .before .before .loop .inv .high, a .pre .few)) (b .choices-in .ensures) in
+    let d = choices-on _ _ (a .args .line) _ _ _ _ (a .pre .starts) (omega (arith, b .before .before .loop .inv .high, a .pre .few)) (b .choices-in .ensures) in
     (a .pre .starts .line, d .fits, rw (← b .before .before .before .layer-words .ensures) (simp (length-take, length-drop) (omega (arith, two (b .before)))))
 
 loop-less : tie.Need-loop-less Inv-loop μ-loop
@@ -86,18 +87,18 @@ loop-again c =
     let b = c .before .before .before .before in
     let l = b .before .before in
     let a = l .before .before .before .before in
-    let d = choices-on (a .args .job .now) (plain (a .args .header)) (a .args .line) _ _ _ (a .pre .starts) (omega (arith, l .loop .inv .high, a .pre .few)) (b .choices-in .ensures) in
-    filling-more _ _ _ _ _ (l .loop .place) (l .loop .start) (l .loop .table) (l .loop .inv) (a .pre .room) (b .before .loop-test .taken) _ (l .before .layer-words .ensures) _ _ (allowed-is (a .args .job .now) (plain (a .args .header)) (b .choices-in .result)) refl (d .count) (d .each) _ (c .before .before .fill-layer .ensures)
+    let d = choices-on (a .args .job .now) (plain (a .args .header)) (a .args .line) _ _ _ _ (a .pre .starts) (omega (arith, l .loop .inv .high, a .pre .few)) (b .choices-in .ensures) in
+    filling-more _ _ _ _ _ _ (l .loop .place) (l .loop .start) (l .loop .table) (l .loop .inv) (a .pre .room) (b .before .loop-test .taken) _ (l .before .layer-words .ensures) _ _ (allowed-is (a .args .job .now) (plain (a .args .header)) (b .choices-in .result)) refl (d .count) (d .each) _ (c .before .before .fill-layer .ensures)
 
 same-length : tie.Need-same-length Inv-loop μ-loop
 unfolding on-line
 same-length c =
     let l = c .before in
     let a = l .before .before .before .before in
-    long _ _ _ _ _ (l .loop .place) (l .loop .start) (l .loop .table) (l .loop .inv) (a .pre .room)
+    long _ _ _ _ _ _ (l .loop .place) (l .loop .start) (l .loop .table) (l .loop .inv) (a .pre .room)
 
 returns : tie.Need-returns Inv-loop μ-loop
-returns c = let l = c .before in filling-all _ _ _ _ _ (l .loop .place) (l .loop .start) (l .loop .table) (l .loop .inv) (c .loop-test .left)
+returns c = let l = c .before in filling-all _ _ _ _ _ _ (l .loop .place) (l .loop .start) (l .loop .table) (l .loop .inv) (c .loop-test .left)
 
 pub fill-layers-spec : {M : Type 1} → statement M
 fill-layers-spec =

@@ -1,8 +1,9 @@
 -- `table::fill_table` meets its contract.
-use Rattle.table.proofs.Tabling.{room-for-last, last-written, table-filled}
+use Rattle.table.proofs.Tabling.{combine-combines, room-for-last, last-written, table-filled}
 use Rattle.line.proofs.Sizes.{layer-small, layer-product}
 use Rattle.line.specs.Answers.{line-is}
-use Rattle.table.specs.Answers.{job-on}
+use Rattle.decoder.specs.Answers.{combine}
+use Rattle.table.specs.Answers.{job-on, open-of}
 use Rattle.planning.proofs.Refilling.{last-long}
 use Rattle.pinning.specs.PinSet.{lines}
 use Rattle.header.specs.Answers.{plain}
@@ -86,7 +87,7 @@ fill-layers-requires c κs =
       starts = a .pre .0;
       ends = omega (arith, i .intervals .ensures, a .pre .1);
       few = omega (arith, i .intervals .ensures);
-      room = rw (last-long _ (lines (a .args .header .units) (a .args .pins .now)) (small i) (a .args .table .now) _ (a .pre .2) e) (room-on i);
+      room = rw (last-long (combine (a .args .measure)) _ (open-of (lines (a .args .header .units) (a .args .pins .now)) (a .args .limit)) (combine-combines (a .args .measure)) (small i) (a .args .table .now) _ (a .pre .2) e) (room-on i);
     }
 
 same-length : tie.Need-same-length
@@ -99,9 +100,9 @@ returns c =
     let f = g .before .before .before .before in
     let i = f .before .before in
     let a = i .before .before .before .before in
-    let m = lines (a .args .header .units) (a .args .pins .now) in
+    let m = open-of (lines (a .args .header .units) (a .args .pins .now)) (a .args .limit) in
     let e = last-written (job-on (a .args .job .now) (a .args .line)) (a .args .table .now) (f .fill-last .last .0) (i .intervals .result) (i .before .layer-words .result) (total-is i) (size-is i) (f .fill-last .ensures) in
-    table-filled _ m (small i) (a .args .table .now) _ _ (a .pre .2) e (a .args .first) (i .intervals .result) (omega (arith, a .pre .1, i .intervals .ensures, total-is i)) (total-is i) (g .fill-layers .ensures)
+    table-filled _ (combine-combines (a .args .measure)) _ m (small i) (a .args .table .now) _ _ (a .pre .2) e (a .args .first) (i .intervals .result) (omega (arith, a .pre .1, i .intervals .ensures, total-is i)) (total-is i) (g .fill-layers .ensures)
 
 pub fill-table-spec : {M : Type 1} → statement M
 fill-table-spec =
