@@ -109,7 +109,13 @@ fn combined(distortion: u32, number: u32, measure: Measure) -> u32
 }
 
 // Lessens the numbers from a place on to what a distortion and other numbers come to.
-fn lessen_combined(block: &mut [u32; 256], from: usize, words: &[u32], distortion: u32, measure: Measure)
+fn lessen_combined(
+    block: &mut [u32; 256],
+    from: usize,
+    words: &[u32],
+    distortion: u32,
+    measure: Measure,
+)
     requires { ⌜ (length (now block) ≡ 256) × (length (now words) ≤ 256 - from) × (distortion ≤ bound) × Upto (length (now words)) far (now words) × Upto (length (now words)) far (drop from (now block)) ⌝ }
     ensures { λ _. ⌜ Lessened from (length (now (words .entry))) (λ i. combine measure distortion (getD (now (words .entry)) i 0)) (now (block .entry)) (now (block .exit)) ⌝ }
 {
@@ -234,7 +240,13 @@ fn list_sizes(sizes: &mut [u8; 256], prices: &[u32; 256], limit: usize) -> usize
 }
 
 // The whole pass: from the next layer to the place of this one.
-pub fn decode_layer(part: &mut [u32], size: usize, width: usize, prices: &[u32; 256], measure: Measure)
+pub fn decode_layer(
+    part: &mut [u32],
+    size: usize,
+    width: usize,
+    prices: &[u32; 256],
+    measure: Measure,
+)
     requires { ⌜ (length (now prices) ≡ 256) × (0 < width) × (width ≤ 65536) × (size + size ≤ length (now part)) ⌝ }
     ensures { λ _. ⌜ Made 0 size (λ i. least-below 256 (λ x. row-offer (combine measure) width (take size (drop size (now (part .entry)))) i (priced (now (prices .entry)) x))) (now (part .entry)) (now (part .exit)) ⌝ }
 {

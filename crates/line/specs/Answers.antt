@@ -1,5 +1,5 @@
 -- What the structs of this crate mean in the terms of `model`, and what its functions say and ask.
-use Prim.Native.Nat.{ℕ, _<_, _≤_}
+use Prim.Native.Nat.{ℕ, _+_, _*_, _<_, _≤_}
 use mathlib.Core.Path.{_≡_}
 use mathlib.Core.Bool.{true}
 use mathlib.Core.Option.{Option}
@@ -8,6 +8,7 @@ use lib.ListN.{length, getD, take}
 use Rattle.base.specs.If.{one-if}
 use Rattle.model.specs.Job as model
 use Rattle.model.specs.Step.{Outcome, outcome-of}
+use Rattle.model.specs.Table.{InLayer, layerWords}
 use Rattle.format.specs.Choices.{no-choice, choice-of}
 use Rattle.interval.specs.declared.Buffers.{Buffers}
 use Rattle.interval.specs.declared.Levels.{Levels}
@@ -46,6 +47,13 @@ pub record LineFits (l : Line) : Type 0 where
   pub rates : l .count ≤ 16
   pub rate : (y : ℕ) → y < l .count → getD (l .rates) y 0 ≤ 4095
   pub size : length (l .rates) ≡ 16
+
+-- a layer that is whole, and levels in it
+pub record WordAsked (table : List ℕ) (l : Line) (place : ℕ) (s : model.Levels) : Type 0 where
+  pub line : LineFits l
+  pub few : place ≤ 577
+  pub room : place * layerWords (line-is l) + layerWords (line-is l) ≤ length table
+  pub inside : InLayer (line-is l) s
 
 -- the line as layers are filled: the same, or with a bucket in front that drains every rate
 pub data FilledAs (line : model.Line) (as-filled : model.Line) : Type 0 where

@@ -5,11 +5,11 @@ ghost use mathlib.Core.List.{[]};
 ghost use Prim.Native.Nat.{_+_, _≤_};
 ghost use lib.ListN.{length};
 ghost use Rattle.base.specs.If.{one-if};
-ghost use Rattle.model.specs.Table.{span, layerWords, tops, flat, place, wordIn};
+ghost use Rattle.model.specs.Table.{span, layerWords, tops, flat, place, layerOf, wordIn};
 ghost use Rattle.interval.specs.Answers.{levels-of, line-of};
 ghost use Rattle.planning.specs.Rule.{coding-offer};
 ghost use Rattle.planning.specs.Passes.{charged};
-ghost use Rattle.line.specs.Answers.{line-is, candidate-is, second-sizes, LineFits, LayerLine, IntervalOf};
+ghost use Rattle.line.specs.Answers.{line-is, candidate-is, second-sizes, LineFits, WordAsked, LayerLine, IntervalOf};
 use interval::Buffers;
 use interval::Interval;
 use interval::Levels;
@@ -77,6 +77,16 @@ pub fn word_place(line: Line, at: Levels) -> usize
     let each = second_levels(line.buffers);
     let row = (line.buffers.bucket as usize + 1) * each;
     at.decoder as usize * row + at.bucket as usize * each + second_place(line.buffers, at)
+}
+
+// The word of levels in the layer of a table after so many intervals.
+pub fn word_at(table: &[u32], line: Line, place: usize, at: Levels) -> u32
+    requires { ⌜ WordAsked (now table) line place (levels-of at) ⌝ }
+    ensures { λ r. ⌜ r ≡ wordIn (line-is line) (layerOf (line-is line) (now (table .entry)) place) (levels-of at) ⌝ }
+{
+    let start = place * layer_words(line);
+    let here = start + word_place(line, at);
+    table[here]
 }
 
 // A distortion and a word of the next layer, or none where the word cannot be completed.

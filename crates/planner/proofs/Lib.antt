@@ -1,6 +1,2 @@
 -- Laws that belong to no one function.
-pub mod Searching
-pub mod Places
-pub mod Moves
-pub mod Plans
 pub mod Answering

@@ -29,7 +29,7 @@ unfolding planned answered
 returns c =
     let n = c .before in
     let check = n .before .before .check in
-    plan-refused _ _ _ _ _ (answer-refused _ (check .result) _ (check .ensures .1) (n .n .given .1))
+    plan-refused _ _ _ _ _ _ _ (answer-refused _ (check .result) _ (check .ensures .1) (n .n .given .1))
 
 same-length : tie.Need-same-length
 same-length c = search needs

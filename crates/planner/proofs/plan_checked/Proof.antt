@@ -1,7 +1,6 @@
 -- `planner::plan_checked` meets its contract.
 use Rattle.header.specs.Answers.{plain}
 use Rattle.planner.proofs.Answering.{plans-from, plan-from-start}
-use Rattle.planner.specs.Answers.{order-is}
 use Rattle.pinset.specs.Answers.{set-of}
 use mathlib.Core.Path.{_∙_}
 use borrow.Author.Needs.{needs}
@@ -27,10 +26,10 @@ same-length-2 : tie.Need-same-length-2
 same-length-2 c = search needs
 
 returns : tie.Need-returns
-unfolding plain set-of order-is
+unfolding plain set-of
 returns c =
     let p = c .before .before .before .before in
-    p .plan-from .ensures ∙ plan-from-start _ _ _ (p .before .before .before .before .before .before .before .before .before .before .pre) _ (p .before .before .before .before .before .line-in .ensures) _ (p .before .before .before .before .start .ensures) _ _
+    p .plan-from .ensures ∙ plan-from-start _ _ _ (p .before .before .before .before .before .before .before .before .before .before .pre) _ (p .before .before .before .before .before .line-in .ensures) _ (p .before .before .before .before .start .ensures) _ _ _ _
 
 pub plan-checked-spec : {M : Type 1} → statement M
 plan-checked-spec =

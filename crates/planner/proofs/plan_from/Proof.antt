@@ -1,6 +1,6 @@
 -- `planner::plan_from` meets its contract.
 use Rattle.pinning.specs.PinSet.{lines}
-use Rattle.model.specs.Best.{late}
+use Rattle.model.specs.Best.{late, total}
 use mathlib.Core.List.{[]}
 use Rattle.planner.proofs.Answering.{over-fits, from-11, from-12, searches, from-searched}
 use Rattle.planner.specs.Answers.{answered, planned}
@@ -13,11 +13,11 @@ use Rattle.planner.proofs.plan_from.Tie as tie
 
 words-over-requires : tie.Need-words-over-requires
 unfolding plain
-words-over-requires c κs = over-fits _ _ _ _ _ _ [] [] (lines 0 []) late (c .before .before .before .pre)
+words-over-requires c κs = over-fits _ _ _ _ _ _ [] [] (lines 0 []) total late (c .before .before .before .pre)
 
 returns : tie.Need-returns
 unfolding planned answered
-returns c = from-11 _ _ _ _ _ _ _ _ _ _ (c .before .before .before .before .before .pre) (omega (arith, c .before .words-over .ensures, c .if1 .taken))
+returns c = from-11 _ _ _ _ _ _ _ _ _ _ _ (c .before .before .before .before .before .pre) (omega (arith, c .before .words-over .ensures, c .if1 .taken))
 
 intervals-requires : tie.Need-intervals-requires
 intervals-requires c κs = search needs
@@ -32,12 +32,12 @@ mul-if2 c = search needs
 returns-2 : tie.Need-returns-2
 unfolding plain planned answered
 returns-2 c =
-    from-12 _ _ _ _ _ _ _ _ _ _ (c .before .before .before .before .before .before .before .pre) (omega (arith, c .before .before .before .words-over .ensures, c .before .before .if1 .left)) (omega (arith, c .before .intervals .ensures, c .if2 .taken))
+    from-12 _ _ _ _ _ _ _ _ _ _ _ (c .before .before .before .before .before .before .before .pre) (omega (arith, c .before .before .before .words-over .ensures, c .before .before .if1 .left)) (omega (arith, c .before .intervals .ensures, c .if2 .taken))
 
 search-requires : tie.Need-search-requires
 unfolding plain
 search-requires c κs =
-    searches _ _ _ _ _ _ _ _ (lines 0 []) late (c .before .before .before .before .before .before .before .before .before .pre) (omega (arith, c .before .before .before .before .before .words-over .ensures, c .before .before .before .before .if1 .left)) (omega (arith, c .before .before .before .intervals .ensures, c .before .before .if2 .left))
+    searches _ _ _ _ _ _ _ _ (lines 0 []) total late (c .before .before .before .before .before .before .before .before .before .pre) (omega (arith, c .before .before .before .before .before .words-over .ensures, c .before .before .before .before .if1 .left)) (omega (arith, c .before .before .before .intervals .ensures, c .before .before .if2 .left))
 
 same-length : tie.Need-same-length
 same-length c = search needs
@@ -49,7 +49,7 @@ returns-3 : tie.Need-returns-3
 unfolding plain
 returns-3 c =
     let s = c .before .before .before .before in
-    s .search .ensures ∙ from-searched _ _ _ _ _ _ _ _ _ _ (s .before .before .before .before .before .before .before .before .before .before .pre) (omega (arith, s .before .before .before .before .before .before .words-over .ensures, s .before .before .before .before .before .if1 .left)) (omega (arith, s .before .before .before .before .intervals .ensures, s .before .before .before .if2 .left))
+    s .search .ensures ∙ from-searched _ _ _ _ _ _ _ _ _ _ _ (s .before .before .before .before .before .before .before .before .before .before .pre) (omega (arith, s .before .before .before .before .before .before .words-over .ensures, s .before .before .before .before .before .if1 .left)) (omega (arith, s .before .before .before .before .intervals .ensures, s .before .before .before .if2 .left))
 
 pub plan-from-spec : {M : Type 1} → statement M
 plan-from-spec =

@@ -9,9 +9,8 @@ use lib.ListN.{length, drop, length-append}
 use Rattle.trellis.specs.Trellis.{best}
 use Rattle.model.specs.Job as model
 use Rattle.model.specs.Job.{bucketAt, Job, Entry, on-line, intervals}
-use Rattle.model.specs.Pins.{PinMap}
 use Rattle.model.specs.Replay.{totals}
-use Rattle.model.specs.Best.{Order, best-plan}
+use Rattle.model.specs.Best.{Order, Open, best-plan}
 use Rattle.format.proofs.Choices.{number-back}
 use Rattle.replaying.specs.Entries.{entry-size, one-entry, entry-bytes}
 use Rattle.base.specs.If.{one-if}
@@ -27,8 +26,8 @@ use Rattle.entry.specs.Answers.{entry-numbers}
 use Rattle.line.specs.declared.Line.{Line}
 use Rattle.line.specs.Answers.{line-is, BuffersFit}
 use Rattle.table.specs.Answers.{job-on}
-use Rattle.planner.specs.declared.Move.{Move}
-use Rattle.planner.specs.Answers.{Standing, BestMove, PlanRead}
+use Rattle.best.specs.declared.Move.{Move}
+use Rattle.best.specs.Answers.{Standing, BestMove, PlanRead}
 
 -- the buckets of a line, and what they drain
 pub line-buckets : (b : List ℕ) (l : Line) → line-of (l .buffers) [] .buckets ≡ job-on b l .line .buckets
@@ -45,7 +44,7 @@ drains-most k f (suc i) h = go (k .two) refl i h
     go true e (suc i) h = absurd (unfold one-if in (omega arith))
     go false e i h = absurd (unfold one-if in (omega arith))
 
-module _ (j : Job) (m : PinMap) (o : Order) (first : ℕ) (start : model.Levels) (entries₀ : List ℕ) where
+module _ (j : Job) (m : Open) (o : Order) (first : ℕ) (start : model.Levels) (entries₀ : List ℕ) where
   -- the entries of the places before this one are written, and the rest of the plan is the best from the levels that they lead to
   pub record ReadTo (place : ℕ) (at : Levels) (sum : Totals) (entries : List ℕ) : Type 0 where
     pub done : List Entry
@@ -56,7 +55,7 @@ module _ (j : Job) (m : PinMap) (o : Order) (first : ℕ) (start : model.Levels)
     pub list : entries ≡ entry-bytes done ++ drop (entry-size * (place - first)) entries₀
     pub size : length entries ≡ length entries₀
 
-module _ (j : Job) (m : PinMap) (o : Order) (first : ℕ) (start : model.Levels) (entries₀ : List ℕ) where
+module _ (j : Job) (m : Open) (o : Order) (first : ℕ) (start : model.Levels) (entries₀ : List ℕ) where
   pub read-start : (at : Levels) (sum : Totals) → levels-of at ≡ start → totals-of sum ≡ no-totals (j .line .buckets) → Standing j m first start → ReadTo j m o first start entries₀ first at sum entries₀
   unfolding entry-bytes
   read-start at sum e q s =

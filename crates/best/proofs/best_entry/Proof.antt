@@ -1,10 +1,10 @@
--- `planner::best_entry` meets its contract.
-use Rattle.planner.proofs.Places.{spans, offered, first-found}
+-- `best::best_entry` meets its contract.
+use Rattle.best.proofs.Places.{spans, offered, first-found}
 use mathlib.Core.Path.{refl}
 use native.Mathlib.Omega.{arith}
 use borrow.Author.Needs.{needs}
-use Rattle.planner.proofs.best_entry.Statement.{statement}
-use Rattle.planner.proofs.best_entry.Tie as tie
+use Rattle.best.proofs.best_entry.Statement.{statement}
+use Rattle.best.proofs.best_entry.Tie as tie
 
 layer-words-requires : tie.Need-layer-words-requires
 layer-words-requires c κs = search needs

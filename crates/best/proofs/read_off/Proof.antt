@@ -1,9 +1,9 @@
--- `planner::read_off` meets its contract.
-use Rattle.planner.proofs.Plans.{ReadTo, read-start, read-on, read-end}
-use Rattle.planner.proofs.Plans.{line-buckets, drains-most}
+-- `best::read_off` meets its contract.
+use Rattle.best.proofs.Plans.{ReadTo, read-start, read-on, read-end}
+use Rattle.best.proofs.Plans.{line-buckets, drains-most}
 use Rattle.line.specs.Answers.{line-is}
-use Rattle.table.specs.Answers.{job-on}
-use Rattle.planner.specs.Answers.{order-is}
+use Rattle.table.specs.Answers.{job-on, open-of}
+use Rattle.best.specs.Answers.{order-is}
 use Rattle.format.specs.JobBytes.{job-in}
 use Rattle.format.proofs.Opened.{few-intervals, intervals-are}
 use Rattle.model.proofs.Lines.{intervals-on}
@@ -15,14 +15,14 @@ use Rattle.model.specs.Job.{on-line}
 use Prim.Native.Nat.{_-_, _<_, _≤_}
 use native.Mathlib.Omega.{arith}
 use borrow.Author.Needs.{needs}
-use Rattle.planner.proofs.read_off.Statement.{statement}
-use Rattle.planner.proofs.read_off.Tie as tie
+use Rattle.best.proofs.read_off.Statement.{statement}
+use Rattle.best.proofs.read_off.Tie as tie
 
 abbrev Inv-loop : tie.InvT-loop
-Inv-loop order job header line pins table first entries₀ total at₀ sum₀ place₀ entries at sum place = (first ≤ place) × (place ≤ total) × ReadTo (job-on job line) (lines (header .units) pins) (order-is order) first (levels-of at₀) entries₀ place at sum entries
+Inv-loop order job header line pins limit table first entries₀ total at₀ sum₀ place₀ entries at sum place = (first ≤ place) × (place ≤ total) × ReadTo (job-on job line) (open-of (lines (header .units) pins) limit) (order-is order) first (levels-of at₀) entries₀ place at sum entries
 
 abbrev μ-loop : tie.MeasureT-loop
-μ-loop order job header line pins table first entries₀ total at₀ sum₀ place₀ entries at sum place = total - place
+μ-loop order job header line pins limit table first entries₀ total at₀ sum₀ place₀ entries at sum place = total - place
 
 intervals-requires : tie.Need-intervals-requires Inv-loop μ-loop
 intervals-requires c κs = search needs

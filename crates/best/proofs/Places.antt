@@ -22,7 +22,7 @@ use Rattle.line.specs.declared.Line.{Line}
 use Rattle.table.specs.declared.Choices.{Choices}
 use Rattle.line.specs.Answers.{line-is}
 use Rattle.table.specs.Answers.{allowed-is}
-use Rattle.planner.specs.Answers.{Offers, Attained, Layered}
+use Rattle.best.specs.Answers.{Offers, Attained, Layered}
 use Rattle.line.proofs.Sizes.{layer-small}
 
 -- the words before a layer, before the next and before the one after it, for layers of this size; i is a place in a layer

@@ -1,11 +1,11 @@
--- `planner::first_entry` meets its contract.
-use Rattle.planner.proofs.Searching.{pair-passed, row-passed, all-passed, first-found}
-use Rattle.planner.proofs.Searching.{candidate-offers}
+-- `best::first_entry` meets its contract.
+use Rattle.best.proofs.Searching.{pair-passed, row-passed, all-passed, first-found}
+use Rattle.best.proofs.Searching.{candidate-offers}
 use Rattle.line.proofs.Sizes.{rates-count}
 use Rattle.header.specs.Answers.{plain}
 use Rattle.line.specs.Answers.{line-is}
 use Rattle.table.specs.Answers.{allowed-is}
-use Rattle.planner.specs.Answers.{order-is}
+use Rattle.best.specs.Answers.{order-is}
 use Rattle.planning.specs.Rule.{pair-offer}
 use Rattle.interval.specs.Answers.{levels-of}
 use Rattle.model.specs.Best.{turn}
@@ -19,8 +19,8 @@ use mathlib.Core.Path.{_≡_, sym, _∙_}
 use Prim.Native.Nat.{_+_, _<_, _≤_, _-_}
 use native.Mathlib.Omega.{arith}
 use borrow.Author.Needs.{needs}
-use Rattle.planner.proofs.first_entry.Statement.{statement}
-use Rattle.planner.proofs.first_entry.Tie as tie
+use Rattle.best.proofs.first_entry.Statement.{statement}
+use Rattle.best.proofs.first_entry.Tie as tie
 
 abbrev Inv-loop : tie.InvT-loop
 Inv-loop order next job header choices from word line rates count found₀ at rate sent choice₀ found choice = (choice ≤ count) × (first-at (pair-offer _+_ (line-is line) (allowed-is job (plain header) choices) (wordIn (line-is line) next) (levels-of from)) word (rows (turn (order-is order) rates) at count ++ row rate choice) ≡ none)

@@ -15,8 +15,7 @@ use Rattle.model.specs.Job as model
 use Rattle.model.specs.Job.{Coding, on-line, intervals, coding, sends, takes, distorts}
 use Rattle.model.specs.Admissible.{Violation}
 use Rattle.model.specs.Step.{violates, reaches}
-use Rattle.model.specs.Pins.{PinMap}
-use Rattle.model.specs.Best.{Order, pairs, entry, reached}
+use Rattle.model.specs.Best.{Order, Open, pairs, entry, reached}
 use Rattle.model.specs.Table.{layerWords, words, layerOf, wordIn, IsTable, Bounded}
 use Rattle.model.proofs.Steps.{reaches-after-sending}
 use Rattle.model.proofs.Lines.{intervals-on, bounded-on, choice-on, coding-on}
@@ -36,11 +35,12 @@ use Rattle.planning.proofs.Layers.{layers-table}
 use Rattle.planning.proofs.Reading.{FirstPair, first-pair, here-is}
 use Rattle.line.specs.declared.Line.{Line}
 use Rattle.table.specs.declared.Choices.{Choices}
+use Rattle.table.specs.declared.Limit.{Limit}
 use Rattle.line.specs.declared.Candidate.{Candidate}
 use Rattle.decoder.specs.Answers.{coding-if}
 use Rattle.line.specs.Answers.{line-is, candidate-is, IntervalOf, step-of}
-use Rattle.table.specs.Answers.{job-on, allowed-is, ChoicesFit, CandidateOf, ChoicesIn, ChoicesOf, Starts}
-use Rattle.planner.specs.Answers.{Layered, Reached, chosen, Standing, Moves, BestMove}
+use Rattle.table.specs.Answers.{job-on, open-of, allowed-is, ChoicesFit, CandidateOf, ChoicesIn, ChoicesOf, Starts}
+use Rattle.best.specs.Answers.{Layered, Reached, chosen, Standing, Moves, BestMove}
 use Rattle.line.proofs.Sizes.{rates-count}
 use Rattle.table.proofs.Jobs.{choices-on}
 use Rattle.line.proofs.Offers.{line-steps}
@@ -68,12 +68,12 @@ one-end : (s u : model.Levels) → reaches s ≡ reaches u → s ≡ u
 unfolding reached
 one-end s u e = Option·some-injective s u (ap reached e)
 
-module _ (o : Order) (b : List ℕ) (h : Header) (l : Line) (pins table : List ℕ) (place : ℕ) (at : Levels) (asks : Moves b (plain h) l pins table place (levels-of at)) where
+module _ (o : Order) (b : List ℕ) (h : Header) (l : Line) (pins : List ℕ) (limit : Limit) (table : List ℕ) (place : ℕ) (at : Levels) (asks : Moves b (plain h) l pins limit table place (levels-of at)) where
   abbrev J : model.Job
   J = job-on b l
 
-  abbrev M : PinMap
-  M = lines (h .units) pins
+  abbrev M : Open
+  M = open-of (lines (h .units) pins) limit
 
   st : Starts b (plain h) l pins
   st = asks .starts
@@ -102,10 +102,10 @@ module _ (o : Order) (b : List ℕ) (h : Header) (l : Line) (pins table : List �
   word-here = here-is J M o table place (levels-of at) (s .value) small is-table before-end (s .inside) (s .least-is)
 
   -- with the choices of the interval
-  module _ (c : Choices) (told : ChoicesIn (plain h) pins place c) where
+  module _ (c : Choices) (told : ChoicesIn (plain h) pins limit place c) where
     ch : ChoicesOf b (plain h) J M place c
     unfolding plain
-    ch = choices-on b (plain h) l pins place c st (asks .before) told
+    ch = choices-on b (plain h) l pins limit place c st (asks .before) told
 
     -- the same, in the terms of the code
     abbrev First : Pair → Type 0
