@@ -1,10 +1,15 @@
 -- Sessions of calls: alone, `CallSessions`; with planning, `Sessions` and `SessionKeeps`; with a replay, `ReplaySessions` and `ReplaySessionKeeps`.
-use Prim.Native.Nat.{ℕ, _+_, _*_, _/_, _≤_}
+use Prim.Native.Nat.{ℕ, zero, suc, _+_, _*_, _/_, _≤_}
 use mathlib.Core.Path.{_≡_, refl, sym, _∙_, ap, ap₂}
+use mathlib.Core.Logic.{_↔_, inl, inr}
+use mathlib.Core.Bool.{true}
 use mathlib.Core.Option.{none, some}
 use mathlib.Core.List.{List, [], _∷_, _++_, map}
+use native.Mathlib.Omega.{arith}
+use lib.Dec.{leb}
 use lib.ListN.{length}
 use borrow.Author.Tests.{leb-true, le-leb}
+use Rattle.base.specs.If.{if_then_else_}
 use Rattle.base.specs.Answer.{Answer, refused, gives}
 use Rattle.base.specs.Refusals.{Test, refusal, unless, condition, guarded, InOrder}
 use Rattle.base.specs.Lent.{Ended, over, put}
@@ -14,7 +19,6 @@ use Rattle.base.proofs.Lent.{put-given, put-refused}
 use Rattle.base.proofs.Lent as lent-laws
 use Rattle.model.specs.Job.{Job, intervals}
 use Rattle.model.specs.Pins.{PinTotals, pin-totals}
-use Rattle.model.specs.Best.{late}
 use Rattle.model.specs.Replay.{Totals}
 use Rattle.model.specs.Table.{words}
 use Rattle.format.specs.Parser.{Result, took, on-read, refusal-in}
@@ -35,9 +39,28 @@ use Rattle.planning.specs.Claims.{PlanClaim}
 use Rattle.planning.proofs.DemandThree.{demand-three}
 use Rattle.planning.proofs.Refusals as planning
 use Rattle.calling.specs.Commands.{calls-of, calls-tests}
-use Rattle.calling.specs.Sessions.{made, answer-number, numbers, answers-tests, calls-refusal, calls-call, Session, refuse, session-tests, plan-refusal, planned-after, session-call, replay-refusal, replay-session}
-use Rattle.calling.specs.Claims.{AllKinds, Whole, book-numbers, book-pins, SessionClaim, SessionKeeping, CallSessions, Sessions, SessionKeeps, ReplaySessions, ReplaySessionKeeps}
+use Rattle.calling.specs.Sessions.{made, answer-number, numbers, aim-named, order-named, named-tests, answers-tests, calls-refusal, calls-call, Session, refuse, session-tests, plan-refusal, planned-after, session-call, replay-refusal, replay-session}
+use Rattle.calling.specs.Claims.{Either, Named, AllKinds, Whole, book-numbers, book-pins, SessionClaim, SessionKeeping, CallSessions, Sessions, SessionKeeps, ReplaySessions, ReplaySessionKeeps}
 use Rattle.calling.proofs.Numbers.{calls-decide}
+
+-- a number names an aim or an order exactly where it is 0 or 1
+one-of-two : (n : ℕ) → (leb n 1 ≡ true) ↔ Either n
+one-of-two n = (λ e. go n (leb-true n 1 e), λ e. le-leb n 1 (low e))
+  where
+    go : (n : ℕ) → n ≤ 1 → Either n
+    go zero h = inl refl
+    go (suc n) h = inr (omega arith)
+
+    low : Either n → n ≤ 1
+    low (inl e) = omega arith
+    low (inr e) = omega arith
+
+named-decide : (aim order : ℕ) → Decides (named-tests aim order) (condition 2 (Either aim) ∷ condition 2 (Either order) ∷ [])
+named-decide aim order = one-more refl (one-of-two aim) (one-more refl (one-of-two order) no-more)
+
+pub named : Named
+unfolding aim-named order-named if_then_else_
+named = record { total-is = refl; even-is = refl; early-is = refl; late-is = refl }
 
 -- after any calls the set holds what the book does
 module _ (b : List ℕ) (j : Job) (k : ℕ) (parsed : parse b ≡ took j k) (calls : List ℕ) where
@@ -62,16 +85,16 @@ call-sessions b calls answers =
     done j k e = unfold made in (ap₂ (λ (t : PinTotals) (l : List ℕ). record { answer = gives t; list = over l answers }) (history b j k e (calls-of calls) .totals) (numbers-are b j k e calls))
 
 -- with planning
-module _ (b calls answers table entries : List ℕ) where
+module _ (b calls : List ℕ) (aim order : ℕ) (answers table entries : List ℕ) where
   module _ (j : Job) (k : ℕ) (parsed : parse b ≡ took j k) (room : words j ≤ length table) (space : entry-size * intervals j ≤ length entries) where
     planned : Planned
-    planned = plan-call b (made b calls .set) table entries
+    planned = plan-call b (made b calls .set) (aim-named aim) (order-named order) table entries
 
-    claim : PlanClaim j (book-pins j calls) late 0 (j .start) table entries planned
+    claim : PlanClaim j (book-pins j calls) (aim-named aim) (order-named order) 0 (j .start) table entries planned
     unfolding made planned
-    claim = demand-three b j k parsed (calls-of calls) .planning table entries room space
+    claim = demand-three b j k parsed (calls-of calls) .planning (aim-named aim) (order-named order) table entries room space
 
-    session-claim : SessionClaim j calls answers table entries (planned-after b calls answers table entries)
+    session-claim : SessionClaim j calls aim order answers table entries (planned-after b calls aim order answers table entries)
     unfolding planned-after planned
     session-claim = record {
       answered = λ f. put-given _ _ (λ (t : Totals). numbers b calls) answers (claim .else-best f .totals-are) ∙ ap (λ (l : List ℕ). over l answers) (numbers-are b j k parsed calls);
@@ -79,44 +102,44 @@ module _ (b calls answers table entries : List ℕ) where
       planning = claim;
     }
 
-  pub session-decides : (j : Job) → Decides (session-tests j calls (length answers) (length table) (length entries)) (condition 2 (AllKinds calls) ∷ condition 1 (Whole calls) ∷ condition 11 (words j ≤ length table) ∷ condition 12 (length calls / 3 ≤ length answers) ∷ condition 12 (entry-size * intervals j ≤ length entries) ∷ [])
+  pub session-decides : (j : Job) → Decides (session-tests j calls aim order (length answers) (length table) (length entries)) (condition 2 (Either aim) ∷ condition 2 (Either order) ∷ condition 2 (AllKinds calls) ∷ condition 1 (Whole calls) ∷ condition 11 (words j ≤ length table) ∷ condition 12 (length calls / 3 ≤ length answers) ∷ condition 12 (entry-size * intervals j ≤ length entries) ∷ [])
   unfolding session-tests
   session-decides j =
-      decides-join (calls-decide calls)
+      decides-join (decides-join (named-decide aim order) (calls-decide calls))
       (one-more refl (leb-true (words j) (length table), le-leb (words j) (length table))
       (one-more refl (leb-true (length calls / 3) (length answers), le-leb (length calls / 3) (length answers))
       (one-more refl (leb-true (entry-size * intervals j) (length entries), le-leb (entry-size * intervals j) (length entries)) no-more)))
 
 pub sessions : Sessions
 unfolding session-call
-sessions b calls answers table entries =
-    looks-read (refuse answers table entries) (parse b) (λ j. session-tests j calls (length answers) (length table) (length entries)) (λ j. condition 2 (AllKinds calls) ∷ condition 1 (Whole calls) ∷ condition 11 (words j ≤ length table) ∷ condition 12 (length calls / 3 ≤ length answers) ∷ condition 12 (entry-size * intervals j ≤ length entries) ∷ []) (λ j. planned-after b calls answers table entries) (λ j r. SessionClaim j calls answers table entries r)
-    (λ j k e. (session-decides b calls answers table entries j, λ h. session-claim b calls answers table entries j k e (h .1 .1 .0) (h .1 .1 .1 .1 .0)))
+sessions b calls aim order answers table entries =
+    looks-read (refuse answers table entries) (parse b) (λ j. session-tests j calls aim order (length answers) (length table) (length entries)) (λ j. condition 2 (Either aim) ∷ condition 2 (Either order) ∷ condition 2 (AllKinds calls) ∷ condition 1 (Whole calls) ∷ condition 11 (words j ≤ length table) ∷ condition 12 (length calls / 3 ≤ length answers) ∷ condition 12 (entry-size * intervals j ≤ length entries) ∷ []) (λ j. planned-after b calls aim order answers table entries) (λ j r. SessionClaim j calls aim order answers table entries r)
+    (λ j k e. (session-decides b calls aim order answers table entries j, λ h. session-claim b calls aim order answers table entries j k e (h .1 .1 .1 .1 .0) (h .1 .1 .1 .1 .1 .1 .0)))
 
-module _ (b calls answers table entries : List ℕ) where
+module _ (b calls : List ℕ) (aim order : ℕ) (answers table entries : List ℕ) where
   refused-keeps : (n : ℕ) → SessionKeeping answers table entries (refuse answers table entries n)
   unfolding refuse
   refused-keeps n = record { lists = planning.refuse-keeps table entries n; answers-kept = λ k e. refl }
 
-  after-keeps : SessionKeeping answers table entries (planned-after b calls answers table entries)
+  after-keeps : SessionKeeping answers table entries (planned-after b calls aim order answers table entries)
   unfolding planned-after
   after-keeps = record {
-    lists = planning.keeps b (made b calls .set) table entries;
+    lists = planning.keeps b (made b calls .set) (aim-named aim) (order-named order) table entries;
     answers-kept = λ n e. put-refused _ n (λ (t : Totals). numbers b calls) answers e;
   }
 
-  guarded-keeps : {q : Session} → Guarded (refuse answers table entries) (planned-after b calls answers table entries) q → SessionKeeping answers table entries q
+  guarded-keeps : {q : Session} → Guarded (refuse answers table entries) (planned-after b calls aim order answers table entries) q → SessionKeeping answers table entries q
   guarded-keeps (was-refused n) = refused-keeps n
   guarded-keeps was-done = after-keeps
 
-  read-keeps : (r : Result Job) → SessionKeeping answers table entries (on-read (refuse answers table entries) r (λ j. guarded (refuse answers table entries) (session-tests j calls (length answers) (length table) (length entries)) (planned-after b calls answers table entries)))
+  read-keeps : (r : Result Job) → SessionKeeping answers table entries (on-read (refuse answers table entries) r (λ j. guarded (refuse answers table entries) (session-tests j calls aim order (length answers) (length table) (length entries)) (planned-after b calls aim order answers table entries)))
   unfolding on-read
   read-keeps (P.refused n) = refused-keeps n
-  read-keeps (P.took j k) = guarded-keeps (guarded-is (refuse answers table entries) (session-tests j calls (length answers) (length table) (length entries)) (planned-after b calls answers table entries))
+  read-keeps (P.took j k) = guarded-keeps (guarded-is (refuse answers table entries) (session-tests j calls aim order (length answers) (length table) (length entries)) (planned-after b calls aim order answers table entries))
 
 pub session-keeps : SessionKeeps
 unfolding session-call
-session-keeps b calls answers table entries = read-keeps b calls answers table entries (parse b)
+session-keeps b calls aim order answers table entries = read-keeps b calls aim order answers table entries (parse b)
 
 -- with a replay: after the calls come the tests of replay itself
 pub replay-sessions : ReplaySessions
@@ -145,9 +168,9 @@ pub calls-by : (b calls answers : List ℕ) → calls-call b calls answers ≡ u
 unfolding calls-call calls-refusal
 calls-by b calls answers = sym (read-refusal (lent.refuse answers) (parse b) (λ j. answers-tests calls (length answers)) _)
 
-pub session-by : (b calls answers table entries : List ℕ) → session-call b calls answers table entries ≡ unless (refuse answers table entries) (plan-refusal b calls (length answers) (length table) (length entries)) (planned-after b calls answers table entries)
+pub session-by : (b calls : List ℕ) (aim order : ℕ) (answers table entries : List ℕ) → session-call b calls aim order answers table entries ≡ unless (refuse answers table entries) (plan-refusal b calls aim order (length answers) (length table) (length entries)) (planned-after b calls aim order answers table entries)
 unfolding session-call plan-refusal
-session-by b calls answers table entries = sym (read-refusal (refuse answers table entries) (parse b) (λ j. session-tests j calls (length answers) (length table) (length entries)) _)
+session-by b calls aim order answers table entries = sym (read-refusal (refuse answers table entries) (parse b) (λ j. session-tests j calls aim order (length answers) (length table) (length entries)) _)
 
 module _ (b calls entries levels : List ℕ) where
   abbrev replaying-tests : Job → List Test

@@ -2,13 +2,13 @@
 use Prim.Native.Nat.{ℕ}
 use mathlib.Core.Path.{_≡_}
 use mathlib.Core.List.{List, [], _∷_, _++_, map}
-use lib.ListN.{replicate}
+use lib.ListN.{replicate, getD, drop}
 use Rattle.base.specs.Answer.{Answer, refused, gives}
 use Rattle.base.specs.Lent.{Ended}
 use Rattle.model.specs.Pins.{Call, pin, lift, PinTotals}
 use Rattle.model.specs.Replay.{Totals}
 use Rattle.format.specs.Parser as P
-use Rattle.format.specs.JobA.{bytes-a}
+use Rattle.format.specs.JobA.{bytes-a, bytes-e}
 use Rattle.planning.specs.Cases.{Reply, says, refuses}
 use Rattle.calling.specs.Commands.{command}
 use Rattle.calling.specs.Sessions.{calls-call, session-call, input-call}
@@ -95,8 +95,8 @@ pub record Answers : Type 0 where
 
 unfoldable pub session-reply : List ℕ → Answers
 session-reply calls = record {
-  numbers = session-call bytes-a calls (replicate 4 5) (replicate 80 9) (replicate 9 7) .answers;
-  answer = session-call bytes-a calls (replicate 4 5) (replicate 80 9) (replicate 9 7) .planned .answer;
+  numbers = session-call bytes-a calls 0 1 (replicate 4 5) (replicate 80 9) (replicate 9 7) .answers;
+  answer = session-call bytes-a calls 0 1 (replicate 4 5) (replicate 80 9) (replicate 9 7) .planned .answer;
 }
 
 unfoldable pub sessions : List (List ℕ)
@@ -123,6 +123,31 @@ session-replies =
     ∷ record { numbers = replicate 4 5; answer = refused 12 }
     ∷ []
 
+-- Job E by the numbers of aim and order: the total, even pictures, and numbers that name neither, before a call of another kind or one that is cut
+unfoldable pub named-reply : List ℕ → Answers
+named-reply l = record {
+  numbers = session-call (bytes-e 12 31) (drop 2 l) (getD l 0 0) (getD l 1 0) (replicate 4 5) (replicate 40 9) (replicate 9 7) .answers;
+  answer = session-call (bytes-e 12 31) (drop 2 l) (getD l 0 0) (getD l 1 0) (replicate 4 5) (replicate 40 9) (replicate 9 7) .planned .answer;
+}
+
+unfoldable pub named-sessions : List (List ℕ)
+named-sessions =
+    (0 ∷ 1 ∷ 7 ∷ 1 ∷ 0 ∷ [])
+    ∷ (1 ∷ 1 ∷ 7 ∷ 1 ∷ 0 ∷ [])
+    ∷ (2 ∷ 1 ∷ 7 ∷ 1 ∷ [])
+    ∷ (1 ∷ 2 ∷ 7 ∷ 1 ∷ [])
+    ∷ (1 ∷ 1 ∷ 7 ∷ 1 ∷ [])
+    ∷ []
+
+unfoldable pub named-replies : List Answers
+named-replies =
+    record { numbers = 10 ∷ 5 ∷ 5 ∷ 5 ∷ []; answer = gives (record { distortion = 41; source = 6; channel = 6; unused = 0 ∷ [] }) }
+    ∷ record { numbers = 10 ∷ 5 ∷ 5 ∷ 5 ∷ []; answer = gives (record { distortion = 42; source = 6; channel = 6; unused = 0 ∷ [] }) }
+    ∷ record { numbers = replicate 4 5; answer = refused 2 }
+    ∷ record { numbers = replicate 4 5; answer = refused 2 }
+    ∷ record { numbers = replicate 4 5; answer = refused 1 }
+    ∷ []
+
 -- the same calls without planning
 unfoldable pub calls-reply : List ℕ → Ended PinTotals
 calls-reply calls = calls-call bytes-a calls (replicate 4 5)
@@ -142,4 +167,5 @@ pub record Cases : Type 0 where
   pub commands : map command records ≡ record-replies
   pub inputs-are : map input-reply inputs ≡ input-replies
   pub sessions-are : map session-reply sessions ≡ session-replies
+  pub named-are : map named-reply named-sessions ≡ named-replies
   pub calls-are : map calls-reply sessions ≡ calls-replies

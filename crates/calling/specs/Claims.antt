@@ -12,7 +12,7 @@ use Rattle.base.specs.Lent as lent
 use Rattle.model.specs.Job.{Job, intervals}
 use Rattle.model.specs.Pins as book
 use Rattle.model.specs.Pins.{Call, PinTotals, no-pins, pins-after, pin-totals}
-use Rattle.model.specs.Best.{late}
+use Rattle.model.specs.Best.{late, early, total, even}
 use Rattle.model.specs.Table.{words}
 use Rattle.format.specs.Fields.{Bytes}
 use Rattle.format.specs.Parser as P
@@ -29,7 +29,7 @@ use Rattle.planning.specs.Calls.{Planned, plan-call}
 use Rattle.planning.specs.Calls as plan
 use Rattle.planning.specs.Claims.{PlanClaim, Keeping}
 use Rattle.calling.specs.Commands.{command, command-bytes, commands-call, calls-of}
-use Rattle.calling.specs.Sessions.{answer-number, calls-call, Session, refuse, session-call, replay-session, input-call}
+use Rattle.calling.specs.Sessions.{answer-number, aim-named, order-named, calls-call, Session, refuse, session-call, replay-session, input-call}
 
 -- Command records.
 
@@ -90,6 +90,16 @@ pub record NumbersClaim (l : List ℕ) : Type 0 where
   pub pins : (i : ℕ) → 3 * i + 2 < length l → getD l (3 * i) 0 ≡ 6 → (k : Call) → getD (calls-of l) i k ≡ book.pin (getD l (3 * i + 1) 0) (getD l (3 * i + 2) 0)
   pub lifts : (i : ℕ) → 3 * i + 2 < length l → getD l (3 * i) 0 ≡ 7 → (k : Call) → getD (calls-of l) i k ≡ book.lift (getD l (3 * i + 1) 0)
 
+-- Aim and order as numbers: each names one of two.
+abbrev pub Either : ℕ → Type 0
+Either n = (n ≡ 0) ⊎ (n ≡ 1)
+
+pub record NamedClaim : Type 0 where
+  pub total-is : aim-named 0 ≡ total
+  pub even-is : aim-named 1 ≡ even
+  pub early-is : order-named 0 ≡ early
+  pub late-is : order-named 1 ≡ late
+
 -- Sessions of calls. What the book of document 01 answers them, as numbers, and the lines that it has after them.
 abbrev pub book-numbers : Job → List ℕ → List ℕ
 book-numbers j calls = map answer-number (book.answers (j .choices) (no-pins (length (j .units))) (calls-of calls))
@@ -98,10 +108,10 @@ abbrev pub book-pins : Job → List ℕ → book.PinMap
 book-pins j calls = pins-after (j .choices) (no-pins (length (j .units))) (calls-of calls)
 
 -- a session with planning, from lists that are long enough: with a plan, each call's number is written, as the book answers it, and the rest of the list is as before; with 13 the list is as it came
-pub record SessionClaim (j : Job) (calls answers table entries : List ℕ) (r : Session) : Type 0 where
+pub record SessionClaim (j : Job) (calls : List ℕ) (aim order : ℕ) (answers table entries : List ℕ) (r : Session) : Type 0 where
   pub answered : (r .planned .answer ≡ refused 13 → ⊥) → r .answers ≡ over (book-numbers j calls) answers
   pub none-kept : r .planned .answer ≡ refused 13 → r .answers ≡ answers
-  pub planning : PlanClaim j (book-pins j calls) late 0 (j .start) table entries (r .planned)
+  pub planning : PlanClaim j (book-pins j calls) (aim-named aim) (order-named order) 0 (j .start) table entries (r .planned)
 
 -- a refusal leaves all three lists as they came, 13 the table aside
 pub record SessionKeeping (answers table entries : List ℕ) (r : Session) : Type 0 where
@@ -111,13 +121,13 @@ pub record SessionKeeping (answers table entries : List ℕ) (r : Session) : Typ
 -- what the program plans, from lists that are long enough; no command is refused, so that nothing is left behind them
 pub record InputClaim (b : List ℕ) (j : Job) (k : ℕ) (table entries : List ℕ) : Type 0 where
   pub commands : CommandsClaim b (open-call b .set) (drop k b) (commands-call b)
-  pub planning : PlanClaim j (pins-after (j .choices) (no-pins (length (j .units))) (commands .calls)) late 0 (j .start) table entries (input-call b table entries)
+  pub planning : PlanClaim j (pins-after (j .choices) (no-pins (length (j .units))) (commands .calls)) total late 0 (j .start) table entries (input-call b table entries)
 
 -- in which order the program looks at its input
 pub record InputOrder (b table entries : List ℕ) : Type 0 where
   pub size-first : 32768 < length b → input-call b table entries ≡ plan.refuse table entries 15
   pub then-commands : (n : ℕ) → length b ≤ 32768 → commands-call b .refused ≡ some n → input-call b table entries ≡ plan.refuse table entries n
-  pub then-plan : length b ≤ 32768 → commands-call b .refused ≡ none → input-call b table entries ≡ plan-call b (commands-call b .set) table entries
+  pub then-plan : length b ≤ 32768 → commands-call b .refused ≡ none → input-call b table entries ≡ plan-call b (commands-call b .set) total late table entries
 
 -- The claims.
 
@@ -139,16 +149,19 @@ Commands = (b : List ℕ) → CommandsOrder b
 abbrev pub CallNumbers : Type 0
 CallNumbers = (l : List ℕ) → NumbersClaim l
 
+abbrev pub Named : Type 0
+Named = NamedClaim
+
 -- the calls alone: the job, 1 to 5, then the calls, 2 or 1, then room for their numbers; the answer has the totals of the book's lines
 abbrev pub CallSessions : Type 0
 CallSessions = (b calls answers : List ℕ) → Looks (calls-call b calls answers) (lent.refuse answers) (parse b) (λ j. condition 2 (AllKinds calls) ∷ condition 1 (Whole calls) ∷ condition 12 (length calls / 3 ≤ length answers) ∷ []) (λ j. calls-call b calls answers ≡ record { answer = gives (pin-totals j (book-pins j calls)); list = over (book-numbers j calls) answers })
 
 -- demands 1 and 3 of a session with planning; no call is made before all of this is looked at
 abbrev pub Sessions : Type 0
-Sessions = (b calls answers table entries : List ℕ) → Looks (session-call b calls answers table entries) (refuse answers table entries) (parse b) (λ j. condition 2 (AllKinds calls) ∷ condition 1 (Whole calls) ∷ condition 11 (words j ≤ length table) ∷ condition 12 (length calls / 3 ≤ length answers) ∷ condition 12 (3 * intervals j ≤ length entries) ∷ []) (λ j. SessionClaim j calls answers table entries (session-call b calls answers table entries))
+Sessions = (b calls : List ℕ) (aim order : ℕ) (answers table entries : List ℕ) → Looks (session-call b calls aim order answers table entries) (refuse answers table entries) (parse b) (λ j. condition 2 (Either aim) ∷ condition 2 (Either order) ∷ condition 2 (AllKinds calls) ∷ condition 1 (Whole calls) ∷ condition 11 (words j ≤ length table) ∷ condition 12 (length calls / 3 ≤ length answers) ∷ condition 12 (3 * intervals j ≤ length entries) ∷ []) (λ j. SessionClaim j calls aim order answers table entries (session-call b calls aim order answers table entries))
 
 abbrev pub SessionKeeps : Type 0
-SessionKeeps = (b calls answers table entries : List ℕ) → SessionKeeping answers table entries (session-call b calls answers table entries)
+SessionKeeps = (b calls : List ℕ) (aim order : ℕ) (answers table entries : List ℕ) → SessionKeeping answers table entries (session-call b calls aim order answers table entries)
 
 -- demands 1 and 2 of a replay after calls; the set that the calls leave is never refused
 abbrev pub ReplaySessions : Type 0

@@ -2,14 +2,16 @@
 use Prim.Native.Nat.{ℕ, _*_, _/_}
 use mathlib.Core.Option.{Option, none, some}
 use mathlib.Core.List.{List, [], _∷_, _++_, map}
-use lib.Dec.{leb}
+use lib.Dec.{leb, eqb}
 use lib.ListN.{length}
+use Rattle.base.specs.If.{if_then_else_}
 use Rattle.base.specs.Answer.{gives}
 use Rattle.base.specs.Refusals.{Test, test, unless, guarded}
 use Rattle.base.specs.Lent.{Ended, over, put}
 use Rattle.base.specs.Lent as lent
 use Rattle.model.specs.Job.{Job, intervals}
 use Rattle.model.specs.Pins.{PinTotals}
+use Rattle.model.specs.Best.{Order, late, early, Aim, total, even}
 use Rattle.model.specs.Table.{words}
 use Rattle.format.specs.Parser.{on-read, refusal-in}
 use Rattle.format.specs.JobBytes.{parse}
@@ -43,6 +45,16 @@ calls-refusal b calls answers = refusal-in (parse b) (λ j. answers-tests calls 
 unfoldable pub calls-call : List ℕ → List ℕ → List ℕ → Ended PinTotals
 calls-call b calls answers = on-read (lent.refuse answers) (parse b) (λ j. guarded (lent.refuse answers) (answers-tests calls (length answers)) (record { answer = gives (made b calls .set .totals); list = over (numbers b calls) answers }))
 
+-- Aim and order as numbers: 0 names the total and 1 even pictures (document 02, E7), 0 early and 1 late (E10); no other number names one.
+unfoldable pub aim-named : ℕ → Aim
+aim-named n = if eqb n 1 then even else total
+
+unfoldable pub order-named : ℕ → Order
+order-named n = if eqb n 1 then late else early
+
+abbrev pub named-tests : ℕ → ℕ → List Test
+named-tests aim order = test 2 (leb aim 1) ∷ test 2 (leb order 1) ∷ []
+
 -- The calls and the planning after them: what planning answers and leaves, and the list for the calls' numbers.
 pub record Session : Type 0 where
   pub answers : List ℕ
@@ -52,22 +64,22 @@ pub record Session : Type 0 where
 unfoldable pub refuse : List ℕ → List ℕ → List ℕ → ℕ → Session
 refuse answers table entries n = record { answers = answers; planned = plan.refuse table entries n }
 
--- all that is looked at before a call is made: the calls, 2 or 1, then the table, 11, then the lists for the numbers and the entries, 12
-unfoldable pub session-tests : Job → List ℕ → ℕ → ℕ → ℕ → List Test
-session-tests j calls answers table entries = calls-tests calls ++ (test 11 (leb (words j) table) ∷ test 12 (leb (length calls / 3) answers) ∷ test 12 (leb (entry-size * intervals j) entries) ∷ [])
+-- all that is looked at before a call is made: aim and order, 2, the calls, 2 or 1, then the table, 11, then the lists for the numbers and the entries, 12
+unfoldable pub session-tests : Job → List ℕ → ℕ → ℕ → ℕ → ℕ → ℕ → List Test
+session-tests j calls aim order answers table entries = (named-tests aim order ++ calls-tests calls) ++ (test 11 (leb (words j) table) ∷ test 12 (leb (length calls / 3) answers) ∷ test 12 (leb (entry-size * intervals j) entries) ∷ [])
 
-unfoldable pub plan-refusal : List ℕ → List ℕ → ℕ → ℕ → ℕ → Option ℕ
-plan-refusal b calls answers table entries = refusal-in (parse b) (λ j. session-tests j calls answers table entries)
+unfoldable pub plan-refusal : List ℕ → List ℕ → ℕ → ℕ → ℕ → ℕ → ℕ → Option ℕ
+plan-refusal b calls aim order answers table entries = refusal-in (parse b) (λ j. session-tests j calls aim order answers table entries)
 
 -- the numbers are written where there is a plan: "no plan" writes the table alone
-unfoldable pub planned-after : List ℕ → List ℕ → List ℕ → List ℕ → List ℕ → Session
-planned-after b calls answers table entries = record {
-  answers = put (plan-call b (made b calls .set) table entries .answer) (λ t. numbers b calls) answers;
-  planned = plan-call b (made b calls .set) table entries;
+unfoldable pub planned-after : List ℕ → List ℕ → ℕ → ℕ → List ℕ → List ℕ → List ℕ → Session
+planned-after b calls aim order answers table entries = record {
+  answers = put (plan-call b (made b calls .set) (aim-named aim) (order-named order) table entries .answer) (λ t. numbers b calls) answers;
+  planned = plan-call b (made b calls .set) (aim-named aim) (order-named order) table entries;
 }
 
-unfoldable pub session-call : List ℕ → List ℕ → List ℕ → List ℕ → List ℕ → Session
-session-call b calls answers table entries = on-read (refuse answers table entries) (parse b) (λ j. guarded (refuse answers table entries) (session-tests j calls (length answers) (length table) (length entries)) (planned-after b calls answers table entries))
+unfoldable pub session-call : List ℕ → List ℕ → ℕ → ℕ → List ℕ → List ℕ → List ℕ → Session
+session-call b calls aim order answers table entries = on-read (refuse answers table entries) (parse b) (λ j. guarded (refuse answers table entries) (session-tests j calls aim order (length answers) (length table) (length entries)) (planned-after b calls aim order answers table entries))
 
 -- a replay after calls is refused by the calls, 2 or 1, then by what replay is tested for
 unfoldable pub replay-refusal : List ℕ → List ℕ → List ℕ → ℕ → Option ℕ
@@ -81,6 +93,6 @@ replay-session b calls entries levels = on-read (lent.refuse levels) (parse b) (
 abbrev pub input-size : ℕ
 input-size = 32768
 
--- what the program plans: 15 first, then a job and commands to the end of the bytes, the first refusal ending it, then planning
+-- what the program plans: 15 first, then a job and commands to the end of the bytes, the first refusal ending it, then planning for the least total, in document 01's order
 unfoldable pub input-call : List ℕ → List ℕ → List ℕ → Planned
-input-call b table entries = guarded (plan.refuse table entries) (test 15 (leb (length b) input-size) ∷ []) (unless (plan.refuse table entries) (commands-call b .refused) (plan-call b (commands-call b .set) table entries))
+input-call b table entries = guarded (plan.refuse table entries) (test 15 (leb (length b) input-size) ∷ []) (unless (plan.refuse table entries) (commands-call b .refused) (plan-call b (commands-call b .set) total late table entries))
