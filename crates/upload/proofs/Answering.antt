@@ -44,11 +44,12 @@ use Rattle.planner.specs.declared.Planned.{Planned}
 use Rattle.planner.specs.declared.Planned.the-variants as plans
 use Rattle.planner.specs.Answers as planner
 use Rattle.calling.specs.Sessions.{calls-refusal, calls-call, plan-refusal, session-call, replay-refusal, replay-session}
-use Rattle.session.specs.declared.Called.{Called}
-use Rattle.session.specs.declared.Called.the-variants as calls
-use Rattle.session.specs.declared.PinTotals.{PinTotals}
-use Rattle.session.specs.Answers.{called-answer, session-is}
-use Rattle.session.specs.Answers as session
+use Rattle.calls.specs.declared.Called.{Called}
+use Rattle.calls.specs.declared.Called.the-variants as calls
+use Rattle.calls.specs.declared.PinTotals.{PinTotals}
+use Rattle.calls.specs.Answers.{called-answer}
+use Rattle.calls.specs.Answers as numbers
+use Rattle.session.specs.Answers.{session-is}
 use Rattle.values.specs.Lists.{buckets-in, opened-values, pins-list, totals-values, violation-number, replayed-list}
 use Rattle.values.proofs.Headers.{is-header, no-header}
 use Rattle.upload.specs.Exports.{number-of, room-for, opened, open-export, called, after-calls, calls-export, planned, after-session, plan-export, replayed, after-replay, replay-export, filled, done-export, report-export, turn-export, written, after-write, write-export}
@@ -103,17 +104,17 @@ module _ (job ks answers values : List ℕ) where
     unfolding calls-export
     calls-12 = few (λ n. called n answers values) (calls-refusal job ks (length answers)) 3 values _ e
 
-    module _ (room : 3 ≤ length values) (x : Called) (a : List ℕ) (i : session.called x a ≡ calls-call job ks answers) where
-      on-calls : calls-export job ks answers values ≡ after-calls (session.called x a) values
+    module _ (room : 3 ≤ length values) (x : Called) (a : List ℕ) (i : numbers.called x a ≡ calls-call job ks answers) where
+      on-calls : calls-export job ks answers values ≡ after-calls (numbers.called x a) values
       unfolding calls-export
       on-calls = behind (λ n. called n answers values) (calls-refusal job ks (length answers)) 3 values _ e room ∙ rw (← i)
 
       pub calls-refused : (n : ℕ) → x ≡ calls.Refused n → called n a values ≡ calls-export job ks answers values
-      unfolding after-calls session.called called-answer number-of put
+      unfolding after-calls numbers.called called-answer number-of put
       calls-refused n q = sym (on-calls ∙ rw q)
 
       pub calls-done : (t : PinTotals) → x ≡ calls.Done t → (new : List ℕ) → new ≡ over (t .count ∷ t .size ∷ t .distortion ∷ []) values → called 0 a new ≡ calls-export job ks answers values
-      unfolding after-calls session.called called-answer number-of put pins-list
+      unfolding after-calls numbers.called called-answer number-of put pins-list
       calls-done t q new w = sym (on-calls ∙ rw (q, w))
 
 -- planning after calls

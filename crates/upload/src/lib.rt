@@ -2,13 +2,13 @@
 // The job's refusals come first. A list for values that is too short is refused with 12, behind the other lists.
 ghost use mathlib.Core.Path.{_≡_};
 ghost use Rattle.upload.specs.Exports.{opened, open-export, called, calls-export, planned, plan-export, replayed, replay-export, filled, report-export, turn-export, written, write-export};
+use calls::Called;
 use former::Turned;
 use header::Verdict;
 use pins::Opening;
 use planner::Planned;
 use replay::Replayed;
 use replay::Reported;
-use session::Called;
 use writer::Wrote;
 
 // How many values each call gives.
@@ -63,13 +63,13 @@ pub extern "C" fn upload_calls(
 ) -> u32
     ensures { λ r. ⌜ called r (now (answers .exit)) (now (values .exit)) ≡ calls-export (now (job .entry)) (now (calls .entry)) (now (answers .entry)) (now (values .entry)) ⌝ }
 {
-    if let Verdict::Refused(n) = session::calls_refusal(job, calls, answers.len()) {
+    if let Verdict::Refused(n) = calls::calls_refusal(job, calls, answers.len()) {
         return n as u32;
     }
     if values.len() < CALLS_VALUES {
         return SHORT_LIST;
     }
-    match session::make_calls(job, calls, answers) {
+    match calls::make_calls(job, calls, answers) {
         Called::Refused(n) => n as u32,
         Called::Done(totals) => {
             values::put_pins(values, totals);

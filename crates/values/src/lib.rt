@@ -9,12 +9,12 @@ ghost use Rattle.format.specs.JobBytes.{policed-by, header-of};
 ghost use Rattle.header.specs.Answers.{extra, policed-of, plain};
 ghost use Rattle.interval.specs.Answers.{violation};
 ghost use Rattle.values.specs.Lists.{buckets-in, opened-values, totals-values, violation-number, header-fields};
+use calls::PinTotals;
 use header::Bucket;
 use header::Header;
 use interval::Totals;
 use interval::Violation;
 use job::Reading;
-use session::PinTotals;
 
 // How many fields a header has, with one bucket and with two.
 const FIELDS: usize = 9;

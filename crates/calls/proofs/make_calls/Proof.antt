@@ -1,13 +1,13 @@
--- `session::make_calls` meets its contract.
-use Rattle.session.proofs.Answering.{calls-refused, calls-room, calls-made}
-use Rattle.session.specs.Answers.{called-answer, called}
+-- `calls::make_calls` meets its contract.
+use Rattle.calls.proofs.Answering.{calls-refused, calls-room, calls-made}
+use Rattle.calls.specs.Answers.{called-answer, called}
 use Rattle.base.specs.Lent.{refuse}
 use Rattle.pinset.specs.Answers.{set-of}
 use Rattle.header.specs.Answers.{verdict}
 use mathlib.Core.Path.{sym, _∙_, ap}
 use borrow.Author.Needs.{needs}
-use Rattle.session.proofs.make_calls.Statement.{statement}
-use Rattle.session.proofs.make_calls.Tie as tie
+use Rattle.calls.proofs.make_calls.Statement.{statement}
+use Rattle.calls.proofs.make_calls.Tie as tie
 
 calls-refusal-requires : tie.Need-calls-refusal-requires
 calls-refusal-requires c κs = search needs

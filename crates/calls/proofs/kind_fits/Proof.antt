@@ -1,7 +1,7 @@
--- `session::kind_fits` meets its contract.
-use Rattle.session.proofs.Calling.{kind-pins, kind-lifts, kind-other}
-use Rattle.session.proofs.kind_fits.Statement.{statement}
-use Rattle.session.proofs.kind_fits.Tie as tie
+-- `calls::kind_fits` meets its contract.
+use Rattle.calls.proofs.Calling.{kind-pins, kind-lifts, kind-other}
+use Rattle.calls.proofs.kind_fits.Statement.{statement}
+use Rattle.calls.proofs.kind_fits.Tie as tie
 
 returns : tie.Need-returns
 returns c = kind-pins _ (c .match .keys1)

@@ -1,5 +1,5 @@
--- `session::calls_verdict` meets its contract.
-use Rattle.session.proofs.Calling.{KindsFit, kind-not-due, last-cut, whole-calls}
+-- `calls::calls_verdict` meets its contract.
+use Rattle.calls.proofs.Calling.{KindsFit, kind-not-due, last-cut, whole-calls}
 use Rattle.base.proofs.All.{all-none, all-more}
 use Rattle.calling.specs.Commands.{kind-of}
 use Rattle.header.specs.Answers.{verdict}
@@ -9,8 +9,8 @@ use Prim.Native.Nat.{_≤_, _-_, _/_}
 use native.Mathlib.Omega.{arith}
 use borrow.Author.Needs.{needs}
 use borrow.Author.Tests.{not-true, not-false}
-use Rattle.session.proofs.calls_verdict.Statement.{statement}
-use Rattle.session.proofs.calls_verdict.Tie as tie
+use Rattle.calls.proofs.calls_verdict.Statement.{statement}
+use Rattle.calls.proofs.calls_verdict.Tie as tie
 
 abbrev Inv-loop : tie.InvT-loop
 Inv-loop calls count place₀ place = (place ≤ count) × KindsFit calls place

@@ -1,5 +1,5 @@
--- `session::set_after` meets its contract.
-use Rattle.session.proofs.Sessions.{Ran, ran-start, ran-on, ran-end}
+-- `calls::set_after` meets its contract.
+use Rattle.calls.proofs.Making.{Ran, ran-start, ran-on, ran-end}
 use Rattle.pinset.specs.Answers.{set-of}
 use Rattle.pins.specs.Answers.{opening, handed}
 use Rattle.calling.specs.Sessions.{made}
@@ -10,8 +10,8 @@ use mathlib.Core.List.{List, []}
 use Prim.Native.Nat.{ℕ, _≤_, _-_}
 use native.Mathlib.Omega.{arith}
 use borrow.Author.Needs.{needs}
-use Rattle.session.proofs.set_after.Statement.{statement}
-use Rattle.session.proofs.set_after.Tie as tie
+use Rattle.calls.proofs.set_after.Statement.{statement}
+use Rattle.calls.proofs.set_after.Tie as tie
 
 abbrev Inv-loop : tie.InvT-loop
 Inv-loop job calls count set₀ place₀ set place = (place ≤ count) × (done : List (Option ℕ)) × Ran job calls place (set-of set) done

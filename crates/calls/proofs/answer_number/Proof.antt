@@ -1,9 +1,9 @@
--- `session::answer_number` meets its contract.
+-- `calls::answer_number` meets its contract.
 use Rattle.calling.specs.Sessions.{answer-number}
 use Rattle.pins.specs.Answers.{number}
 use borrow.Author.Needs.{needs}
-use Rattle.session.proofs.answer_number.Statement.{statement}
-use Rattle.session.proofs.answer_number.Tie as tie
+use Rattle.calls.proofs.answer_number.Statement.{statement}
+use Rattle.calls.proofs.answer_number.Tie as tie
 
 enum-told : tie.Need-enum-told
 enum-told c = search needs

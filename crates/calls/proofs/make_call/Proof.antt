@@ -1,10 +1,10 @@
--- `session::make_call` meets its contract.
-use Rattle.session.proofs.Calling.{call-pins, call-lifts}
+-- `calls::make_call` meets its contract.
+use Rattle.calls.proofs.Calling.{call-pins, call-lifts}
 use Rattle.pinning.specs.Calls.{call}
 use mathlib.Core.Path.{_∙_, ap}
 use borrow.Author.Needs.{needs}
-use Rattle.session.proofs.make_call.Statement.{statement}
-use Rattle.session.proofs.make_call.Tie as tie
+use Rattle.calls.proofs.make_call.Statement.{statement}
+use Rattle.calls.proofs.make_call.Tie as tie
 
 mul-at : tie.Need-mul-at
 mul-at c = search needs

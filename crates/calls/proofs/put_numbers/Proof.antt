@@ -1,5 +1,5 @@
--- `session::put_numbers` meets its contract.
-use Rattle.session.proofs.Sessions.{ran-start, ran-on, Going, going-start, going-on, going-end}
+-- `calls::put_numbers` meets its contract.
+use Rattle.calls.proofs.Making.{ran-start, ran-on, Going, going-start, going-on, going-end}
 use Rattle.pinset.specs.Answers.{set-of}
 use Rattle.pins.specs.Answers.{opening, handed}
 use Rattle.pinning.specs.Calls.{Opening}
@@ -7,8 +7,8 @@ use mathlib.Core.Path.{ap}
 use Prim.Native.Nat.{_≤_, _-_}
 use native.Mathlib.Omega.{arith}
 use borrow.Author.Needs.{needs}
-use Rattle.session.proofs.put_numbers.Statement.{statement}
-use Rattle.session.proofs.put_numbers.Tie as tie
+use Rattle.calls.proofs.put_numbers.Statement.{statement}
+use Rattle.calls.proofs.put_numbers.Tie as tie
 
 abbrev Inv-loop : tie.InvT-loop
 Inv-loop job calls answers₀ count set₀ place₀ answers set place = (place ≤ count) × Going job calls answers₀ place (set-of set) answers

@@ -15,7 +15,7 @@ use Rattle.pinset.specs.Answers.{set-of}
 use Rattle.base.specs.Lent.{over}
 use Rattle.calling.specs.Commands.{call-at, calls-from, calls-of}
 use Rattle.calling.specs.Sessions.{made, answer-number, numbers}
-use Rattle.session.specs.Answers.{Made}
+use Rattle.calls.specs.Answers.{Made}
 
 -- calls behind answers that are written
 unfoldable pub behind : List (Option ℕ) → CallsMade → CallsMade

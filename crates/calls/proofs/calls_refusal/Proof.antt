@@ -1,12 +1,12 @@
--- `session::calls_refusal` meets its contract.
-use Rattle.session.proofs.Answering.{calls-not-read, calls-not-due, calls-12, calls-fit}
+-- `calls::calls_refusal` meets its contract.
+use Rattle.calls.proofs.Answering.{calls-not-read, calls-not-due, calls-12, calls-fit}
 use Rattle.header.specs.Answers.{verdict}
 use Rattle.job.proofs.Answers.{answer-took, answer-refused}
 use Rattle.format.proofs.Opened.{opens-by}
 use mathlib.Core.Path.{sym, _∙_, ap}
 use borrow.Author.Needs.{needs}
-use Rattle.session.proofs.calls_refusal.Statement.{statement}
-use Rattle.session.proofs.calls_refusal.Tie as tie
+use Rattle.calls.proofs.calls_refusal.Statement.{statement}
+use Rattle.calls.proofs.calls_refusal.Tie as tie
 
 read-requires : tie.Need-read-requires
 read-requires c κs = search needs
