@@ -4,9 +4,9 @@ use mathlib.Core.Path.{_≡_}
 use mathlib.Core.List.{List}
 use Rattle.base.specs.Answer.{refused, gives}
 use Rattle.base.specs.Lent.{Ended}
-use Rattle.replay.specs.declared.Reported.{Reported}
-use Rattle.replay.specs.declared.Reported.the-variants as reports
-use Rattle.replay.specs.Answers.{report-answer, reported}
+use Rattle.report.specs.declared.Reported.{Reported}
+use Rattle.report.specs.declared.Reported.the-variants as reports
+use Rattle.report.specs.Answers.{report-answer, reported}
 use Rattle.former.specs.declared.Turned.{Turned}
 use Rattle.former.specs.declared.Turned.the-variants as turns
 use Rattle.former.specs.Answers.{turn-answer, turned}

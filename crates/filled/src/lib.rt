@@ -2,14 +2,14 @@
 ghost use mathlib.Core.Path.{_≡_};
 ghost use Rattle.exporting.specs.Exports.{filled, report-export, turn-export};
 use former::Turned;
-use replay::Reported;
+use report::Reported;
 use values::DONE;
 
 // The effective buffer sizes of a plan: N + 1 sums.
 pub fn report(job: &[u8], entries: &[u8], sums: &mut [u32]) -> u32
     ensures { λ r. ⌜ filled r (now (sums .exit)) ≡ report-export (now (job .entry)) (now (entries .entry)) (now (sums .entry)) ⌝ }
 {
-    match replay::effective_buffers(job, entries, sums) {
+    match report::effective_buffers(job, entries, sums) {
         Reported::Refused(n) => n as u32,
         Reported::Done => DONE,
     }

@@ -1,13 +1,14 @@
--- `replay::report_read` meets its contract: 14 for a plan out of shape, 12 for a list too short, else the sums.
-use Rattle.replay.proofs.Answering.{shaped-plan, report-14, report-12, report-done}
-use Rattle.replay.specs.Answers.{report-answer, reported}
+-- `report::report_read` meets its contract: 14 for a plan out of shape, 12 for a list too short, else the sums.
+use Rattle.report.proofs.Answering.{report-14, report-12, report-done}
+use Rattle.report.specs.Answers.{report-answer, reported}
+use Rattle.course.proofs.Entries.{shaped-plan}
 use Rattle.header.specs.Answers.{plain}
 use borrow.Author.Tests.{not-true, not-false}
 use mathlib.Core.Path.{sym, _∙_}
 use native.Mathlib.Omega.{arith}
 use borrow.Author.Needs.{needs}
-use Rattle.replay.proofs.report_read.Statement.{statement}
-use Rattle.replay.proofs.report_read.Tie as tie
+use Rattle.report.proofs.report_read.Statement.{statement}
+use Rattle.report.proofs.report_read.Tie as tie
 
 shaped-requires : tie.Need-shaped-requires
 shaped-requires c κs = search needs

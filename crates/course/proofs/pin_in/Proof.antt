@@ -1,10 +1,10 @@
--- `replay::pin_in` meets its contract: no pin up to the delay, after it the one in the set.
-use Rattle.replay.specs.Answers.{no-pin, pinned}
+-- `course::pin_in` meets its contract: no pin up to the delay, after it the one in the set.
+use Rattle.course.specs.Answers.{no-pin, pinned}
 use Rattle.header.specs.Answers.{plain}
 use mathlib.Core.Path.{refl}
 use borrow.Author.Needs.{needs}
-use Rattle.replay.proofs.pin_in.Statement.{statement}
-use Rattle.replay.proofs.pin_in.Tie as tie
+use Rattle.course.proofs.pin_in.Statement.{statement}
+use Rattle.course.proofs.pin_in.Tie as tie
 
 cast-delay : tie.Need-cast-delay
 cast-delay c = search needs

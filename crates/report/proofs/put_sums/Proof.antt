@@ -1,5 +1,5 @@
--- `replay::put_sums` meets its contract: the sums of the places before are written, and the next one is at hand, whichever turn the loop is at.
-use Rattle.replay.proofs.Sums.{sum-small, leaves-less, next-sum, sums-end}
+-- `report::put_sums` meets its contract: the sums of the places before are written, and the next one is at hand, whichever turn the loop is at.
+use Rattle.report.proofs.Sums.{sum-small, leaves-less, next-sum, sums-end}
 use Rattle.format.proofs.Opened.{job-limits, units-are, delay-is}
 use Rattle.base.proofs.Builds.{build-more}
 use Rattle.replaying.specs.Entries.{plan-of}
@@ -13,8 +13,8 @@ use mathlib.Core.Path.{_≡_, refl, _∙_}
 use Prim.Native.Nat.{_≤_, _+_, _-_}
 use native.Mathlib.Omega.{arith}
 use borrow.Author.Needs.{needs}
-use Rattle.replay.proofs.put_sums.Statement.{statement}
-use Rattle.replay.proofs.put_sums.Tie as tie
+use Rattle.report.proofs.put_sums.Statement.{statement}
+use Rattle.report.proofs.put_sums.Tie as tie
 
 abbrev Inv-loop : tie.InvT-loop
 Inv-loop job header entries sums₀ units delay sum₀ i₀ sums sum i = (i ≤ units) × (sum ≡ effectiveBuffer (job-in job) (plan-of (job-in job) entries) i) × (sums ≡ build i (effectiveBuffer (job-in job) (plan-of (job-in job) entries)) ++ drop i sums₀) × (length sums ≡ length sums₀)

@@ -1,4 +1,4 @@
--- The sums of the effective buffer report, one rate and one sum after another.
+-- The sums of the effective buffer report, one sum after another.
 use Prim.Native.Nat.{ℕ, zero, suc, _+_, _-_, _*_, _<_, _≤_}
 use mathlib.Core.Path.{_≡_, sym, _∙_, ap}
 use mathlib.Core.List.{List, _++_}
@@ -6,27 +6,13 @@ use native.Mathlib.Decide.{decLt}
 use native.Mathlib.Numerals.{add-one}
 use native.Mathlib.Omega.{arith}
 use lib.ListN.{length, getD, drop, List·getD-eq-default}
-use Rattle.model.specs.Job.{Job, Entry, intervals, sends}
-use Rattle.model.specs.Levels.{no-entry, entryOf, sent, sentAfter, effectiveBuffer, effectiveBuffers}
+use Rattle.model.specs.Job.{Job, Entry, sends}
+use Rattle.model.specs.Levels.{entryOf, sent, sentAfter, effectiveBuffer, effectiveBuffers}
 use Rattle.base.specs.Lists.{sum, build}
 use Rattle.base.proofs.Builds.{build-length}
 use Rattle.model.proofs.Buffers.{running-buffers}
-use Rattle.format.specs.JobBytes.{Header, job-in}
-use Rattle.format.specs.Places.{rate-at}
 use Rattle.format.specs.Claims.{InLimits}
-use Rattle.format.proofs.Opened.{intervals-are}
-use Rattle.replaying.specs.Entries.{rate-field, entry-at, plan-of}
-use Rattle.replaying.proofs.Entries.{entries-at}
 use Rattle.base.specs.Lent.{over}
-use Rattle.replay.specs.Answers.{Shaped}
-use Rattle.replay.proofs.Entries.{sent-is}
-
--- the rate that was read is what the interval sends
-pub sent-read : (b : List ℕ) (h : Header) (entries : List ℕ) (s : Shaped b h entries) (i : ℕ) → i < h .units + h .delay → rate-at b h (rate-field entries i) ≡ sent (job-in b) (plan-of (job-in b) entries) (i + 1)
-unfolding sent entryOf plan-of
-sent-read b h entries s i l =
-    let z : 0 + i ≡ i = omega arith in
-    rw (add-one i, entries-at (entry-at entries) 0 (intervals (job-in b)) i (omega (arith, intervals-are b h (s .opens))), z) (sent-is b h entries s i l)
 
 -- a rate, and a window of rates, within document 01's limits
 module _ (j : Job) (limits : InLimits j) (p : List Entry) where

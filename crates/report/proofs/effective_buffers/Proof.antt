@@ -1,11 +1,11 @@
--- `replay::effective_buffers` meets its contract: what reading refuses is handed back, and the rest is `report_read`.
-use Rattle.replay.proofs.Answering.{report-refused}
-use Rattle.replay.specs.Answers.{report-answer, reported}
+-- `report::effective_buffers` meets its contract: what reading refuses is handed back, and the rest is `report_read`.
+use Rattle.report.proofs.Answering.{report-refused}
+use Rattle.report.specs.Answers.{report-answer, reported}
 use Rattle.format.proofs.Opened.{opens-by}
 use Rattle.job.proofs.Answers.{answer-took, answer-refused}
 use borrow.Author.Needs.{needs}
-use Rattle.replay.proofs.effective_buffers.Statement.{statement}
-use Rattle.replay.proofs.effective_buffers.Tie as tie
+use Rattle.report.proofs.effective_buffers.Statement.{statement}
+use Rattle.report.proofs.effective_buffers.Tie as tie
 
 read-requires : tie.Need-read-requires
 read-requires c κs = search needs

@@ -1,10 +1,10 @@
--- `replay::coding_in` meets its contract: nothing up to the delay, after it the coding as it stands in the bytes.
-use Rattle.replay.specs.Answers.{no-coding, coded}
+-- `course::coding_in` meets its contract: nothing up to the delay, after it the coding as it stands in the bytes.
+use Rattle.course.specs.Answers.{no-coding, coded}
 use Rattle.header.specs.Answers.{plain, coding-of}
 use mathlib.Core.Path.{refl}
 use borrow.Author.Needs.{needs}
-use Rattle.replay.proofs.coding_in.Statement.{statement}
-use Rattle.replay.proofs.coding_in.Tie as tie
+use Rattle.course.proofs.coding_in.Statement.{statement}
+use Rattle.course.proofs.coding_in.Tie as tie
 
 cast-delay : tie.Need-cast-delay
 cast-delay c = search needs

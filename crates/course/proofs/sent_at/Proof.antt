@@ -1,12 +1,11 @@
--- `replay::sent_at` meets its contract: the rate that the entry names is what the interval sends.
-use Rattle.replay.proofs.Entries.{entries-size}
-use Rattle.replay.proofs.Sums.{sent-read}
+-- `course::sent_at` meets its contract: the rate that the entry names is what the interval sends.
+use Rattle.course.proofs.Entries.{entries-size, sent-read}
 use Rattle.header.specs.Answers.{plain}
 use mathlib.Core.Path.{_∙_}
 use native.Mathlib.Omega.{arith}
 use borrow.Author.Needs.{needs}
-use Rattle.replay.proofs.sent_at.Statement.{statement}
-use Rattle.replay.proofs.sent_at.Tie as tie
+use Rattle.course.proofs.sent_at.Statement.{statement}
+use Rattle.course.proofs.sent_at.Tie as tie
 
 entry-at-requires : tie.Need-entry-at-requires
 unfolding plain

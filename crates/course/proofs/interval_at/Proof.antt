@@ -1,11 +1,11 @@
--- `replay::interval_at` meets its contract: rate, coding, pin and choice are those of the entry in this place.
+-- `course::interval_at` meets its contract: rate, coding, pin and choice are those of the entry in this place.
 use native.Mathlib.Omega.{arith}
 use Rattle.header.specs.Answers.{plain}
 use Rattle.format.proofs.Opened.{job-limits, units-are, delay-is}
-use Rattle.replay.proofs.Entries.{entries-size, interval-is}
+use Rattle.course.proofs.Entries.{entries-size, interval-is}
 use borrow.Author.Needs.{needs}
-use Rattle.replay.proofs.interval_at.Statement.{statement}
-use Rattle.replay.proofs.interval_at.Tie as tie
+use Rattle.course.proofs.interval_at.Statement.{statement}
+use Rattle.course.proofs.interval_at.Tie as tie
 
 entry-at-requires : tie.Need-entry-at-requires
 unfolding plain

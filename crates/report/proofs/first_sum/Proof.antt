@@ -1,5 +1,5 @@
--- `replay::first_sum` meets its contract: the sum is that of the places before, and small, whichever turn the loop is at.
-use Rattle.replay.proofs.Sums.{sent-most, window-most, window-more}
+-- `report::first_sum` meets its contract: the sum is that of the places before, and small, whichever turn the loop is at.
+use Rattle.report.proofs.Sums.{sent-most, window-most, window-more}
 use Rattle.format.proofs.Opened.{job-limits, delay-is, few-intervals}
 use Rattle.replaying.specs.Entries.{plan-of}
 use Rattle.header.specs.Answers.{plain}
@@ -10,8 +10,8 @@ use mathlib.Core.Path.{_≡_, sym, ap, _∙_}
 use Prim.Native.Nat.{_≤_, _+_, _-_}
 use native.Mathlib.Omega.{arith}
 use borrow.Author.Needs.{needs}
-use Rattle.replay.proofs.first_sum.Statement.{statement}
-use Rattle.replay.proofs.first_sum.Tie as tie
+use Rattle.report.proofs.first_sum.Statement.{statement}
+use Rattle.report.proofs.first_sum.Tie as tie
 
 abbrev Inv-loop : tie.InvT-loop
 Inv-loop job header entries delay sum₀ place₀ sum place = (place ≤ delay) × (sum ≡ sentAfter (job-in job) (plan-of (job-in job) entries) 0 place)

@@ -3,27 +3,34 @@ use Prim.Native.Nat.{ℕ, suc, _+_, _-_, _*_, _<_, _≤_}
 use mathlib.Core.Path.{_≡_, refl, sym, _∙_, ap}
 use mathlib.Core.Bool.{true}
 use mathlib.Core.List.{List}
+use native.Mathlib.Numerals.{add-one}
 use native.Mathlib.Omega.{arith}
 use lib.Dec.{eqb, ltb}
 use lib.ListN.{length}
 use borrow.Author.Tests.{eqb-true, ltb-true, lt-ltb, le-ltb, le-leb, lt-leb}
 use Rattle.base.specs.If.{if_then_else_}
 use Rattle.model.specs.Job as model
-use Rattle.model.specs.Job.{codingAt, coding, sends, takes, distorts}
+use Rattle.model.specs.Job.{codingAt, coding, intervals, sends, takes, distorts}
+use Rattle.model.specs.Levels.{entryOf, sent}
 use Rattle.model.specs.Pins.{pinOf, pinAt}
 use Rattle.base.proofs.Tests.{both-true}
 use Rattle.base.proofs.All.{all-each}
 use Rattle.format.specs.Choices.{no-choice, choice-of}
-use Rattle.format.specs.JobBytes.{Header, job-in}
+use Rattle.format.specs.JobBytes.{Header, job-in, Opens}
 use Rattle.format.specs.Places.{rate-at, coding-at}
 use Rattle.format.proofs.Choices.{of-mark, of-choice}
-use Rattle.format.proofs.Opened.{job-limits, looked-up, units-are, delay-is, rates-are, choices-are}
+use Rattle.format.proofs.Opened.{job-limits, looked-up, units-are, delay-is, rates-are, choices-are, intervals-are}
 use Rattle.header.specs.declared.Coding.{Coding}
 use Rattle.header.specs.Answers.{coding-of}
 use Rattle.pinning.specs.PinSet.{lines}
 use Rattle.pinning.proofs.Lines.{lines-at}
-use Rattle.replaying.specs.Entries.{entry-size, rate-field, choice-field, entry-under, entry-at, fits-under, entries-fit, shaped}
-use Rattle.replay.specs.Answers.{Shaped, CodingIn, no-coding, coded, PinIn, no-pin, pinned, IsInterval}
+use Rattle.replaying.specs.Entries.{entry-size, rate-field, choice-field, entry-under, entry-at, fits-under, entries-fit, shaped, plan-of}
+use Rattle.replaying.proofs.Entries.{entries-at}
+use Rattle.course.specs.Answers.{Shaped, CodingIn, no-coding, coded, PinIn, no-pin, pinned, IsInterval}
+
+-- of a job that was read
+pub shaped-plan : (b : List ℕ) (h : Header) (o : Opens b h) (entries : List ℕ) → shaped h entries ≡ true → Shaped b h entries
+shaped-plan b h o entries e = record { opens = o; in-shape = e }
 
 module _ (b : List ℕ) (h : Header) (entries : List ℕ) (s : Shaped b h entries) where
   pub entries-size : length entries ≡ entry-size * (h .units + h .delay)
@@ -108,3 +115,10 @@ module _ (b : List ℕ) (h : Header) (entries : List ℕ) (s : Shaped b h entrie
           pin = pin-is pins pin n q;
           choice = refl;
         }
+
+-- the rate that was read is what the interval of the plan sends
+pub sent-read : (b : List ℕ) (h : Header) (entries : List ℕ) (s : Shaped b h entries) (i : ℕ) → i < h .units + h .delay → rate-at b h (rate-field entries i) ≡ sent (job-in b) (plan-of (job-in b) entries) (i + 1)
+unfolding sent entryOf plan-of
+sent-read b h entries s i l =
+    let z : 0 + i ≡ i = omega arith in
+    rw (add-one i, entries-at (entry-at entries) 0 (intervals (job-in b)) i (omega (arith, intervals-are b h (s .opens))), z) (sent-is b h entries s i l)
