@@ -1,6 +1,4 @@
 -- Laws that belong to no one function.
-pub mod Entries
 pub mod Levels
 pub mod Replaying
-pub mod Sums
 pub mod Answering

@@ -28,7 +28,7 @@ use Rattle.interval.specs.declared.Interval.{Interval}
 use Rattle.interval.specs.declared.Levels.{Levels}
 use Rattle.interval.specs.declared.Outcome.{Outcome}
 use Rattle.interval.specs.declared.Totals.{Totals}
-use Rattle.replay.specs.Answers.{IsInterval}
+use Rattle.course.specs.Answers.{IsInterval}
 use Rattle.interval.specs.Answers.{levels-of, outcome-is, totals-of, line-of, OfHeader, added, no-totals}
 use Rattle.interval.proofs.Adding.{Added, added-start, added-on, added-end}
 

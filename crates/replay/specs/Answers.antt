@@ -1,27 +1,16 @@
--- What the structs and answers of this crate mean in the terms of `model` and `replaying`, case by case, and what its private functions are asked.
-use Prim.Native.Nat.{ℕ, suc, _+_, _-_, _*_, _<_, _≤_}
+-- What the answers of this crate mean in the terms of `replaying`, case by case, and what its private functions are asked.
+use Prim.Native.Nat.{ℕ, suc, _+_, _*_, _≤_}
 use mathlib.Core.Path.{_≡_}
-use mathlib.Core.Bool.{true}
 use mathlib.Core.List.{List}
-use lib.ListN.{length, getD}
+use lib.ListN.{length}
 use Rattle.base.specs.Answer.{Answer, refused, gives}
-use Rattle.model.specs.Job as model
-use Rattle.model.specs.Pins.{PinMap, pinAt}
-use Rattle.format.specs.Choices.{no-choice, choice-of}
-use Rattle.format.specs.Places.{coding-at}
-use Rattle.format.specs.JobBytes.{Opens}
-use Rattle.format.specs.JobBytes as format
-use Rattle.header.specs.declared.Coding.{Coding}
-use Rattle.header.specs.Answers.{coding-of}
-use Rattle.replaying.specs.Entries.{entry-at, shaped}
-use Rattle.interval.specs.declared.Interval.{Interval}
-use Rattle.interval.specs.Answers.{violation, totals-of, Does}
 use Rattle.base.specs.Lent.{Ended}
+use Rattle.format.specs.JobBytes as format
+use Rattle.interval.specs.Answers.{violation, totals-of}
 use Rattle.replaying.specs.Calls as calls
+use Rattle.course.specs.Answers.{Shaped}
 use Rattle.replay.specs.declared.Replayed.{Replayed}
 use Rattle.replay.specs.declared.Replayed.the-variants as r
-use Rattle.replay.specs.declared.Reported.{Reported}
-use Rattle.replay.specs.declared.Reported.the-variants as p
 
 -- the answer of replay and the list that was lent
 unfoldable pub answered : Replayed → Answer calls.Replayed
@@ -32,44 +21,8 @@ answered (r.Refused n) = refused n
 unfoldable pub ended : Replayed → List ℕ → Ended calls.Replayed
 ended x list = record { answer = answered x; list = list }
 
--- the answer of the report and the list that was lent
-unfoldable pub report-answer : Reported → Answer (Unit {0})
-report-answer p.Done = gives tt
-report-answer (p.Refused n) = refused n
-
-unfoldable pub reported : Reported → List ℕ → Ended (Unit {0})
-reported x list = record { answer = report-answer x; list = list }
-
--- What the private functions say and ask.
-
--- the bytes are those of a job with this header, and the entries a plan of it in shape
-pub record Shaped (b : List ℕ) (h : format.Header) (entries : List ℕ) : Type 0 where
-  pub opens : Opens b h
-  pub in-shape : shaped h entries ≡ true
-
--- the coding of the interval in a place, as it stands in the bytes
-pub data CodingIn (b : List ℕ) (h : format.Header) (place choice : ℕ) (c : Coding) : Type 0 where
-  no-coding : place < h .delay → coding-of c ≡ model.nothing → CodingIn b h place choice c
-  coded : h .delay ≤ place → coding-of c ≡ coding-at b h (place - h .delay + 1) choice → CodingIn b h place choice c
-
--- the pin of the interval in a place, as it stands in the set
-pub data PinIn (h : format.Header) (pins : List ℕ) (place x : ℕ) : Type 0 where
-  no-pin : place < h .delay → x ≡ no-choice → PinIn h pins place x
-  pinned : h .delay ≤ place → x ≡ getD pins (place - h .delay) 0 → PinIn h pins place x
-
--- what the plan does in the interval of a place
-pub record IsInterval (j : model.Job) (m : PinMap) (entries : List ℕ) (place : ℕ) (x : Interval) : Type 0 where
-  pub does : Does j (suc place) (entry-at entries place) x
-  pub pin : choice-of (x .pin) ≡ pinAt j m (suc place)
-  pub choice : choice-of (x .choice) ≡ entry-at entries place .choice
-
 -- a plan in shape, the pins of a set, and a list that is long enough for its levels
 pub record Plays (b : List ℕ) (h : format.Header) (pins entries levels : List ℕ) : Type 0 where
   pub plan : Shaped b h entries
   pub pins-size : length pins ≡ 512
   pub room : suc (length (h .buckets)) * (h .units + h .delay) ≤ length levels
-
--- a plan in shape, and a list that is long enough for the sums
-pub record Sums (b : List ℕ) (h : format.Header) (entries sums : List ℕ) : Type 0 where
-  pub plan : Shaped b h entries
-  pub room : h .units < length sums

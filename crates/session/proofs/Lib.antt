@@ -1,4 +1,2 @@
 -- Laws that belong to no one function.
-pub mod Calling
-pub mod Sessions
 pub mod Answering

@@ -1,4 +1,3 @@
 -- Laws that belong to no one function.
 pub mod Buckets
 pub mod Rooms
-pub mod Headers

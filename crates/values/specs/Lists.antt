@@ -1,10 +1,7 @@
--- What the values of the exported calls are, as lists of numbers, how many buckets a line has, and how many fields a header.
+-- What the values of the exported calls are, as lists of numbers, and how many buckets a line has.
 use Prim.Native.Nat.{ℕ, zero, suc, _+_}
-use mathlib.Core.Bool.{Bool, true}
 use mathlib.Core.List.{List, [], _∷_}
-use lib.Dec.{eqb}
 use lib.ListN.{length, replicate}
-use Rattle.base.specs.If.{if_then_else_}
 use Rattle.model.specs.Admissible as v
 use Rattle.model.specs.Pins.{PinTotals}
 use Rattle.model.specs.Replay as model
@@ -45,7 +42,3 @@ violation-number v.pin-not-held = 4
 unfoldable pub replayed-list : ℕ → Replayed → List ℕ
 replayed-list k (totals-are t) = 0 ∷ 0 ∷ totals-list t
 replayed-list k (violated n x) = violation-number x ∷ n ∷ replicate (3 + k) 0
-
--- nine fields are a header, or twelve
-unfoldable pub header-fields : ℕ → Bool
-header-fields n = if eqb n 12 then true else eqb n 9

@@ -1,25 +1,23 @@
-// The values that the exported calls give, as numbers in a list that is lent, and a header from a list of its fields.
+// The values that the exported calls give, as numbers in a list that is lent.
 ghost use mathlib.Core.Path.{_≡_};
-ghost use Prim.Native.Nat.{_+_, _*_, _≤_};
+ghost use Prim.Native.Nat.{_+_, _≤_};
 ghost use mathlib.Core.List.{[], _∷_};
-ghost use lib.ListN.{length, drop, replicate};
-ghost use Rattle.base.specs.If.{one-if};
+ghost use lib.ListN.{length, replicate};
 ghost use Rattle.base.specs.Lent.{over};
-ghost use Rattle.format.specs.JobBytes.{policed-by, header-of};
-ghost use Rattle.header.specs.Answers.{extra, policed-of, plain};
+ghost use Rattle.header.specs.Answers.{plain};
 ghost use Rattle.interval.specs.Answers.{violation};
-ghost use Rattle.values.specs.Lists.{buckets-in, opened-values, totals-values, violation-number, header-fields};
-use header::Bucket;
+ghost use Rattle.values.specs.Lists.{buckets-in, opened-values, totals-values, violation-number};
+use calls::PinTotals;
 use header::Header;
 use interval::Totals;
 use interval::Violation;
 use job::Reading;
-use session::PinTotals;
 
-// How many fields a header has, with one bucket and with two.
-const FIELDS: usize = 9;
+// What an exported call answers where it is not refused.
+pub const DONE: u32 = 0;
 
-pub const TWO_FIELDS: usize = 12;
+// The list to be filled is too short.
+pub const SHORT_LIST: u32 = header::refusal::LIST as u32;
 
 // Of a job that opens: how many bytes it took, N, T, and how many words its table has.
 pub fn put_opened(values: &mut [u64], taken: usize, header: Header)
@@ -107,57 +105,5 @@ pub fn no_totals(buckets: usize) -> Totals
         unused: 0,
         two: buckets == 2,
         unused2: 0,
-    }
-}
-
-// Whether so many fields are a header.
-pub fn fields_fit(count: usize) -> bool
-    ensures { λ r. ⌜ r ≡ header-fields count ⌝ }
-{
-    match count {
-        FIELDS => true,
-        TWO_FIELDS => true,
-        _ => false,
-    }
-}
-
-// The second bucket among a header's fields, where there is one.
-fn second_of(fields: &[u16], two: bool) -> Bucket
-    requires { ⌜ length (now fields) ≡ 9 + 3 * extra two ⌝ }
-    ensures { λ r. ⌜ one-if two (policed-of r) ≡ policed-by (drop 9 (now (fields .entry))) ⌝ }
-{
-    if two {
-        return Bucket {
-            size: fields[9],
-            drain: fields[10],
-            fill: fields[11],
-        };
-    }
-    Bucket {
-        size: 0,
-        drain: 0,
-        fill: 0,
-    }
-}
-
-// The header of nine fields in their order, or of twelve.
-pub fn header_of(fields: &[u16], two: bool) -> Header
-    requires { ⌜ length (now fields) ≡ 9 + 3 * extra two ⌝ }
-    ensures { λ r. ⌜ plain r ≡ header-of (now (fields .entry)) ⌝ }
-{
-    Header {
-        units: fields[0],
-        delay: fields[1],
-        decoder: fields[2],
-        level: fields[5],
-        first: Bucket {
-            size: fields[3],
-            drain: fields[4],
-            fill: fields[6],
-        },
-        two,
-        second: second_of(fields, two),
-        rates: fields[7],
-        choices: fields[8],
     }
 }

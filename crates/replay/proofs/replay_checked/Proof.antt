@@ -1,5 +1,6 @@
 -- `replay::replay_checked` meets its contract: 14 for a plan out of shape, 12 for a list too short, else what `play` does.
-use Rattle.replay.proofs.Answering.{shaped-plan, replay-14, replay-12, replay-played}
+use Rattle.replay.proofs.Answering.{replay-14, replay-12, replay-played}
+use Rattle.course.proofs.Entries.{shaped-plan}
 use Rattle.replay.proofs.Levels.{few-levels, room-for-all}
 use Rattle.replay.specs.Answers.{answered, ended}
 use Rattle.pinset.specs.Answers.{set-of}

@@ -1,0 +1,124 @@
+-- How many numbers the totals have that a call gives: one for each bucket of the job's line beside those that every job has.
+use Prim.Native.Nat.{ℕ}
+use mathlib.Core.Path.{_≡_, refl, sym, _∙_, ap, subst}
+use mathlib.Core.Bool.{Bool, true, false}
+use mathlib.Core.Option.{Option, none, some}
+use mathlib.Core.List.{List}
+use native.Mathlib.Omega.{arith}
+use lib.ListN.{length}
+use Rattle.base.specs.If.{if_then_else_}
+use Rattle.base.specs.Answer.{Answer, refused, gives}
+use Rattle.base.specs.Refusals.{Test, guarded}
+use Rattle.base.specs.Lent as lent
+use Rattle.base.proofs.Answers.{not-refused, gives-same}
+use Rattle.base.proofs.Refusals.{Guarded, was-refused, was-done, guarded-is}
+use Rattle.model.specs.Job.{Levels, Job, Entry}
+use Rattle.model.specs.Pins.{PinMap}
+use Rattle.model.specs.Levels.{unusedTotals}
+use Rattle.model.specs.Replay.{Totals, totals, Result, clean, stopped, replay}
+use Rattle.model.specs.Best.{late, least-total}
+use Rattle.format.specs.Parser as P
+use Rattle.format.specs.Parser.{on-read}
+use Rattle.format.specs.JobBytes.{parse}
+use Rattle.format.proofs.Places.{well-read}
+use Rattle.format.proofs.Opened.{held-job}
+use Rattle.pinning.specs.PinSet.{PinSet, lines}
+use Rattle.pinning.specs.Check.{checked, accept, fits}
+use Rattle.model.proofs.Drains.{zip-length}
+use Rattle.replaying.specs.Calls.{Replayed, totals-are, replayed, played, replay-call}
+use Rattle.replaying.specs.Entries.{plan-of}
+use Rattle.planning.specs.Calls as p
+use Rattle.planning.specs.Calls.{searched, search-in, plan-in, plan-call}
+use Rattle.calling.specs.Sessions as s
+use Rattle.calling.specs.Sessions.{made, planned-after, session-call, replay-session}
+use Rattle.values.specs.Lists.{buckets-in}
+
+-- totals have a number for each bucket
+totals-count : (j : Job) (start : Levels) (q : List Entry) → length (start .buckets) ≡ length (j .line .buckets) → length (totals j 0 start q .unused) ≡ length (j .line .buckets)
+unfolding totals unusedTotals
+totals-count j start q e = zip-length _ (j .line .buckets) (start .buckets) e
+
+abbrev pub Counts : ℕ → Answer Totals → Type 0
+Counts n a = (t : Totals) → a ≡ gives t → length (t .unused) ≡ n
+
+no-count : (n m : ℕ) → Counts n (refused m)
+no-count n m t e = absurd (not-refused (sym e))
+
+-- a job that the set matches was read
+was-read : (b : List ℕ) (s : PinSet) (q : P.Result Job) (j : Job) (k : ℕ) → parse b ≡ q → accept s q ≡ P.took j k → parse b ≡ P.took j k
+unfolding accept
+was-read b s (P.refused n) j k e a = absurd (let z : _≡_ {A = ℕ} 0 1 = cc in omega arith)
+was-read b s (P.took i m) j k e a = e ∙ go (fits _ _ s) a
+  where
+    go : (t : Bool) → (if t then P.took i m else P.refused 6) ≡ P.took j k → P.took i m ≡ P.took j k
+    go true a = unfold if_then_else_ in a
+    go false a = absurd (let z : _≡_ {A = ℕ} 0 1 = unfold if_then_else_ in cc in omega arith)
+
+-- what holds of every refusal and of the work holds of the answer
+guarded-all : {R : Type 0} (Q : R → Type 0) (refuse : ℕ → R) (ts : List Test) (work : R) → ((n : ℕ) → Q (refuse n)) → Q work → Q (guarded refuse ts work)
+guarded-all {R} Q refuse ts work f g = go (guarded refuse ts work) (guarded-is refuse ts work)
+  where
+    go : (r : R) → Guarded refuse work r → Q r
+    go r (was-refused n) = f n
+    go r was-done = g
+
+read-all : {A R : Type 0} (Q : R → Type 0) (refuse : ℕ → R) (q : P.Result A) (f : A → R) → ((n : ℕ) → Q (refuse n)) → ((a : A) (k : ℕ) → q ≡ P.took a k → Q (f a)) → Q (on-read refuse q f)
+unfolding on-read
+read-all Q refuse (P.refused n) f h g = h n
+read-all Q refuse (P.took a k) f h g = g a k refl
+
+of-job : (b : List ℕ) (j : Job) (k : ℕ) → parse b ≡ P.took j k → length (j .line .buckets) ≡ buckets-in b
+of-job b j k e = sym (ap (λ (i : Job). length (i .line .buckets)) (held-job b j k e))
+
+-- of planning
+search-counts : (j : Job) (m : PinMap) (table entries : List ℕ) → length (j .start .buckets) ≡ length (j .line .buckets) → Counts (length (j .line .buckets)) (search-in j m late 0 (j .start) table entries .answer)
+unfolding search-in
+search-counts j m table entries e = go (least-total j m 0 (j .start))
+  where
+    go : (v : Option ℕ) → Counts (length (j .line .buckets)) (searched j m late 0 (j .start) v table entries .answer)
+    go none = unfold searched in (no-count _ 13)
+    go (some v) = unfold searched in (λ t q. ap (λ (x : Totals). length (x .unused)) (sym (gives-same q)) ∙ totals-count j (j .start) _ e)
+
+module _ (b : List ℕ) where
+  plan-counts : (set : PinSet) (table entries : List ℕ) → Counts (buckets-in b) (plan-call b set table entries .answer)
+  unfolding plan-call plan-in p.refuse checked
+  plan-counts set table entries =
+      read-all (λ (x : p.Planned). Counts (buckets-in b) (x .answer)) (p.refuse table entries) (checked b set) _ (λ n. no-count _ n)
+      (λ j k e.
+      let q : parse b ≡ P.took j k = was-read b set (parse b) j k refl e in
+      guarded-all (λ (x : p.Planned). Counts (buckets-in b) (x .answer)) (p.refuse table entries) _ _ (λ n. no-count _ n)
+      (subst (λ (n : ℕ). Counts n (search-in j (lines (length (j .units)) (set .pins)) late 0 (j .start) table entries .answer)) (of-job b j k q) (search-counts j _ table entries (well-read b j k q .fills))))
+
+  pub session-counts : (calls answers table entries : List ℕ) → Counts (buckets-in b) (session-call b calls answers table entries .planned .answer)
+  unfolding session-call planned-after s.refuse p.refuse
+  session-counts calls answers table entries =
+      read-all (λ (x : s.Session). Counts (buckets-in b) (x .planned .answer)) (s.refuse answers table entries) (parse b) _ (λ n. no-count _ n)
+      (λ j k e. guarded-all (λ (x : s.Session). Counts (buckets-in b) (x .planned .answer)) (s.refuse answers table entries) _ _ (λ n. no-count _ n) (plan-counts (made b calls .set) table entries))
+
+  -- of a replay
+  abbrev pub ReplayCounts : Answer Replayed → Type 0
+  ReplayCounts a = (t : Totals) → a ≡ gives (totals-are t) → length (t .unused) ≡ buckets-in b
+
+  no-replay : (n : ℕ) → ReplayCounts (refused n)
+  no-replay n t e = absurd (not-refused (sym e))
+
+  played-counts : (j : Job) (m : PinMap) (entries levels : List ℕ) → length (j .line .buckets) ≡ buckets-in b → length (j .start .buckets) ≡ length (j .line .buckets) → ReplayCounts (played j m entries levels .answer)
+  unfolding played
+  played-counts j m entries levels q e t a = go (replay j m 0 (j .start) (plan-of j entries) .result) (gives-same a)
+    where
+      go : (x : Result) → replayed (totals j 0 (j .start) (plan-of j entries)) x ≡ totals-are t → length (t .unused) ≡ buckets-in b
+      go clean a = ap (λ (y : Totals). length (y .unused)) (sym (same a)) ∙ totals-count j (j .start) (plan-of j entries) e ∙ q
+        where
+          same : replayed (totals j 0 (j .start) (plan-of j entries)) clean ≡ totals-are t → totals j 0 (j .start) (plan-of j entries) ≡ t
+          same a = unfold replayed in cc
+      go (stopped n v) a = absurd (let z : _≡_ {A = ℕ} 0 1 = unfold replayed in cc in omega arith)
+
+  pub replay-counts : (calls entries levels : List ℕ) → ReplayCounts (replay-session b calls entries levels .answer)
+  unfolding replay-session replay-call lent.refuse checked
+  replay-counts calls entries levels =
+      read-all (λ (x : lent.Ended Replayed). ReplayCounts (x .answer)) (lent.refuse levels) (parse b) _ no-replay
+      (λ j k e. guarded-all (λ (x : lent.Ended Replayed). ReplayCounts (x .answer)) (lent.refuse levels) _ _ no-replay
+      (read-all (λ (x : lent.Ended Replayed). ReplayCounts (x .answer)) (lent.refuse levels) (checked b (made b calls .set)) _ no-replay
+      (λ i m f.
+      let q : parse b ≡ P.took i m = was-read b (made b calls .set) (parse b) i m refl f in
+      guarded-all (λ (x : lent.Ended Replayed). ReplayCounts (x .answer)) (lent.refuse levels) _ _ no-replay (played-counts i _ entries levels (of-job b i m q) (well-read b i m q .fills)))))

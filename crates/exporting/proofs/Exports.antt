@@ -1,0 +1,217 @@
+-- The claims of the exported calls, composed from those of the calls within them: `Opening`, `Calling`, `Plans`, `Replays`, `Reports`, `Turns` and `Writes`.
+use Prim.Native.Nat.{ℕ, _+_, _*_, _/_, _≤_}
+use mathlib.Core.Path.{_≡_, refl, sym, _∙_, ap, ap₂, subst}
+use mathlib.Core.Logic.{_⊎_}
+use mathlib.Core.Option.{Option, none, some}
+use mathlib.Core.List.{List, [], _∷_, _++_}
+use native.Mathlib.Omega.{arith}
+use lib.ListN.{length}
+use borrow.Author.Tests.{leb-true, le-leb}
+use Rattle.base.specs.Answer.{Answer, refused, gives}
+use Rattle.base.specs.Refusals.{Test, Condition, condition, InOrder, refusal, unless, first, guarded}
+use Rattle.base.specs.Lent.{over, put}
+use Rattle.base.specs.Lent as lent
+use Rattle.base.proofs.Refusals.{Decides, no-more, one-more, decides-join, AllHold, in-order, guarded-here, guarded-last, unless-some, unless-none}
+use Rattle.base.proofs.Lent.{put-given, put-refused}
+use Rattle.model.specs.Job.{Job, intervals}
+use Rattle.model.specs.Pins.{pin-totals}
+use Rattle.model.specs.Replay.{Totals}
+use Rattle.model.specs.Table.{words}
+use Rattle.format.specs.Parser.{Looks, on-read, on-took, refusal-in}
+use Rattle.format.specs.Parser as P
+use Rattle.format.specs.JobBytes.{Header, header-of, header-in, parse}
+use Rattle.format.proofs.Parsing.{looks-read, read-refusal, refusal-in-join}
+use Rattle.format.proofs.Opened.{opens-by, held-job}
+use Rattle.table.specs.Answers.{table-words}
+use Rattle.table.proofs.Words.{words-are}
+use Rattle.replaying.specs.Calls.{report-call, replay-tests}
+use Rattle.replaying.proofs.Reports.{replay-decides, reports}
+use Rattle.replaying.specs.Former.{turn-call}
+use Rattle.replaying.proofs.Former.{turns}
+use Rattle.writing.specs.Calls.{write-refusal, write-call}
+use Rattle.format.specs.Places.{job-size}
+use Rattle.writing.specs.Claims.{Asks}
+use Rattle.writing.proofs.Refusals.{refusal-order, done-first}
+use Rattle.writing.proofs.Writes.{writes}
+use Rattle.calling.specs.Commands.{calls-tests}
+use Rattle.calling.specs.Sessions.{answers-tests, calls-refusal, calls-call, Session, session-tests, plan-refusal, session-call, replay-refusal, replay-session}
+use Rattle.calling.specs.Claims.{book-numbers, book-pins, SessionClaim}
+use Rattle.calling.proofs.Numbers.{calls-decide}
+use Rattle.calling.proofs.Sessions.{call-sessions, session-decides, sessions, replay-sessions}
+use Rattle.values.specs.Lists.{buckets-in, opened-values, pins-list, totals-list}
+use Rattle.exporting.proofs.Fields.{is-header, no-header}
+use Rattle.exporting.specs.Exports as x
+use Rattle.exporting.specs.Exports.{number-of, room-for, opened, open-export, called, after-calls, calls-export, planned, after-session, plan-export, replayed, after-replay, replay-export, filled, done-export, report-export, turn-export, written, after-write, write-export}
+use Rattle.exporting.specs.Claims.{CallConditions, Opening, Calling, Planning, PlanConditions, Plans, Replaying, ReplayConditions, Replays, Reporting, Reports, Turning, Turns, Writing, Writes}
+use Rattle.replaying.specs.Claims.{InShape, Reported, WasPlan, Turned}
+use Rattle.replaying.specs.Entries.{plan-of}
+
+-- room for so many values
+room-decides : (least : ℕ) (values : List ℕ) → Decides (room-for least values) (condition 12 (least ≤ length values) ∷ [])
+room-decides least values = one-more refl (leb-true least (length values), le-leb least (length values)) no-more
+
+-- a call whose refusal is found first, then room for its values
+module _ {R : Type 0} (refuse : ℕ → R) (b : List ℕ) (tests : Job → List Test) (least : ℕ) (values : List ℕ) (work : R) where
+  abbrev whole : R
+  whole = unless refuse (first (refusal-in (parse b) tests) (refusal (room-for least values))) work
+
+  all-tests : whole ≡ on-read refuse (parse b) (λ j. guarded refuse (tests j ++ room-for least values) work)
+  all-tests = ap (λ (o : Option ℕ). unless refuse o work) (refusal-in-join (parse b) tests (room-for least values)) ∙ read-refusal refuse (parse b) (λ j. tests j ++ room-for least values) work
+
+  looks : (conditions : Job → List Condition) (Else : Job → R → Type 0) → ((j : Job) (k : ℕ) → parse b ≡ P.took j k → Decides (tests j) (conditions j) × (AllHold (conditions j ++ (condition 12 (least ≤ length values) ∷ [])) → Else j work)) → Looks whole refuse (parse b) (λ j. conditions j ++ (condition 12 (least ≤ length values) ∷ [])) (λ j. Else j whole)
+  looks conditions Else f =
+      rw all-tests
+      (looks-read refuse (parse b) (λ j. tests j ++ room-for least values) (λ j. conditions j ++ (condition 12 (least ≤ length values) ∷ [])) (λ j. work) Else
+      (λ j k e. let h = f j k e in (decides-join (h .0) (room-decides least values), h .1)))
+
+-- the same with the room said of the job that was read
+of-job : {R : Type 0} (r : R) (refuse : ℕ → R) (b : List ℕ) (conditions : Job → List Condition) (values : List ℕ) (Else : Job → Type 0) (least : ℕ) (most : Job → ℕ) → ((j : Job) (k : ℕ) → parse b ≡ P.took j k → least ≡ most j) → Looks r refuse (parse b) (λ j. conditions j ++ (condition 12 (least ≤ length values) ∷ [])) Else → Looks r refuse (parse b) (λ j. conditions j ++ (condition 12 (most j ≤ length values) ∷ [])) Else
+of-job r refuse b conditions values Else least most q l = (
+  l .0,
+  λ j k e. subst (λ (n : ℕ). InOrder r refuse (conditions j ++ (condition 12 (n ≤ length values) ∷ [])) (Else j)) (q j k e) (l .1 j k e),
+)
+
+counted : (b : List ℕ) (j : Job) (k : ℕ) → parse b ≡ P.took j k → buckets-in b ≡ length (j .line .buckets)
+counted b j k e = ap (λ (i : Job). length (i .line .buckets)) (held-job b j k e)
+
+-- a number that is no refusal's
+number-none : {A : Type 0} (a : Answer A) (n : ℕ) → number-of a ≡ n → (n ≡ 0 → ⊥) → a ≡ refused n
+unfolding number-of
+number-none (refused m) n e f = rw e
+number-none (gives a) n e f = absurd (f (sym e))
+
+-- the values of a job that opens
+values-of : (b : List ℕ) (j : Job) (k : ℕ) → parse b ≡ P.took j k → opened-values k (header-in j) ≡ k ∷ length (j .units) ∷ intervals j ∷ words j ∷ []
+unfolding opened-values header-in intervals
+values-of b j k e =
+    let w : words j ≡ table-words (header-in j) = ap words (sym (held-job b j k e)) ∙ words-are b (header-in j) (opens-by b (header-in j) j k e refl) in
+    rw w
+
+pub opening : Opening
+unfolding open-export on-took
+opening b values = (
+  λ n e. rw e,
+  λ j k e. rw e (in-order (λ n. opened n values) (room-decides 4 values) (λ r. r ≡ opened 0 (over (k ∷ length (j .units) ∷ intervals j ∷ words j ∷ []) values)) (opened 0 (over (opened-values k (header-in j)) values)) _ refl (λ h. ap (λ (vs : List ℕ). opened 0 (over vs values)) (values-of b j k e))),
+)
+
+pub calling : Calling
+unfolding calls-export calls-refusal
+calling b calls answers values =
+    looks (λ n. called n answers values) b (λ j. answers-tests calls (length answers)) 3 values (after-calls (calls-call b calls answers) values) (λ j. CallConditions calls ++ (condition 12 (length calls / 3 ≤ length answers) ∷ [])) (λ j r. r ≡ called 0 (over (book-numbers j calls) answers) (over (pins-list (pin-totals j (book-pins j calls))) values))
+    (λ j k e. (
+      unfold answers-tests in (decides-join (calls-decide calls) (one-more refl (leb-true (length calls / 3) (length answers), le-leb (length calls / 3) (length answers)) no-more)),
+      λ h. done j (call-sessions b calls answers .1 j k e .1 (h .0) .1 (h .1 .0) .1 (h .1 .1 .0)),
+    ))
+  where
+    done : (j : Job) → calls-call b calls answers ≡ record { answer = gives (pin-totals j (book-pins j calls)); list = over (book-numbers j calls) answers } → after-calls (calls-call b calls answers) values ≡ called 0 (over (book-numbers j calls) answers) (over (pins-list (pin-totals j (book-pins j calls))) values)
+    done j q = unfold after-calls number-of put in (rw q)
+
+-- what is exported of a session of which demand 3 holds
+module _ (j : Job) (calls answers table entries values : List ℕ) (s : Session) (c : SessionClaim j calls answers table entries s) where
+  thirteen : number-of (s .planned .answer) ≡ 13 → s .planned .answer ≡ refused 13
+  thirteen e = number-none (s .planned .answer) 13 e (λ z. omega arith)
+
+  is-thirteen : s .planned .answer ≡ refused 13 → number-of (s .planned .answer) ≡ 13
+  unfolding number-of
+  is-thirteen e = rw e
+
+  exported : Planning j calls answers table entries values (after-session s values)
+  unfolding after-session
+  exported = record {
+    session = s;
+    claim = c;
+    is = unfold after-session in refl;
+    none-iff = (λ e. c .planning .none-iff .0 (thirteen e), λ f. is-thirteen (c .planning .none-iff .1 f));
+    none-kept = λ e. (c .none-kept (thirteen e), c .planning .none-kept (thirteen e), put-refused (s .planned .answer) 13 totals-list values (thirteen e));
+    else-done = λ f. zero (c .planning .else-best (λ e. f (is-thirteen e)) .totals-are);
+  }
+    where
+      zero : {t : Totals} → s .planned .answer ≡ gives t → number-of (s .planned .answer) ≡ 0
+      zero e = unfold number-of in (rw e)
+
+pub plans : Plans
+unfolding plan-export plan-refusal
+plans b calls answers table entries values =
+    of-job _ (λ n. planned n answers table entries values) b (λ j. PlanConditions j calls answers table entries) values _ (3 + buckets-in b) (λ j. 3 + length (j .line .buckets)) (λ j k e. ap (λ (n : ℕ). 3 + n) (counted b j k e))
+    (looks (λ n. planned n answers table entries values) b (λ j. session-tests j calls (length answers) (length table) (length entries)) (3 + buckets-in b) values (after-session (session-call b calls answers table entries) values) (λ j. PlanConditions j calls answers table entries) (λ j r. Planning j calls answers table entries values r)
+    (λ j k e. (
+      session-decides b calls answers table entries j,
+      λ h. exported j calls answers table entries values (session-call b calls answers table entries) (sessions b calls answers table entries .1 j k e .1 (h .0) .1 (h .1 .0) .1 (h .1 .1 .0) .1 (h .1 .1 .1 .0) .1 (h .1 .1 .1 .1 .0)),
+    )))
+
+pub replays : Replays
+unfolding replay-export replay-refusal
+replays b calls entries levels values =
+    of-job _ (λ n. replayed n levels values) b (λ j. ReplayConditions j calls entries levels) values _ (5 + buckets-in b) (λ j. 5 + length (j .line .buckets)) (λ j k e. ap (λ (n : ℕ). 5 + n) (counted b j k e))
+    (looks (λ n. replayed n levels values) b (λ j. calls-tests calls ++ replay-tests j entries (length levels)) (5 + buckets-in b) values (after-replay (buckets-in b) (replay-session b calls entries levels) values) (λ j. ReplayConditions j calls entries levels) (λ j r. Replaying j calls entries levels values r)
+    (λ j k e. (
+      decides-join (calls-decide calls) (replay-decides b j k e entries levels),
+      λ h. record { replay = replay-session b calls entries levels; claim = replay-sessions b calls entries levels .1 j k e .1 (h .0) .1 (h .1 .0) .1 (h .1 .1 .0) .1 (h .1 .1 .1 .0); is = ap (λ (n : ℕ). after-replay n (replay-session b calls entries levels) values) (counted b j k e) },
+    )))
+
+-- an order of refusals, seen through what is exported of a call
+in-order-through : {R S : Type 0} (f : R → S) (r : R) (refuse : ℕ → R) (out : ℕ → S) (cs : List Condition) (A B : Type 0) → ((n : ℕ) → f (refuse n) ≡ out n) → (A → B) → InOrder r refuse cs A → InOrder (f r) out cs B
+in-order-through f r refuse out [] A B e g p = g p
+in-order-through f r refuse out (c ∷ cs) A B e g p = (λ h. ap f (p .0 h) ∙ e (c .number), λ h. in-order-through f r refuse out cs A B e g (p .1 h))
+
+looks-through : {R S : Type 0} (f : R → S) (r : R) (refuse : ℕ → R) (out : ℕ → S) (reading : P.Result Job) (conditions : Job → List Condition) (A B : Job → Type 0) → ((n : ℕ) → f (refuse n) ≡ out n) → ((j : Job) → A j → B j) → Looks r refuse reading conditions A → Looks (f r) out reading conditions B
+looks-through f r refuse out reading conditions A B e g l = (λ n q. ap f (l .0 n q) ∙ e n, λ j k q. in-order-through f r refuse out (conditions j) (A j) (B j) e (g j) (l .1 j k q))
+
+refusal-shown : (list : List ℕ) (n : ℕ) → done-export (lent.refuse list n) ≡ filled n list
+unfolding done-export lent.refuse number-of
+refusal-shown list n = refl
+
+done-shown : (e : lent.Ended (Unit {0})) → e .answer ≡ gives tt → done-export e ≡ filled 0 (e .list)
+unfolding done-export number-of
+done-shown e q = rw q
+
+pub reports-exported : Reports
+reports-exported b entries sums = looks-through done-export _ (lent.refuse sums) (λ n. filled n sums) (parse b) (λ j. condition 14 (InShape j entries) ∷ condition 12 (length (j .units) + 1 ≤ length sums) ∷ []) (λ j. Reported j (plan-of j entries) sums (report-call b entries sums)) (λ j. Reporting j entries sums (report-export b entries sums)) (refusal-shown sums) (λ j c. record { report = report-call b entries sums; claim = c; is = done-shown (report-call b entries sums) (c .given) }) (reports b entries sums)
+
+pub turns-exported : Turns
+turns-exported b old entries = looks-through done-export _ (lent.refuse entries) (λ n. filled n entries) (parse b) (λ j. condition 14 (WasPlan j old) ∷ condition 12 (3 * intervals j ≤ length entries) ∷ []) (λ j. Turned j old entries (turn-call b old entries)) (λ j. Turning j old entries (turn-export b old entries)) (refusal-shown entries) (λ j c. record { turn = turn-call b old entries; claim = c; is = done-shown (turn-call b old entries) (c .given) }) (turns b old entries)
+
+-- an order that is known of the refusal found first
+in-front : {R : Type 0} (refuse : ℕ → R) (o : Option ℕ) (r : R) (cs ds : List Condition) (Else : Type 0) → InOrder o some cs (o ≡ none) → ((n : ℕ) → o ≡ some n → r ≡ refuse n) → (o ≡ none → InOrder r refuse ds Else) → InOrder r refuse (cs ++ ds) Else
+in-front refuse o r [] ds Else p f g = g p
+in-front refuse o r (c ∷ cs) ds Else p f g = (λ h. f (c .number) (p .0 h), λ h. in-front refuse o r cs ds Else (p .1 h) f g)
+
+module _ (fields rates sizes distortions job values : List ℕ) where
+  abbrev H : Header
+  H = header-of fields
+
+  abbrev O : Option ℕ
+  O = write-refusal H rates sizes distortions (length job)
+
+  abbrev r : x.Written
+  r = write-export fields rates sizes distortions job values
+
+  abbrev W : x.Written
+  W = after-write (write-call H rates sizes distortions job) values
+
+  module _ (nine : (length fields ≡ 9) ⊎ (length fields ≡ 12)) where
+    on : r ≡ unless (λ n. written n job values) (first O (refusal (room-for 1 values))) W
+    unfolding write-export
+    on = guarded-last (λ n. written n job values) _ _ (is-header (length fields) nine)
+
+    refuses : (n : ℕ) → O ≡ some n → r ≡ written n job values
+    refuses n e = on ∙ unless-some (λ n. written n job values) _ n W (unless-some some O n _ e)
+
+    then-room : O ≡ none → InOrder r (λ n. written n job values) (condition 12 (1 ≤ length values) ∷ []) (Writing fields rates sizes distortions job values r)
+    then-room e =
+        in-order (λ n. written n job values) (room-decides 1 values) (Writing fields rates sizes distortions job values) W r
+        (on ∙ ap (λ (o : Option ℕ). unless (λ n. written n job values) o W) (unless-none some O _ e) ∙ unfold guarded in refl)
+        (λ h. shows (done-first H rates sizes distortions job e))
+      where
+        shows : write-call H rates sizes distortions job .answer ≡ gives (job-size H) → Writing fields rates sizes distortions job values W
+        shows q = unfold after-write number-of in (record {
+          taken = job-size H;
+          holds = writes H rates sizes distortions job (job-size H) q;
+          is = ap₂ (λ (n : ℕ) (vs : List ℕ). written n (write-call H rates sizes distortions job .list) vs) (rw q) (put-given _ (job-size H) (λ (n : ℕ). n ∷ []) values q);
+        })
+
+pub writes-exported : Writes
+writes-exported fields rates sizes distortions job values = (
+  λ f. unfold write-export in (guarded-here (λ n. written n job values) _ _ _ (no-header (length fields) f)),
+  λ nine. in-front (λ n. written n job values) (write-refusal (header-of fields) rates sizes distortions (length job)) (write-export fields rates sizes distortions job values) (Asks (header-of fields) rates sizes distortions job) (condition 12 (1 ≤ length values) ∷ []) (Writing fields rates sizes distortions job values (write-export fields rates sizes distortions job values)) (refusal-order (header-of fields) rates sizes distortions job) (refuses fields rates sizes distortions job values nine) (then-room fields rates sizes distortions job values nine),
+)

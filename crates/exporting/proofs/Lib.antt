@@ -1,0 +1,5 @@
+-- The claims of the exported calls, and laws by which the code meets its contracts.
+pub mod Fields
+pub mod Rooms
+pub mod Counts
+pub mod Exports

@@ -1,4 +1,0 @@
--- Laws that belong to no one function.
-pub mod Lists
-pub mod Answering
-pub mod Exports
