@@ -39,7 +39,7 @@ use Rattle.planning.specs.Claims.{PlanClaim}
 use Rattle.planning.proofs.DemandThree.{demand-three}
 use Rattle.planning.proofs.Refusals as planning
 use Rattle.calling.specs.Commands.{calls-of, calls-tests}
-use Rattle.calling.specs.Sessions.{made, answer-number, numbers, aim-named, order-named, named-tests, answers-tests, calls-refusal, calls-call, Session, refuse, session-tests, plan-refusal, planned-after, session-call, replay-refusal, replay-session}
+use Rattle.calling.specs.Sessions.{made, answer-number, numbers, aim-named, order-named, asked-tests, answers-tests, calls-refusal, calls-call, Session, refuse, session-tests, plan-refusal, planned-after, session-call, replay-refusal, replay-session}
 use Rattle.calling.specs.Claims.{Either, Named, AllKinds, Whole, book-numbers, book-pins, SessionClaim, SessionKeeping, CallSessions, Sessions, SessionKeeps, ReplaySessions, ReplaySessionKeeps}
 use Rattle.calling.proofs.Numbers.{calls-decide}
 
@@ -55,8 +55,9 @@ one-of-two n = (λ e. go n (leb-true n 1 e), λ e. le-leb n 1 (low e))
     low (inl e) = omega arith
     low (inr e) = omega arith
 
-named-decide : (aim order : ℕ) → Decides (named-tests aim order) (condition 2 (Either aim) ∷ condition 2 (Either order) ∷ [])
-named-decide aim order = one-more refl (one-of-two aim) (one-more refl (one-of-two order) no-more)
+asked-decide : (calls : List ℕ) (aim order : ℕ) → Decides (asked-tests calls aim order) (condition 2 (Either aim) ∷ condition 2 (Either order) ∷ condition 2 (AllKinds calls) ∷ condition 1 (Whole calls) ∷ [])
+unfolding asked-tests
+asked-decide calls aim order = one-more refl (one-of-two aim) (one-more refl (one-of-two order) (calls-decide calls))
 
 pub named : Named
 unfolding aim-named order-named if_then_else_
@@ -105,7 +106,7 @@ module _ (b calls : List ℕ) (aim order : ℕ) (answers table entries : List �
   pub session-decides : (j : Job) → Decides (session-tests j calls aim order (length answers) (length table) (length entries)) (condition 2 (Either aim) ∷ condition 2 (Either order) ∷ condition 2 (AllKinds calls) ∷ condition 1 (Whole calls) ∷ condition 11 (words j ≤ length table) ∷ condition 12 (length calls / 3 ≤ length answers) ∷ condition 12 (entry-size * intervals j ≤ length entries) ∷ [])
   unfolding session-tests
   session-decides j =
-      decides-join (decides-join (named-decide aim order) (calls-decide calls))
+      decides-join (asked-decide calls aim order)
       (one-more refl (leb-true (words j) (length table), le-leb (words j) (length table))
       (one-more refl (leb-true (length calls / 3) (length answers), le-leb (length calls / 3) (length answers))
       (one-more refl (leb-true (entry-size * intervals j) (length entries), le-leb (entry-size * intervals j) (length entries)) no-more)))

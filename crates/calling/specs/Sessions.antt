@@ -52,8 +52,9 @@ aim-named n = if eqb n 1 then even else total
 unfoldable pub order-named : ℕ → Order
 order-named n = if eqb n 1 then late else early
 
-abbrev pub named-tests : ℕ → ℕ → List Test
-named-tests aim order = test 2 (leb aim 1) ∷ test 2 (leb order 1) ∷ []
+-- what is asked, by numbers: aim and order, 2, then the calls, 2 or 1
+unfoldable pub asked-tests : List ℕ → ℕ → ℕ → List Test
+asked-tests calls aim order = test 2 (leb aim 1) ∷ test 2 (leb order 1) ∷ calls-tests calls
 
 -- The calls and the planning after them: what planning answers and leaves, and the list for the calls' numbers.
 pub record Session : Type 0 where
@@ -64,9 +65,9 @@ pub record Session : Type 0 where
 unfoldable pub refuse : List ℕ → List ℕ → List ℕ → ℕ → Session
 refuse answers table entries n = record { answers = answers; planned = plan.refuse table entries n }
 
--- all that is looked at before a call is made: aim and order, 2, the calls, 2 or 1, then the table, 11, then the lists for the numbers and the entries, 12
+-- all that is looked at before a call is made: what is asked, then the table, 11, then the lists for the numbers and the entries, 12
 unfoldable pub session-tests : Job → List ℕ → ℕ → ℕ → ℕ → ℕ → ℕ → List Test
-session-tests j calls aim order answers table entries = (named-tests aim order ++ calls-tests calls) ++ (test 11 (leb (words j) table) ∷ test 12 (leb (length calls / 3) answers) ∷ test 12 (leb (entry-size * intervals j) entries) ∷ [])
+session-tests j calls aim order answers table entries = asked-tests calls aim order ++ (test 11 (leb (words j) table) ∷ test 12 (leb (length calls / 3) answers) ∷ test 12 (leb (entry-size * intervals j) entries) ∷ [])
 
 unfoldable pub plan-refusal : List ℕ → List ℕ → ℕ → ℕ → ℕ → ℕ → ℕ → Option ℕ
 plan-refusal b calls aim order answers table entries = refusal-in (parse b) (λ j. session-tests j calls aim order answers table entries)

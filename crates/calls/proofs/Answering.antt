@@ -22,25 +22,25 @@ use Rattle.calling.specs.Sessions.{answers-tests, calls-refusal, calls-call}
 use Rattle.calling.proofs.Sessions.{calls-by}
 use Rattle.calls.specs.Answers.{Made}
 
--- the calls' tests, and others behind them
-module _ (b calls : List ℕ) (more : Job → List Test) where
+-- tests of what is asked, as of the calls, and others behind them, which know the job
+module _ (b : List ℕ) (asked : List Test) (more : Job → List Test) where
   abbrev whole : Option ℕ
-  whole = refusal-in (parse b) (λ j. calls-tests calls ++ more j)
+  whole = refusal-in (parse b) (λ j. asked ++ more j)
 
   pub not-read : (n : ℕ) → parse b ≡ P.refused n → some n ≡ whole
   unfolding refusal-in
   not-read n e = rw e
 
   module _ (h : Header) (o : Opens b h) where
-    looked : whole ≡ first (refusal (calls-tests calls)) (refusal (more (job-in b)))
+    looked : whole ≡ first (refusal asked) (refusal (more (job-in b)))
     unfolding refusal-in
-    looked = rw (o .parsed) (refusal-join (calls-tests calls) (more (job-in b)))
+    looked = rw (o .parsed) (refusal-join asked (more (job-in b)))
 
-    pub by-calls : (n : ℕ) → some n ≡ refusal (calls-tests calls) → some n ≡ whole
-    by-calls n e = sym (looked ∙ unless-some some (refusal (calls-tests calls)) n _ (sym e))
+    pub by-asked : (n : ℕ) → some n ≡ refusal asked → some n ≡ whole
+    by-asked n e = sym (looked ∙ unless-some some (refusal asked) n _ (sym e))
 
-    pub behind-calls : none ≡ refusal (calls-tests calls) → whole ≡ refusal (more (job-in b))
-    behind-calls e = looked ∙ unless-none some (refusal (calls-tests calls)) _ (sym e)
+    pub behind-asked : none ≡ refusal asked → whole ≡ refusal (more (job-in b))
+    behind-asked e = looked ∙ unless-none some (refusal asked) _ (sym e)
 
 -- calls alone
 module _ (b calls : List ℕ) (answers : ℕ) where
@@ -49,17 +49,17 @@ module _ (b calls : List ℕ) (answers : ℕ) where
 
   pub calls-not-read : (n : ℕ) → parse b ≡ P.refused n → some n ≡ calls-refusal b calls answers
   unfolding calls-refusal answers-tests
-  calls-not-read = not-read b calls (λ j. few ∷ [])
+  calls-not-read = not-read b (calls-tests calls) (λ j. few ∷ [])
 
   module _ (h : Header) (o : Opens b h) where
     pub calls-not-due : (n : ℕ) → some n ≡ refusal (calls-tests calls) → some n ≡ calls-refusal b calls answers
     unfolding calls-refusal answers-tests
-    calls-not-due = by-calls b calls (λ j. few ∷ []) h o
+    calls-not-due = by-asked b (calls-tests calls) (λ j. few ∷ []) h o
 
     module _ (f : none ≡ refusal (calls-tests calls)) where
       on : calls-refusal b calls answers ≡ refusal (few ∷ [])
       unfolding calls-refusal answers-tests
-      on = behind-calls b calls (λ j. few ∷ []) h o f
+      on = behind-asked b (calls-tests calls) (λ j. few ∷ []) h o f
 
       pub calls-12 : answers < length calls / 3 → some 12 ≡ calls-refusal b calls answers
       calls-12 l = sym (on ∙ refusal-here few [] (lt-leb (length calls / 3) answers l))

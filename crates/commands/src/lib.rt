@@ -10,6 +10,7 @@ ghost use Rattle.planner.specs.Answers.{planned};
 ghost use Rattle.calling.specs.Commands.{command, follow, commands-call};
 ghost use Rattle.calling.specs.Sessions.{input-call};
 ghost use Rattle.commands.specs.Answers.{command-is, step-is, carries-out};
+use best::Order;
 use header::Verdict;
 use pins::Answer;
 use pins::Handed;
@@ -17,6 +18,7 @@ use pins::Opening;
 use pins::kind::LIFT;
 use pins::kind::PIN;
 use pinset::PinSet;
+use planner::Aim;
 use planner::Planned;
 
 // A command record, or the number that refuses it.
@@ -158,6 +160,6 @@ pub fn plan_input(input: &[u8], table: &mut [u32], entries: &mut [u8]) -> Planne
     let set = taken.set;
     match answer {
         Answer::Refused(n) => Planned::Refused(n),
-        Answer::Done => planner::plan(input, set, table, entries),
+        Answer::Done => planner::plan(input, set, Aim::Total, Order::Late, table, entries),
     }
 }

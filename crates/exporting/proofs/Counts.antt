@@ -16,7 +16,7 @@ use Rattle.model.specs.Job.{Levels, Job, Entry}
 use Rattle.model.specs.Pins.{PinMap}
 use Rattle.model.specs.Levels.{unusedTotals}
 use Rattle.model.specs.Replay.{Totals, totals, Result, clean, stopped, replay}
-use Rattle.model.specs.Best.{late, least-total}
+use Rattle.model.specs.Best.{Order, least-total, Aim, open-for}
 use Rattle.format.specs.Parser as P
 use Rattle.format.specs.Parser.{on-read}
 use Rattle.format.specs.JobBytes.{parse}
@@ -30,7 +30,7 @@ use Rattle.replaying.specs.Entries.{plan-of}
 use Rattle.planning.specs.Calls as p
 use Rattle.planning.specs.Calls.{searched, search-in, plan-in, plan-call}
 use Rattle.calling.specs.Sessions as s
-use Rattle.calling.specs.Sessions.{made, planned-after, session-call, replay-session}
+use Rattle.calling.specs.Sessions.{made, aim-named, order-named, planned-after, session-call, replay-session}
 use Rattle.values.specs.Lists.{buckets-in}
 
 -- totals have a number for each bucket
@@ -71,29 +71,29 @@ of-job : (b : List ℕ) (j : Job) (k : ℕ) → parse b ≡ P.took j k → lengt
 of-job b j k e = sym (ap (λ (i : Job). length (i .line .buckets)) (held-job b j k e))
 
 -- of planning
-search-counts : (j : Job) (m : PinMap) (table entries : List ℕ) → length (j .start .buckets) ≡ length (j .line .buckets) → Counts (length (j .line .buckets)) (search-in j m late 0 (j .start) table entries .answer)
+search-counts : (j : Job) (m : PinMap) (a : Aim) (o : Order) (table entries : List ℕ) → length (j .start .buckets) ≡ length (j .line .buckets) → Counts (length (j .line .buckets)) (search-in j m a o 0 (j .start) table entries .answer)
 unfolding search-in
-search-counts j m table entries e = go (least-total j m 0 (j .start))
+search-counts j m a o table entries e = go (least-total j (open-for a j m 0 (j .start)) 0 (j .start))
   where
-    go : (v : Option ℕ) → Counts (length (j .line .buckets)) (searched j m late 0 (j .start) v table entries .answer)
+    go : (v : Option ℕ) → Counts (length (j .line .buckets)) (searched j (open-for a j m 0 (j .start)) o 0 (j .start) v table entries .answer)
     go none = unfold searched in (no-count _ 13)
     go (some v) = unfold searched in (λ t q. ap (λ (x : Totals). length (x .unused)) (sym (gives-same q)) ∙ totals-count j (j .start) _ e)
 
 module _ (b : List ℕ) where
-  plan-counts : (set : PinSet) (table entries : List ℕ) → Counts (buckets-in b) (plan-call b set table entries .answer)
+  plan-counts : (set : PinSet) (a : Aim) (o : Order) (table entries : List ℕ) → Counts (buckets-in b) (plan-call b set a o table entries .answer)
   unfolding plan-call plan-in p.refuse checked
-  plan-counts set table entries =
+  plan-counts set a o table entries =
       read-all (λ (x : p.Planned). Counts (buckets-in b) (x .answer)) (p.refuse table entries) (checked b set) _ (λ n. no-count _ n)
       (λ j k e.
       let q : parse b ≡ P.took j k = was-read b set (parse b) j k refl e in
       guarded-all (λ (x : p.Planned). Counts (buckets-in b) (x .answer)) (p.refuse table entries) _ _ (λ n. no-count _ n)
-      (subst (λ (n : ℕ). Counts n (search-in j (lines (length (j .units)) (set .pins)) late 0 (j .start) table entries .answer)) (of-job b j k q) (search-counts j _ table entries (well-read b j k q .fills))))
+      (subst (λ (n : ℕ). Counts n (search-in j (lines (length (j .units)) (set .pins)) a o 0 (j .start) table entries .answer)) (of-job b j k q) (search-counts j _ a o table entries (well-read b j k q .fills))))
 
-  pub session-counts : (calls answers table entries : List ℕ) → Counts (buckets-in b) (session-call b calls answers table entries .planned .answer)
+  pub session-counts : (calls : List ℕ) (aim order : ℕ) (answers table entries : List ℕ) → Counts (buckets-in b) (session-call b calls aim order answers table entries .planned .answer)
   unfolding session-call planned-after s.refuse p.refuse
-  session-counts calls answers table entries =
+  session-counts calls aim order answers table entries =
       read-all (λ (x : s.Session). Counts (buckets-in b) (x .planned .answer)) (s.refuse answers table entries) (parse b) _ (λ n. no-count _ n)
-      (λ j k e. guarded-all (λ (x : s.Session). Counts (buckets-in b) (x .planned .answer)) (s.refuse answers table entries) _ _ (λ n. no-count _ n) (plan-counts (made b calls .set) table entries))
+      (λ j k e. guarded-all (λ (x : s.Session). Counts (buckets-in b) (x .planned .answer)) (s.refuse answers table entries) _ _ (λ n. no-count _ n) (plan-counts (made b calls .set) (aim-named aim) (order-named order) table entries))
 
   -- of a replay
   abbrev pub ReplayCounts : Answer Replayed → Type 0

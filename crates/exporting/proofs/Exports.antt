@@ -107,7 +107,7 @@ calling b calls answers values =
     done j q = unfold after-calls number-of put in (rw q)
 
 -- what is exported of a session of which demand 3 holds
-module _ (j : Job) (calls answers table entries values : List ℕ) (s : Session) (c : SessionClaim j calls answers table entries s) where
+module _ (j : Job) (calls : List ℕ) (aim order : ℕ) (answers table entries values : List ℕ) (s : Session) (c : SessionClaim j calls aim order answers table entries s) where
   thirteen : number-of (s .planned .answer) ≡ 13 → s .planned .answer ≡ refused 13
   thirteen e = number-none (s .planned .answer) 13 e (λ z. omega arith)
 
@@ -115,7 +115,7 @@ module _ (j : Job) (calls answers table entries values : List ℕ) (s : Session)
   unfolding number-of
   is-thirteen e = rw e
 
-  exported : Planning j calls answers table entries values (after-session s values)
+  exported : Planning j calls aim order answers table entries values (after-session s values)
   unfolding after-session
   exported = record {
     session = s;
@@ -131,12 +131,12 @@ module _ (j : Job) (calls answers table entries values : List ℕ) (s : Session)
 
 pub plans : Plans
 unfolding plan-export plan-refusal
-plans b calls answers table entries values =
-    of-job _ (λ n. planned n answers table entries values) b (λ j. PlanConditions j calls answers table entries) values _ (3 + buckets-in b) (λ j. 3 + length (j .line .buckets)) (λ j k e. ap (λ (n : ℕ). 3 + n) (counted b j k e))
-    (looks (λ n. planned n answers table entries values) b (λ j. session-tests j calls (length answers) (length table) (length entries)) (3 + buckets-in b) values (after-session (session-call b calls answers table entries) values) (λ j. PlanConditions j calls answers table entries) (λ j r. Planning j calls answers table entries values r)
+plans b calls aim order answers table entries values =
+    of-job _ (λ n. planned n answers table entries values) b (λ j. PlanConditions j calls aim order answers table entries) values _ (3 + buckets-in b) (λ j. 3 + length (j .line .buckets)) (λ j k e. ap (λ (n : ℕ). 3 + n) (counted b j k e))
+    (looks (λ n. planned n answers table entries values) b (λ j. session-tests j calls aim order (length answers) (length table) (length entries)) (3 + buckets-in b) values (after-session (session-call b calls aim order answers table entries) values) (λ j. PlanConditions j calls aim order answers table entries) (λ j r. Planning j calls aim order answers table entries values r)
     (λ j k e. (
-      session-decides b calls answers table entries j,
-      λ h. exported j calls answers table entries values (session-call b calls answers table entries) (sessions b calls answers table entries .1 j k e .1 (h .0) .1 (h .1 .0) .1 (h .1 .1 .0) .1 (h .1 .1 .1 .0) .1 (h .1 .1 .1 .1 .0)),
+      session-decides b calls aim order answers table entries j,
+      λ h. exported j calls aim order answers table entries values (session-call b calls aim order answers table entries) (sessions b calls aim order answers table entries .1 j k e .1 (h .0) .1 (h .1 .0) .1 (h .1 .1 .0) .1 (h .1 .1 .1 .0) .1 (h .1 .1 .1 .1 .0) .1 (h .1 .1 .1 .1 .1 .0) .1 (h .1 .1 .1 .1 .1 .1 .0)),
     )))
 
 pub replays : Replays

@@ -19,7 +19,7 @@ use Rattle.replaying.specs.Calls.{Replayed}
 use Rattle.replaying.specs.Claims.{InShape, DemandTwo, Reported, WasPlan, Turned}
 use Rattle.writing.specs.Claims.{Asks, Written}
 use Rattle.calling.specs.Sessions.{Session}
-use Rattle.calling.specs.Claims.{AllKinds, Whole, book-numbers, book-pins, SessionClaim}
+use Rattle.calling.specs.Claims.{Either, AllKinds, Whole, book-numbers, book-pins, SessionClaim}
 use Rattle.values.specs.Lists.{pins-list}
 use Rattle.exporting.specs.Exports as x
 use Rattle.exporting.specs.Exports.{opened, open-export, called, calls-export, planned, after-session, plan-export, replayed, after-replay, replay-export, Filled, filled, report-export, turn-export, written, write-export}
@@ -37,20 +37,20 @@ abbrev pub Calling : Type 0
 Calling = (b calls answers values : List ℕ) → Looks (calls-export b calls answers values) (λ n. called n answers values) (parse b) (λ j. CallConditions calls ++ (condition 12 (length calls / 3 ≤ length answers) ∷ condition 12 (3 ≤ length values) ∷ [])) (λ j. calls-export b calls answers values ≡ called 0 (over (book-numbers j calls) answers) (over (pins-list (pin-totals j (book-pins j calls))) values))
 
 -- planning after calls, from lists that are long enough: the numbers are those of a session of which demand 3 holds
-pub record Planning (j : Job) (calls answers table entries values : List ℕ) (r : x.Planned) : Type 0 where
+pub record Planning (j : Job) (calls : List ℕ) (aim order : ℕ) (answers table entries values : List ℕ) (r : x.Planned) : Type 0 where
   pub session : Session
-  pub claim : SessionClaim j calls answers table entries session
+  pub claim : SessionClaim j calls aim order answers table entries session
   pub is : r ≡ after-session session values
   -- so 13 is answered exactly where no plan is admissible, and then nothing but the table is written; else the answer is 0
   pub none-iff : (r .number ≡ 13) ↔ ((p : List Entry) → Admissible j (book-pins j calls) 0 (j .start) p → ⊥)
   pub none-kept : r .number ≡ 13 → (r .answers ≡ answers) × (r .entries ≡ entries) × (r .values ≡ values)
   pub else-done : (r .number ≡ 13 → ⊥) → r .number ≡ 0
 
-abbrev pub PlanConditions : Job → List ℕ → List ℕ → List ℕ → List ℕ → List Condition
-PlanConditions j calls answers table entries = CallConditions calls ++ (condition 11 (words j ≤ length table) ∷ condition 12 (length calls / 3 ≤ length answers) ∷ condition 12 (3 * intervals j ≤ length entries) ∷ [])
+abbrev pub PlanConditions : Job → List ℕ → ℕ → ℕ → List ℕ → List ℕ → List ℕ → List Condition
+PlanConditions j calls aim order answers table entries = condition 2 (Either aim) ∷ condition 2 (Either order) ∷ CallConditions calls ++ (condition 11 (words j ≤ length table) ∷ condition 12 (length calls / 3 ≤ length answers) ∷ condition 12 (3 * intervals j ≤ length entries) ∷ [])
 
 abbrev pub Plans : Type 0
-Plans = (b calls answers table entries values : List ℕ) → Looks (plan-export b calls answers table entries values) (λ n. planned n answers table entries values) (parse b) (λ j. PlanConditions j calls answers table entries ++ (condition 12 (3 + length (j .line .buckets) ≤ length values) ∷ [])) (λ j. Planning j calls answers table entries values (plan-export b calls answers table entries values))
+Plans = (b calls : List ℕ) (aim order : ℕ) (answers table entries values : List ℕ) → Looks (plan-export b calls aim order answers table entries values) (λ n. planned n answers table entries values) (parse b) (λ j. PlanConditions j calls aim order answers table entries ++ (condition 12 (3 + length (j .line .buckets) ≤ length values) ∷ [])) (λ j. Planning j calls aim order answers table entries values (plan-export b calls aim order answers table entries values))
 
 -- a replay after calls: the numbers are those of a replay of which demand 2 holds; a violation is no refusal
 pub record Replaying (j : Job) (calls entries levels values : List ℕ) (r : x.Played) : Type 0 where

@@ -67,10 +67,10 @@ planned n answers table entries values = record { number = n; answers = answers;
 unfoldable pub after-session : Session → List ℕ → Planned
 after-session r values = planned (number-of (r .planned .answer)) (r .answers) (r .planned .table) (r .planned .entries) (put (r .planned .answer) totals-list values)
 
-unfoldable pub plan-export : List ℕ → List ℕ → List ℕ → List ℕ → List ℕ → List ℕ → Planned
-plan-export b calls answers table entries values =
-    unless (λ n. planned n answers table entries values) (first (plan-refusal b calls (length answers) (length table) (length entries)) (refusal (room-for (3 + buckets-in b) values)))
-    (after-session (session-call b calls answers table entries) values)
+unfoldable pub plan-export : List ℕ → List ℕ → ℕ → ℕ → List ℕ → List ℕ → List ℕ → List ℕ → Planned
+plan-export b calls aim order answers table entries values =
+    unless (λ n. planned n answers table entries values) (first (plan-refusal b calls aim order (length answers) (length table) (length entries)) (refusal (room-for (3 + buckets-in b) values)))
+    (after-session (session-call b calls aim order answers table entries) values)
 
 pub record Played : Type 0 where
   pub number : ℕ

@@ -2,6 +2,7 @@
 // Standard input has Job A of document 01, 64 bytes, Job A with a second bucket, 70 bytes, then rows of one set each. A line says, for each of the two jobs, what the check, a pin of unit 2 at 0, a lift of unit 1, a replay and planning answer: 0, or the number of the refusal.
 ghost use Prim.Native.Nat.{_≤_};
 ghost use lib.ListN.{length};
+use best::Order;
 use header::Bucket;
 use header::Header;
 use job::Reading;
@@ -9,6 +10,7 @@ use libc::STDIN_FILENO;
 use libc::STDOUT_FILENO;
 use pins::Answer;
 use pinset::PinSet;
+use planner::Aim;
 use planner::Planned;
 use replay::Replayed;
 
@@ -117,7 +119,7 @@ fn try_set(job: &[u8], set: PinSet) {
     print_replayed(replay::replay(job, set, &plan, &mut levels));
     let mut table = [0u32; 160];
     let mut entries = [0u8; 9];
-    print_planned(planner::plan(job, set, &mut table, &mut entries));
+    print_planned(planner::plan(job, set, Aim::Total, Order::Late, &mut table, &mut entries));
 }
 
 fn try_rows(input: &[u8])

@@ -1,6 +1,7 @@
 -- `commands::plan_input` meets its contract.
 use Rattle.commands.proofs.Inputs.{input-long, input-refused, input-planned}
-use Rattle.planner.specs.Answers.{answered, planned}
+use Rattle.planner.specs.Answers.{answered, planned, aim-is}
+use Rattle.best.specs.Answers.{order-is}
 use Rattle.planning.specs.Calls.{refuse}
 use mathlib.Core.Path.{_∙_}
 use borrow.Author.Needs.{needs}
@@ -37,6 +38,7 @@ same-length-2 : tie.Need-same-length-2
 same-length-2 c = search needs
 
 returns-3 : tie.Need-returns-3
+unfolding aim-is order-is
 returns-3 c =
     let p = c .before .before .before .before in
     let d = p .before .before .before in

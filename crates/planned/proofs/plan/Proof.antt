@@ -19,7 +19,7 @@ cast-result c = search needs
 
 returns : tie.Need-returns
 unfolding verdict
-returns c = plan-before _ _ _ _ _ _ _ (ap verdict (sym (c .before .n .given .1)) ∙ c .before .before .before .plan-refusal .ensures)
+returns c = plan-before _ _ _ _ _ _ _ _ _ (ap verdict (sym (c .before .n .given .1)) ∙ c .before .before .before .plan-refusal .ensures)
 
 enum-told : tie.Need-enum-told
 enum-told c = search needs
@@ -32,7 +32,7 @@ add-if1 c = record { fits = omega (arith, few-buckets (c .before .before .before
 
 returns-2 : tie.Need-returns-2
 unfolding verdict
-returns-2 c = plan-12 _ _ _ _ _ _ (ap verdict (sym (c .before .before .enum-told .given .1)) ∙ c .before .before .before .before .plan-refusal .ensures) (rw (← c .before .buckets-in .ensures) (c .if1 .taken))
+returns-2 c = plan-12 _ _ _ _ _ _ _ _ (ap verdict (sym (c .before .before .enum-told .given .1)) ∙ c .before .before .before .before .plan-refusal .ensures) (rw (← c .before .buckets-in .ensures) (c .if1 .taken))
 
 plan-after-requires : tie.Need-plan-after-requires
 plan-after-requires c κs = search needs
@@ -47,7 +47,7 @@ enum-known-totals : tie.Need-enum-known-totals
 enum-known-totals c = search needs
 
 put-totals-requires : tie.Need-put-totals-requires
-put-totals-requires c κs = plan-room _ _ _ _ _ _ _ _ _ (c .before .before .before .before .before .before .before .before .before .before .plan-after .ensures) _ (c .before .before .totals .given .1) _ (rw (← c .before .before .before .before .before .before .before .before .before .before .before .before .before .before .before .buckets-in .ensures) (c .before .before .before .before .before .before .before .before .before .before .before .before .before .before .if1 .left))
+put-totals-requires c κs = plan-room _ _ _ _ _ _ _ _ _ _ _ (c .before .before .before .before .before .before .before .before .before .before .plan-after .ensures) _ (c .before .before .totals .given .1) _ (rw (← c .before .before .before .before .before .before .before .before .before .before .before .before .before .before .before .buckets-in .ensures) (c .before .before .before .before .before .before .before .before .before .before .before .before .before .before .if1 .left))
 
 same-length : tie.Need-same-length
 same-length c = search needs
@@ -60,7 +60,7 @@ same-length-3 c = search needs
 
 returns-3 : tie.Need-returns-3
 unfolding verdict
-returns-3 c = plan-refused _ _ _ _ _ _ (ap verdict (sym (c .before .before .before .before .before .before .before .before .before .before .before .before .before .before .before .enum-told .given .1)) ∙ c .before .before .before .before .before .before .before .before .before .before .before .before .before .before .before .before .before .plan-refusal .ensures) (rw (← c .before .before .before .before .before .before .before .before .before .before .before .before .before .before .buckets-in .ensures) (c .before .before .before .before .before .before .before .before .before .before .before .before .before .if1 .left)) (c .before .before .before .before .before .before .before .before .before .plan-after .result) _ _ _ (c .before .before .before .before .before .before .before .before .before .plan-after .ensures) _ (c .before .n2 .given .1)
+returns-3 c = plan-refused _ _ _ _ _ _ _ _ (ap verdict (sym (c .before .before .before .before .before .before .before .before .before .before .before .before .before .before .before .enum-told .given .1)) ∙ c .before .before .before .before .before .before .before .before .before .before .before .before .before .before .before .before .before .plan-refusal .ensures) (rw (← c .before .before .before .before .before .before .before .before .before .before .before .before .before .before .buckets-in .ensures) (c .before .before .before .before .before .before .before .before .before .before .before .before .before .if1 .left)) (c .before .before .before .before .before .before .before .before .before .plan-after .result) _ _ _ (c .before .before .before .before .before .before .before .before .before .plan-after .ensures) _ (c .before .n2 .given .1)
 
 same-length-4 : tie.Need-same-length-4
 same-length-4 c = search needs
@@ -76,7 +76,7 @@ same-length-7 c = search needs
 
 returns-4 : tie.Need-returns-4
 unfolding verdict
-returns-4 c = plan-best _ _ _ _ _ _ (ap verdict (sym (c .before .before .before .before .before .before .before .before .before .before .before .before .before .before .before .before .before .before .before .enum-told .given .1)) ∙ c .before .before .before .before .before .before .before .before .before .before .before .before .before .before .before .before .before .before .before .before .before .plan-refusal .ensures) (rw (← c .before .before .before .before .before .before .before .before .before .before .before .before .before .before .before .before .before .before .buckets-in .ensures) (c .before .before .before .before .before .before .before .before .before .before .before .before .before .before .before .before .before .if1 .left)) (c .before .before .before .before .before .before .before .before .before .before .before .before .before .plan-after .result) _ _ _ (c .before .before .before .before .before .before .before .before .before .before .before .before .before .plan-after .ensures) _ (c .before .before .before .before .before .totals .given .1) _ (c .before .before .put-totals .ensures)
+returns-4 c = plan-best _ _ _ _ _ _ _ _ (ap verdict (sym (c .before .before .before .before .before .before .before .before .before .before .before .before .before .before .before .before .before .before .before .enum-told .given .1)) ∙ c .before .before .before .before .before .before .before .before .before .before .before .before .before .before .before .before .before .before .before .before .before .plan-refusal .ensures) (rw (← c .before .before .before .before .before .before .before .before .before .before .before .before .before .before .before .before .before .before .buckets-in .ensures) (c .before .before .before .before .before .before .before .before .before .before .before .before .before .before .before .before .before .if1 .left)) (c .before .before .before .before .before .before .before .before .before .before .before .before .before .plan-after .result) _ _ _ (c .before .before .before .before .before .before .before .before .before .before .before .before .before .plan-after .ensures) _ (c .before .before .before .before .before .totals .given .1) _ (c .before .before .put-totals .ensures)
 
 pub plan-spec : {M : Type 1} → statement M
 plan-spec =

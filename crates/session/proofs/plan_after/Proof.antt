@@ -18,13 +18,19 @@ enum-known-n c = search needs
 
 returns : tie.Need-returns
 unfolding session-is planned answered refuse plan.refuse verdict
-returns c = session-refused _ _ _ _ _ _ (ap verdict (sym (c .before .n .given .1)) ∙ c .before .before .before .plan-refusal .ensures)
+returns c = session-refused _ _ _ _ _ _ _ _ (ap verdict (sym (c .before .n .given .1)) ∙ c .before .before .before .plan-refusal .ensures)
 
 enum-told : tie.Need-enum-told
 enum-told c = search needs
 
 set-after-requires : tie.Need-set-after-requires
 set-after-requires c κs = search needs
+
+aim-named-requires : tie.Need-aim-named-requires
+aim-named-requires c κs = search needs
+
+order-named-requires : tie.Need-order-named-requires
+order-named-requires c κs = search needs
 
 plan-requires : tie.Need-plan-requires
 plan-requires c κs = search needs
@@ -37,7 +43,7 @@ enum-known-totals c = search needs
 
 put-numbers-requires : tie.Need-put-numbers-requires
 unfolding verdict
-put-numbers-requires c κs = session-room _ _ _ _ _ (ap verdict (sym (c .before .before .before .before .before .before .before .before .before .before .before .before .enum-told .given .1)) ∙ c .before .before .before .before .before .before .before .before .before .before .before .before .before .before .plan-refusal .ensures)
+put-numbers-requires c κs = session-room _ _ _ _ _ _ _ (ap verdict (sym (c .before .before .before .before .before .before .before .before .before .before .before .before .before .before .enum-told .given .1)) ∙ c .before .before .before .before .before .before .before .before .before .before .before .before .before .before .before .before .plan-refusal .ensures)
 
 same-length : tie.Need-same-length
 same-length c = search needs
@@ -47,7 +53,7 @@ same-length-2 c = search needs
 
 returns-2 : tie.Need-returns-2
 unfolding session-is planned answered verdict
-returns-2 c = session-none _ _ _ _ _ (ap verdict (sym (c .before .before .before .before .before .before .before .before .before .before .before .enum-told .given .1)) ∙ c .before .before .before .before .before .before .before .before .before .before .before .before .before .plan-refusal .ensures) _ (c .before .before .before .before .before .before .before .before .before .before .set-after .ensures) (planned (c .before .before .before .before .before .before .before .plan .result) _ _) (c .before .before .before .before .before .before .before .plan .ensures) _ (ap answered (c .before .n2 .given .1))
+returns-2 c = session-none _ _ _ _ _ _ _ (ap verdict (sym (c .before .before .before .before .before .before .before .before .before .before .before .before .before .enum-told .given .1)) ∙ c .before .before .before .before .before .before .before .before .before .before .before .before .before .before .before .plan-refusal .ensures) _ (c .before .before .before .before .before .before .before .before .before .before .before .before .set-after .ensures) _ (c .before .before .before .before .before .before .before .before .before .before .before .aim-named .ensures) _ (c .before .before .before .before .before .before .before .before .before .before .order-named .ensures) (planned (c .before .before .before .before .before .before .before .plan .result) _ _) (c .before .before .before .before .before .before .before .plan .ensures) _ (ap answered (c .before .n2 .given .1))
 
 same-length-3 : tie.Need-same-length-3
 same-length-3 c = search needs
@@ -60,7 +66,7 @@ same-length-5 c = search needs
 
 returns-3 : tie.Need-returns-3
 unfolding session-is planned answered verdict
-returns-3 c = session-made _ _ _ _ _ (ap verdict (sym (c .before .before .before .before .before .before .before .before .before .before .before .before .before .before .before .enum-told .given .1)) ∙ c .before .before .before .before .before .before .before .before .before .before .before .before .before .before .before .before .before .plan-refusal .ensures) _ (c .before .before .before .before .before .before .before .before .before .before .before .before .before .before .set-after .ensures) (planned (c .before .before .before .before .before .before .before .before .before .before .before .plan .result) _ _) (c .before .before .before .before .before .before .before .before .before .before .before .plan .ensures) _ (ap answered (c .before .before .before .before .before .totals .given .1)) _ _ (c .before .before .put-numbers .ensures)
+returns-3 c = session-made _ _ _ _ _ _ _ (ap verdict (sym (c .before .before .before .before .before .before .before .before .before .before .before .before .before .before .before .before .before .enum-told .given .1)) ∙ c .before .before .before .before .before .before .before .before .before .before .before .before .before .before .before .before .before .before .before .plan-refusal .ensures) _ (c .before .before .before .before .before .before .before .before .before .before .before .before .before .before .before .before .set-after .ensures) _ (c .before .before .before .before .before .before .before .before .before .before .before .before .before .before .before .aim-named .ensures) _ (c .before .before .before .before .before .before .before .before .before .before .before .before .before .before .order-named .ensures) (planned (c .before .before .before .before .before .before .before .before .before .before .before .plan .result) _ _) (c .before .before .before .before .before .before .before .before .before .before .before .plan .ensures) _ (ap answered (c .before .before .before .before .before .totals .given .1)) _ _ (c .before .before .put-numbers .ensures)
 
 pub plan-after-spec : {M : Type 1} → statement M
 plan-after-spec =
@@ -71,6 +77,8 @@ plan-after-spec =
     returns
     enum-told
     set-after-requires
+    aim-named-requires
+    order-named-requires
     plan-requires
     enum-known-n-2
     enum-known-totals

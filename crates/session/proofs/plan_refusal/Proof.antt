@@ -18,8 +18,8 @@ enum-known-n c = search needs
 enum-known-header : tie.Need-enum-known-header
 enum-known-header c = search needs
 
-calls-verdict-requires : tie.Need-calls-verdict-requires
-calls-verdict-requires c κs = search needs
+asked-verdict-requires : tie.Need-asked-verdict-requires
+asked-verdict-requires c κs = search needs
 
 enum-known-n-2 : tie.Need-enum-known-n-2
 enum-known-n-2 c = search needs
@@ -30,7 +30,7 @@ returns c =
     let read = c .before .before .before .before .before .before .before .read in
     let d = answer-took _ (read .result) _ _ (read .ensures) (c .before .before .before .before .before .header .given .1) in
     let o = opens-by _ _ (d .job) _ (d .is) (d .header-is) in
-    plan-not-due _ _ _ _ _ _ o _ (ap verdict (sym (c .before .n2 .given .1)) ∙ c .before .before .before .calls-verdict .ensures)
+    plan-not-due _ _ _ _ _ _ _ _ o _ (ap verdict (sym (c .before .n2 .given .1)) ∙ c .before .before .before .asked-verdict .ensures)
 
 enum-told : tie.Need-enum-told
 enum-told c = search needs
@@ -44,7 +44,7 @@ returns-2 c =
     let read = c .before .before .before .before .before .before .before .before .read in
     let d = answer-took _ (read .result) _ _ (read .ensures) (c .before .before .before .before .before .before .header .given .1) in
     let o = opens-by _ _ (d .job) _ (d .is) (d .header-is) in
-    plan-11 _ _ _ _ _ _ o (ap verdict (sym (c .before .before .enum-told .given .1)) ∙ c .before .before .before .before .calls-verdict .ensures) (omega (arith, c .before .table-words .ensures, c .if1 .taken))
+    plan-11 _ _ _ _ _ _ _ _ o (ap verdict (sym (c .before .before .enum-told .given .1)) ∙ c .before .before .before .before .asked-verdict .ensures) (omega (arith, c .before .table-words .ensures, c .if1 .taken))
 
 returns-3 : tie.Need-returns-3
 unfolding verdict
@@ -52,7 +52,7 @@ returns-3 c =
     let read = c .before .before .before .before .before .before .before .before .before .read in
     let d = answer-took _ (read .result) _ _ (read .ensures) (c .before .before .before .before .before .before .before .header .given .1) in
     let o = opens-by _ _ (d .job) _ (d .is) (d .header-is) in
-    plan-12-answers _ _ _ _ _ _ o (ap verdict (sym (c .before .before .before .enum-told .given .1)) ∙ c .before .before .before .before .before .calls-verdict .ensures) (omega (arith, c .before .before .table-words .ensures, c .before .if1 .left)) (c .if2 .taken)
+    plan-12-answers _ _ _ _ _ _ _ _ o (ap verdict (sym (c .before .before .before .enum-told .given .1)) ∙ c .before .before .before .before .before .asked-verdict .ensures) (omega (arith, c .before .before .table-words .ensures, c .before .if1 .left)) (c .if2 .taken)
 
 intervals-requires : tie.Need-intervals-requires
 intervals-requires c κs = search needs
@@ -66,13 +66,13 @@ returns-4 c =
     let read = c .before .before .before .before .before .before .before .before .before .before .before .read in
     let d = answer-took _ (read .result) _ _ (read .ensures) (c .before .before .before .before .before .before .before .before .before .header .given .1) in
     let o = opens-by _ _ (d .job) _ (d .is) (d .header-is) in
-    plan-12-entries _ _ _ _ _ _ o (ap verdict (sym (c .before .before .before .before .before .enum-told .given .1)) ∙ c .before .before .before .before .before .before .before .calls-verdict .ensures) (omega (arith, c .before .before .before .before .table-words .ensures, c .before .before .before .if1 .left)) (c .before .before .if2 .left) (omega (arith, c .before .intervals .ensures, c .if3 .taken))
+    plan-12-entries _ _ _ _ _ _ _ _ o (ap verdict (sym (c .before .before .before .before .before .enum-told .given .1)) ∙ c .before .before .before .before .before .before .before .asked-verdict .ensures) (omega (arith, c .before .before .before .before .table-words .ensures, c .before .before .before .if1 .left)) (c .before .before .if2 .left) (omega (arith, c .before .intervals .ensures, c .if3 .taken))
 
 returns-5 : tie.Need-returns-5
 unfolding verdict
 returns-5 c =
     let read = c .before .before .before .read in
-    plan-not-read _ _ _ _ _ _ (answer-refused _ (read .result) _ (read .ensures) (c .before .n .given .1))
+    plan-not-read _ _ _ _ _ _ _ _ (answer-refused _ (read .result) _ (read .ensures) (c .before .n .given .1))
 
 returns-6 : tie.Need-returns-6
 unfolding verdict plain
@@ -80,7 +80,7 @@ returns-6 c =
     let read = c .before .before .before .before .before .before .before .before .before .before .before .read in
     let d = answer-took _ (read .result) _ _ (read .ensures) (c .before .before .before .before .before .before .before .before .before .header .given .1) in
     let o = opens-by _ _ (d .job) _ (d .is) (d .header-is) in
-    plan-fits _ _ _ _ _ _ o (ap verdict (sym (c .before .before .before .before .before .enum-told .given .1)) ∙ c .before .before .before .before .before .before .before .calls-verdict .ensures) (omega (arith, c .before .before .before .before .table-words .ensures, c .before .before .before .if1 .left)) (c .before .before .if2 .left) (omega (arith, c .before .intervals .ensures, c .if3 .left))
+    plan-fits _ _ _ _ _ _ _ _ o (ap verdict (sym (c .before .before .before .before .before .enum-told .given .1)) ∙ c .before .before .before .before .before .before .before .asked-verdict .ensures) (omega (arith, c .before .before .before .before .table-words .ensures, c .before .before .before .if1 .left)) (c .before .before .if2 .left) (omega (arith, c .before .intervals .ensures, c .if3 .left))
 
 pub plan-refusal-spec : {M : Type 1} → statement M
 plan-refusal-spec =
@@ -89,7 +89,7 @@ plan-refusal-spec =
     read-requires
     enum-known-n
     enum-known-header
-    calls-verdict-requires
+    asked-verdict-requires
     enum-known-n-2
     returns
     enum-told
