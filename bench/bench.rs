@@ -9,7 +9,7 @@
 //! Planning stands beside two plain programs: four nested loops, with a second
 //! bucket five, and the two passes of the library written plainly. All three must
 //! give the same table, plan and least distortion. Loops over 1,000 choices would
-//! take minutes, and are left out.
+//! take minutes, and are left out. Even pictures stand beside the least total.
 
 use std::hint::black_box;
 use std::time::{Duration, Instant};

@@ -2242,9 +2242,24 @@ pub fn random_even_job(rng: &mut Rng, shape: &Shape) -> Draft {
 }
 
 /// The same with few distortions, so that many plans are equally even, and many of
-/// these have the same total; and with the same coding twice in a unit.
+/// these have the same total; or with one that a grain takes off anywhere, so that all
+/// plans that take as many grains have the same total; and with the same coding twice
+/// in a unit.
 pub fn random_level_job(rng: &mut Rng, shape: &Shape) -> Draft {
     let mut draft = random_even_job(rng, shape);
+    if rng.one_in(2) {
+        let decoder = draft.header[DECODER] as u32;
+        let gain = rng.pick(&[1, 7, 256, 3900]);
+        for (size, distortion) in draft.units.iter_mut().flatten() {
+            *distortion = gain * (decoder - *size as u32);
+        }
+        if !rng.one_in(3) {
+            // The coarsest first: what is too coarse for an even plan comes before what is
+            // not, and adds up to the same.
+            draft.units.iter_mut().for_each(|unit| unit.sort());
+        }
+        return draft;
+    }
     let most = draft.units.iter().flatten().map(|coding| coding.1).max().expect("a coding");
     let levels: &[u32] = rng.pick(&[
         &[7][..],
