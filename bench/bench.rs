@@ -9,12 +9,12 @@
 //! Planning stands beside two plain programs: four nested loops, with a second
 //! bucket five, and the two passes of the library written plainly. All three must
 //! give the same table, plan and least distortion. Loops over 1,000 choices would
-//! take minutes, and are left out.
+//! take minutes, and are left out. Even pictures stand beside the least total.
 
 use std::hint::black_box;
 use std::time::{Duration, Instant};
 
-use upload_planner::{numbers, Call};
+use upload_planner::{numbers, Aim, Call};
 
 #[allow(dead_code)]
 #[path = "../tests/reference.rs"]
@@ -689,7 +689,10 @@ const PROGRAMS: usize = 3;
 fn run_plan(program: usize, job: &[u8], left: &mut Left) {
     let Left { table, entries, .. } = left;
     left.total = match program {
-        0 => upload_planner::plan(job, &[], &mut [], table, entries).ok().map(|t| t.distortion),
+        0 => {
+            let planned = upload_planner::plan(job, &[], Aim::Total, &mut [], table, entries);
+            planned.ok().map(|totals| totals.distortion)
+        }
         1 => plain_plan(Filling::TwoPasses, job, &[], &mut [], table, entries),
         _ => plain_plan(Filling::Loops, job, &[], &mut [], table, entries),
     };
@@ -866,7 +869,7 @@ fn two_bucket_tables(with_full: bool) {
     let room = opened[0].plan_bytes();
     let mut lent = [(vec![0; words], vec![0; room]), (vec![0; words], vec![0; room])];
     let plan = |job: &[u8], (table, entries): &mut (Vec<u32>, Vec<u8>)| {
-        upload_planner::plan(job, &[], &mut [], table, entries).expect("a plan");
+        upload_planner::plan(job, &[], Aim::Total, &mut [], table, entries).expect("a plan");
     };
     for drain in [20, 30, 40] {
         let with_two = with_two(drain);
@@ -901,7 +904,8 @@ fn call_tables() {
         let times = short_in_turn(
             || {
                 let lent = (&mut answers, &mut words, &mut entries, &mut values);
-                black_box(numbers::plan(&job, &calls, lent.0, lent.1, lent.2, lent.3));
+                let aim = numbers::TOTAL;
+                black_box(numbers::plan(&job, &calls, aim, lent.0, lent.1, lent.2, lent.3));
             },
             || {
                 let lent = (&mut spare.0, &mut spare.1, &mut spare.2);
@@ -1048,8 +1052,9 @@ fn many_choice_tables() {
         let mut least = [f64::MAX; 4];
         for _ in 0..7 {
             for (job, best) in jobs.iter().zip(&mut least) {
+                let lent = (&mut table, &mut entries);
                 let start = Instant::now();
-                let planned = upload_planner::plan(job, &[], &mut [], &mut table, &mut entries);
+                let planned = upload_planner::plan(job, &[], Aim::Total, &mut [], lent.0, lent.1);
                 *best = best.min(start.elapsed().as_secs_f64());
                 planned.expect("a plan");
             }
@@ -1064,6 +1069,87 @@ fn many_choice_tables() {
             most / half
         );
     }
+}
+
+/// Even pictures beside the least total, the library alone. Both plan the same job into
+/// lists of their own, and the plan for even pictures is held to what it promises of the
+/// two: no less in total, and no unit worse than the worst of the other plan.
+fn even_tables(with_full: bool) {
+    println!("\nplanning, even pictures beside the least total: the library alone, the least of");
+    println!("seven in turn; even is to take at most 2.50 times what total takes");
+    println!("  {:<48} {:>10} {:>10} {:>7} {:>7}", "", "total", "even", "ratio", "at most");
+    let base = Size { units: 300, delay: 8, ..FEWER };
+    let square = |units: usize, grains: usize| {
+        let size = Size { units, decoder: grains, bucket: grains, ..base };
+        (format!("{units} units, decoder and bucket of {grains}"), draft_of(&size))
+    };
+    let small = Size { units: 2, delay: 1, decoder: 4, bucket: 3, rates: 3, choices: 2 };
+    let few = Size { units: 4, delay: 1, decoder: 12, bucket: 12, ..base };
+    let many = Size { units: 128, decoder: 127, bucket: 127, choices: 1000, ..base };
+    let double = Size { units: 64, delay: 8, decoder: 63, bucket: 63, rates: 8, choices: 8 };
+    let mut jobs = vec![
+        square(300, 255),
+        square(300, 127),
+        square(300, 60),
+        square(300, 25),
+        square(300, 12),
+        ("128 units, 1,000 choices of all sizes, 127".to_string(), spread_draft(&many, 1000)),
+        ("128 units, 1,000 choices of 31 sizes, 127".to_string(), spread_draft(&many, 31)),
+        (
+            "64 units, buckets of 63 and 15".to_string(),
+            draft_of(&double).doubled(half_full(15, 30)),
+        ),
+        ("300 units, bucket of 0".to_string(), draft_of(&Size { bucket: 0, ..base })),
+        ("4 units, decoder and bucket of 12".to_string(), draft_of(&few)),
+        ("two units, 20 states, 6 moves each".to_string(), draft_of(&small)),
+    ];
+    if with_full {
+        jobs.insert(0, ("512 units, delay 64, 31 choices, 255".to_string(), draft_of(&FEWER)));
+    }
+    for (name, draft) in jobs {
+        let [total, even] = time_aims(&draft.bytes());
+        let ratio = format!("{:.2}", even / total);
+        let [total, even] = [total, even].map(shown);
+        println!("  {name:<48} {total:>10} {even:>10} {ratio:>7} {:>7}", "2.50");
+    }
+}
+
+/// The times for the least total and for even pictures.
+fn time_aims(job: &[u8]) -> [f64; 2] {
+    let opened = upload_planner::open(job).expect("a job");
+    let fresh = || Left {
+        table: vec![0; opened.table_words],
+        entries: vec![0; opened.plan_bytes()],
+        total: None,
+    };
+    let plan = |aim: Aim, left: &mut Left| {
+        let Left { table, entries, total } = left;
+        let planned = upload_planner::plan(black_box(job), &[], aim, &mut [], table, entries);
+        *total = planned.ok().map(|totals| totals.distortion);
+    };
+    let (mut total, mut even) = (fresh(), fresh());
+    let start = Instant::now();
+    plan(Aim::Total, &mut total);
+    plan(Aim::Even, &mut even);
+    // Short calls are timed over as many repeats as fill some milliseconds.
+    let repeats = (0.008 / start.elapsed().as_secs_f64()).ceil();
+    let times = in_turn(
+        7,
+        || (0..repeats as usize).for_each(|_| plan(Aim::Total, &mut total)),
+        || (0..repeats as usize).for_each(|_| plan(Aim::Even, &mut even)),
+    );
+    assert!(total.total.is_some() && total.total <= even.total, "even has the lesser total");
+    let [worst, evened] = [&total, &even].map(|left| greatest_of(job, &left.entries));
+    assert!(evened <= worst, "even has the worse unit");
+    times.map(|time| time / repeats)
+}
+
+/// The greatest distortion of a unit in a plan.
+fn greatest_of(job: &[u8], entries: &[u8]) -> u32 {
+    let read = plain_open(job).expect("a job");
+    let units = entries.chunks_exact(3).skip(read.header[1]).enumerate();
+    let lost = |(unit, entry): (usize, &[u8])| read.choice(unit, u16_at(entry, 1) as usize).1;
+    units.map(lost).max().expect("a unit")
 }
 
 /// Opening, a pin and a replay take as long for each byte of the largest job as for each
@@ -1179,6 +1265,7 @@ fn main() {
     if !choices_alone {
         plan_tables(with_full);
         two_bucket_tables(with_full);
+        even_tables(with_full);
     }
     many_choice_tables();
 }

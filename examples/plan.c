@@ -66,7 +66,8 @@ static void print_interval(unsigned t, unsigned sent, unsigned choice, const uin
     printf("\n");
 }
 
-/* Plans with these calls, replays the plan for its levels, and prints it. */
+/* Plans with these calls for the least total, replays the plan for its levels, and
+   prints it. */
 static uint32_t plan(const uint8_t *job, size_t job_len, const uint16_t *calls, size_t calls_len)
 {
     uint64_t opened[UPLOAD_OPEN_VALUES];
@@ -88,8 +89,8 @@ static uint32_t plan(const uint8_t *job, size_t job_len, const uint16_t *calls, 
         exit(1);
     }
 
-    refusal = upload_plan(job, job_len, calls, calls_len, answers, calls_len / 3, table, words,
-                          entries, ENTRY * intervals, totals, 3 + buckets);
+    refusal = upload_plan(job, job_len, calls, calls_len, UPLOAD_TOTAL, answers, calls_len / 3,
+                          table, words, entries, ENTRY * intervals, totals, 3 + buckets);
     if (refusal == UPLOAD_OK)
         refusal = upload_replay(job, job_len, calls, calls_len, entries, ENTRY * intervals,
                                 levels, each * intervals, replayed, 5 + buckets);

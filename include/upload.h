@@ -13,9 +13,10 @@
    unit has its pinned choice. The decoder's level is what is left after the
    unit. What an interval sends goes to each bucket too, which then loses its
    drain, or all that it has; grains of the drain that find nothing there go by
-   unused. Planning gives the admissible plan of least total distortion; among
-   several the first interval at which they differ decides: the smaller rate
-   index, then the smaller choice index.
+   unused. Planning gives the admissible plan of least total distortion, or, where
+   the caller names UPLOAD_EVEN, the one whose greatest unit distortion is least,
+   and among such plans the total. Among several the first interval at which they
+   differ decides: the smaller rate index, then the smaller choice index.
 
    The header says how many buckets there are: a job that opens has it in its
    byte 2, the kind of its first record, which is one of enum upload_header. With
@@ -56,8 +57,9 @@ enum upload_refusal {
     UPLOAD_OK = 0,              /* not refused */
     UPLOAD_CUT = 1,             /* the bytes end before a record that is due is whole; or the last
                                    call is cut */
-    UPLOAD_WRONG_RECORD = 2,    /* a record's kind or length is not the one due; or a call's kind
-                                   is neither a pin nor a lift */
+    UPLOAD_WRONG_RECORD = 2,    /* a record's kind or length is not the one due; or an aim is none
+                                   of enum upload_aim; or a call's kind is neither a pin nor a
+                                   lift */
     UPLOAD_HEADER = 3,          /* a field of the header is out of range, or the fields are not
                                    nine or twelve */
     UPLOAD_RATES = 4,           /* a rate is over 4,095, or the rates do not rise */
@@ -83,6 +85,14 @@ enum upload_refusal {
 enum upload_call {
     UPLOAD_PIN = 6,
     UPLOAD_LIFT = 7
+};
+
+/* What a plan is to make least. Pinned units count as all others do. There is no
+   plan for the one aim exactly where there is none for the other. */
+enum upload_aim {
+    UPLOAD_TOTAL = 0,           /* the total distortion */
+    UPLOAD_EVEN = 1             /* even pictures: the greatest distortion of a unit, and among
+                                   plans in which that is least the total */
 };
 
 /* The kind of a job's header, which is byte 2 of a job that opens: how many
@@ -161,6 +171,7 @@ uint32_t upload_calls(const uint8_t *job, size_t job_len,
    the end.
 
    calls:   three numbers a call.
+   aim:     one of enum upload_aim.
    answers: one byte a call written, as upload_calls writes them.
    table:   the words that upload_open names are written. Word
             (t x (decoder size + 1) + b) x (bucket size + 1) + l is the least
@@ -168,7 +179,11 @@ uint32_t upload_calls(const uint8_t *job, size_t job_len,
             and bucket level l after interval t, pins held; UPLOAD_NEVER where
             they cannot be completed. With two buckets it is word ((t x (decoder
             size + 1) + b) x (bucket size + 1) + l) x (second bucket's size + 1)
-            + m, for level m of the second.
+            + m, for level m of the second. For UPLOAD_EVEN it is the table in
+            which choices above the plan's greatest distortion are left out, in
+            every word, be its levels reached from the start or not; a choice at
+            that distortion stays. Where there is no plan it is the full table, as
+            for UPLOAD_TOTAL.
    entries: 3 x T bytes written, three an interval: the index of its rate, then
             that of its unit's choice as two bytes, the lower first, or
             UPLOAD_NO_UNIT for the first d.
@@ -179,12 +194,14 @@ uint32_t upload_calls(const uint8_t *job, size_t job_len,
             what is sent). For each bucket its starting level + channel grains +
             its unused grains = T x its drain + its last level.
 
-   Refusals in order: 1 to 5 for the job; 2 for a call of another kind, then 1
-   where the last call is cut; 11; 12 where `answers`, `entries` or `values` is
-   too short; 13, which leaves `table` written, and `answers`, `entries` and
-   `values` as they were; upload_calls says what the calls met with. */
+   Refusals in order: 1 to 5 for the job; 2 for another aim; 2 for a call of
+   another kind, then 1 where the last call is cut; 11; 12 where `answers`,
+   `entries` or `values` is too short; 13, which leaves `table` written, and
+   `answers`, `entries` and `values` as they were; upload_calls says what the calls
+   met with. */
 uint32_t upload_plan(const uint8_t *job, size_t job_len,
                      const uint16_t *calls, size_t calls_len,
+                     uint32_t aim,
                      uint8_t *answers, size_t answers_len,
                      uint32_t *table, size_t table_len,
                      uint8_t *entries, size_t entries_len,

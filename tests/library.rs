@@ -1,8 +1,10 @@
 //! Checks the library through the crate `upload_planner`: what each function
 //! answers, every number it writes, and that it writes no other. What is due is
 //! worked out here and in `reference.rs`, straight from the product's paper. Of
-//! every clean replay the balance of each bucket is asked besides, and of the
-//! report that a long delay takes little more time than a short one.
+//! every clean replay the balance of each bucket is asked besides, of even pictures
+//! that the least total gives them too once all choices above the greatest distortion
+//! are gone, and of the report that a long delay takes little more time than a short
+//! one.
 //!
 //! Build and run, where DIR holds libupload.a:
 //!
@@ -498,18 +500,29 @@ fn read_off(job: &Job, pins: &Pins, table: &[u32]) -> Option<Plan> {
 /// alone meet with the same, and a plan that was found replays under them.
 fn check_plan(rng: &mut Rng, asked: &Asked, table: &[u32], plan: &Option<Plan>) -> Checked {
     check_calls(rng, asked)?;
+    check_plan_for(Aim::Total, rng, asked, table, plan)
+}
+
+fn check_plan_for(
+    aim: Aim,
+    rng: &mut Rng,
+    asked: &Asked,
+    table: &[u32],
+    plan: &Option<Plan>,
+) -> Checked {
     let needs = asked.needs();
     same("words", table.len(), needs[1])?;
     let which = rng.from(0, 3);
     if let (Some(lengths), true) = (one_short(needs, which), table.len() < 5000) {
         let mut lent = PlanLists::new(rng, lengths);
         let due = if which == 1 { 11 } else { 12 };
-        same("plan, a list one short", due, lent.plan(&asked.bytes, &asked.calls))?;
+        let found = lent.plan_for(aim.number(), &asked.bytes, &asked.calls);
+        same("plan, a list one short", due, found)?;
         lent.kept()?;
     }
     let lengths = needs.map(|need| need + slack(rng));
     let mut lent = PlanLists::new(rng, lengths);
-    let number = lent.plan(&asked.bytes, &asked.calls);
+    let number = lent.plan_for(aim.number(), &asked.bytes, &asked.calls);
     lent.table.wrote("table", table)?;
     let Some(plan) = plan else {
         same("plan", 13, number)?;
@@ -541,10 +554,16 @@ impl PlanLists {
         }
     }
 
+    /// For the least total.
     fn plan(&mut self, job: &[u8], calls: &[u16]) -> u32 {
+        self.plan_for(TOTAL, job, calls)
+    }
+
+    fn plan_for(&mut self, aim: u32, job: &[u8], calls: &[u16]) -> u32 {
         numbers::plan(
             job,
             calls,
+            aim,
             self.answers.list(),
             self.table.list(),
             self.entries.list(),
@@ -581,13 +600,23 @@ fn check_open(rng: &mut Rng, asked: &Asked) -> Checked {
 
 /// The typed functions give what the numbers give.
 fn check_typed(asked: &Asked, table: &[u32], plan: &Option<Plan>) -> Checked {
+    check_typed_for(upload_planner::Aim::default(), asked, table, plan)
+}
+
+fn check_typed_for(
+    aim: upload_planner::Aim,
+    asked: &Asked,
+    table: &[u32],
+    plan: &Option<Plan>,
+) -> Checked {
     let calls = asked.typed_calls();
     let opened = upload_planner::open(&asked.bytes).map_err(|refusal| refusal.to_string())?;
     let mut answers = vec![99; calls.len()];
     let mut words = vec![0; opened.table_words];
     let mut entries = vec![0; ENTRY_BYTES * opened.intervals];
-    let found = upload_planner::plan(&asked.bytes, &calls, &mut answers, &mut words, &mut entries);
-    let owned = upload_planner::best_plan(&asked.bytes, &calls);
+    let lent = (&mut answers, &mut words, &mut entries);
+    let found = upload_planner::plan(&asked.bytes, &calls, aim, lent.0, lent.1, lent.2);
+    let owned = upload_planner::best_plan(&asked.bytes, &calls, aim);
     ensure!(words == table, "the typed table is another");
     let Some(plan) = plan else {
         same("typed plan", Err(13), found.map_err(|refusal| refusal.number()))?;
@@ -1595,7 +1624,8 @@ fn second_group() -> Result<String, String> {
     ] {
         let asked = Asked::new(&mut rng, &a.doubled(second));
         same("table by hand", &table, &brute_table(&asked.job, &asked.pins))?;
-        let found = upload_planner::best_plan(&asked.bytes, &[]).map(|best| best.table);
+        let aim = upload_planner::Aim::Total;
+        let found = upload_planner::best_plan(&asked.bytes, &[], aim).map(|best| best.table);
         same("table", Ok(table), found)?;
     }
     check_second_replays(&mut rng)?;
@@ -1739,11 +1769,16 @@ fn double_group(seed: u64, asks: bool) -> Result<String, String> {
 type PlannedNumbers = (u32, Vec<u32>, Vec<u8>, Vec<u64>);
 
 fn planned_numbers(asked: &Asked) -> PlannedNumbers {
+    planned_numbers_for(Aim::Total, asked)
+}
+
+fn planned_numbers_for(aim: Aim, asked: &Asked) -> PlannedNumbers {
     let [answers, table, entries, values] = asked.needs();
     let (mut table, mut entries, mut values) = (vec![7; table], vec![7; entries], vec![7; values]);
-    let (job, calls) = (&asked.bytes, &asked.calls);
+    let (job, calls, aim) = (&asked.bytes, &asked.calls, aim.number());
     let mut answers = vec![7; answers];
-    let number = numbers::plan(job, calls, &mut answers, &mut table, &mut entries, &mut values);
+    let number =
+        numbers::plan(job, calls, aim, &mut answers, &mut table, &mut entries, &mut values);
     (number, table, entries, values)
 }
 
@@ -2025,7 +2060,8 @@ fn every_choice_group() -> Result<String, String> {
             // and a size: 22 + 8 + 4 + 2.
             let job = patched(&job, 36 + 6 * choice, &5_u32.to_le_bytes());
             let (mut table, mut entries, mut values) = ([7; 8], [7; 3], [7; 4]);
-            let found = numbers::plan(&job, &[], &mut [], &mut table, &mut entries, &mut values);
+            let lent = (&mut table, &mut entries, &mut values);
+            let found = numbers::plan(&job, &[], TOTAL, &mut [], lent.0, lent.1, lent.2);
             let [low, high] = two_bytes(choice);
             let what = format!("{choice} of {choices} is best");
             same(&what, (0, [1, low, high], [5, 2, 2, 4093]), (found, entries, values))?;
@@ -2515,6 +2551,712 @@ fn harmed_stored_group(seed: u64, asks: bool) -> Result<String, String> {
 }
 
 // ---------------------------------------------------------------------------
+// Even pictures.
+// ---------------------------------------------------------------------------
+
+/// Numbers that name no aim: the nearest, and such as have a right one in their lower
+/// byte, their lower two or three, or but for the highest bit.
+const WRONG_AIMS: [u32; 12] =
+    [2, 3, 7, 255, 4_294_967_295, 256, 257, 65_536, 65_537, 0x0100_0000, 0x8000_0000, 0x8000_0001];
+
+fn typed_aim(aim: Aim) -> upload_planner::Aim {
+    match aim {
+        Aim::Total => upload_planner::Aim::Total,
+        Aim::Even => upload_planner::Aim::Even,
+    }
+}
+
+/// What planning for an aim is to leave. Without a plan it is refused with 13.
+#[derive(Clone)]
+struct Due {
+    table: Vec<u32>,
+    plan: Option<Plan>,
+}
+
+/// A table in which choices above the limit are left out, by plain loops over levels,
+/// rates and choices.
+fn loops_table(job: &Job, pins: &Pins, limit: i64) -> Vec<u32> {
+    let mut table = vec![0; job.words()];
+    let all_levels = job.all_levels();
+    for t in (1..=job.intervals()).rev() {
+        let unit = t.checked_sub(job.delay + 1);
+        for decoder in 0..=job.decoder_size {
+            for levels in &all_levels {
+                let mut best = NEVER;
+                let mut offer = |level: i64, after: &Levels, distortion: i64| {
+                    let rest = table[job.word(t, level, after)];
+                    if rest != NEVER {
+                        best = best.min(rest + distortion as u32);
+                    }
+                };
+                for &sent in &job.rates {
+                    let peak = decoder + sent;
+                    let Some(after) = filled(job, levels, sent) else { continue };
+                    if peak > job.decoder_size {
+                        continue;
+                    }
+                    let Some(unit) = unit else {
+                        offer(peak, &after, 0);
+                        continue;
+                    };
+                    for (index, choice) in job.units[unit].iter().enumerate() {
+                        let held = pins[unit].map_or(true, |pinned| pinned == index);
+                        if held && choice.distortion <= limit && choice.grains <= peak {
+                            offer(peak - choice.grains, &after, choice.distortion);
+                        }
+                    }
+                }
+                table[job.word(t - 1, decoder, levels)] = best;
+            }
+        }
+    }
+    table
+}
+
+/// What is due for both aims, from tables alone: the limit goes below the greatest
+/// distortion of the plan found, as long as there is another plan.
+fn lowered(job: &Job, pins: &Pins) -> [Due; 2] {
+    let within = |limit: i64| {
+        let table = loops_table(job, pins, limit);
+        let plan = read_off(&limited(job, limit), pins, &table);
+        Due { table, plan }
+    };
+    let total = within(NO_LIMIT);
+    let mut found = total.plan.as_ref().map(|plan| greatest(job, plan));
+    let Some(mut least) = found else { return [total.clone(), total] };
+    while let Some(limit) = found {
+        least = limit;
+        found = within(limit - 1).plan.map(|plan| greatest(job, &plan));
+    }
+    [total, within(least)]
+}
+
+/// Both aims, each in lists of its own and then in turn in the same lists; and the
+/// typed functions.
+fn check_aims(rng: &mut Rng, asked: &Asked, dues: &[Due; 2]) -> Checked {
+    same("a plan for both aims", dues[0].plan.is_some(), dues[1].plan.is_some())?;
+    check_calls(rng, asked)?;
+    for (aim, Due { table, plan }) in AIMS.into_iter().zip(dues) {
+        check_plan_for(aim, rng, asked, table, plan)
+            .and_then(|_| check_typed_for(typed_aim(aim), asked, table, plan))
+            .map_err(|trouble| format!("{aim:?}: {trouble}"))?;
+    }
+    let lengths = asked.needs().map(|need| need + 3);
+    let mut lent = PlanLists::new(rng, lengths);
+    for which in [0, 1, 0, 1, 1, 0] {
+        let Due { table, plan } = &dues[which];
+        let number = lent.plan_for(AIMS[which].number(), &asked.bytes, &asked.calls);
+        let what = format!("{:?} in lists that were lent before", AIMS[which]);
+        same(&what, if plan.is_some() { 0 } else { 13 }, number)?;
+        lent.table.wrote(&what, table)?;
+        match plan {
+            Some(plan) => lent.entries.wrote(&what, &plan_bytes(plan))?,
+            None => lent.kept_but_table()?,
+        }
+    }
+    Ok(())
+}
+
+/// Four grains lie in the decoder, and no more can come: a rate of 2 or 4 is over in a
+/// bucket of size 0 and drain 1. In each interval that drain goes by unused.
+fn four_grains(units: &[Vec<(u16, u32)>]) -> Draft {
+    Draft::new([0, 4, 0, 1, 4, 0], &[0, 2, 4], units)
+}
+
+/// All four grains, two or none.
+fn four_two_none() -> Vec<(u16, u32)> {
+    vec![(4, 0), (2, 50), (0, 90)]
+}
+
+/// Two units that share four grains, by hand. All of them for one unit lose 0 + 90,
+/// two for each 50 + 50: the least total is 90, and the choices 0, 2 come before 2, 0.
+/// One of the units has fewer than four grains, so that the least greatest distortion
+/// is 50, and only choices 1, 1 have it.
+///
+/// After interval 1 unit 2 has all of 4 grains, two of 2 or 3, or none. Without the
+/// choice of 90 there is no completion from 0 or 1, and unit 1 must leave 2.
+fn two_sharing() -> (Draft, [[usize; 2]; 2], [u64; 2], [[[u32; 5]; 3]; 2]) {
+    let draft = four_grains(&[four_two_none(), four_two_none()]);
+    let full = [[180, 180, 140, 140, 90], [90, 90, 50, 50, 0], [0; 5]];
+    let even = [[NEVER, NEVER, NEVER, NEVER, 100], [NEVER, NEVER, 50, 50, 0], [0; 5]];
+    (draft, [[0, 2], [1, 1]], [90, 100], [full, even])
+}
+
+/// A row of jobs by hand: what it is, the units that share four grains, the pins; for
+/// the least total and for even pictures the choices and the distortion, or for none.
+type SharedRow =
+    (&'static str, Vec<Vec<(u16, u32)>>, Vec<Command>, Option<[(&'static [usize], u64); 2]>);
+
+fn shared_rows() -> Vec<SharedRow> {
+    let free = four_two_none;
+    // Unit 1 may lose 900 or 1 and take nothing, or take all.
+    let three = || vec![vec![(0, 900), (0, 1), (4, 0)], free(), free()];
+    vec![
+        ("aims that differ", vec![free(), free()], vec![], Some([(&[0, 2], 90), (&[1, 1], 100)])),
+        // All that share the grains lose 100. Unit 1 at choice 0 loses 100 and leaves all for
+        // unit 2, which loses nothing: the sum is that of the even plan, and the choice
+        // is above its greatest.
+        (
+            "a choice above the greatest that adds up to the total",
+            vec![vec![(0, 100), (2, 50), (4, 0)]; 2],
+            vec![],
+            Some([(&[0, 2], 100), (&[1, 1], 100)]),
+        ),
+        // Two units of three can have two grains. Where they are units 1 and 2, unit 3
+        // loses 60, and the total is 9 + 9 + 60. Else it has two, at 20 or 30, and
+        // one of the others loses 50. So the greatest is 50 at least. Of the plans that
+        // have it 50 + 50 + 20 is more than 50 + 9 + 30, and this is more than
+        // 50 + 9 + 20 and 9 + 50 + 20. In order, unit 1 at choice 0 comes before unit 1
+        // at choice 1 or 2, which are the same; then unit 2 at 1 before unit 2 at 2.
+        (
+            "equal greatest, told by totals and then by order",
+            vec![
+                vec![(0, 50), (2, 9), (2, 9)],
+                vec![(0, 50), (2, 9), (2, 9)],
+                vec![(0, 60), (2, 20), (2, 30)],
+            ],
+            vec![],
+            Some([(&[1, 1, 0], 78), (&[0, 1, 1], 79)]),
+        ),
+        // Unit 1 loses 900, so that no plan is more even than that, and the others are
+        // to have the least total, 0 + 90, and not 50 + 50.
+        (
+            "a pin sets the greatest",
+            three(),
+            vec![Pin(1, 0)],
+            Some([(&[0, 0, 2], 990), (&[0, 0, 2], 990)]),
+        ),
+        // Lifted, unit 1 loses 1 and takes nothing, and the others share four grains.
+        (
+            "a pin that set the greatest is lifted",
+            three(),
+            vec![Pin(1, 0), Lift(1)],
+            Some([(&[1, 0, 2], 91), (&[1, 1, 1], 101)]),
+        ),
+        // Below the greatest a pin sets nothing.
+        (
+            "a pin below the greatest",
+            three(),
+            vec![Pin(1, 1)],
+            Some([(&[1, 0, 2], 91), (&[1, 1, 1], 101)]),
+        ),
+        // Unit 1 takes all, and the others lose 90 each.
+        (
+            "a pin that leaves nothing",
+            three(),
+            vec![Pin(1, 2)],
+            Some([(&[2, 2, 2], 180), (&[2, 2, 2], 180)]),
+        ),
+        // Unit 2 loses 50 by its pin and takes two; unit 3 has the other two, as without
+        // them it loses 90, and unit 1 none.
+        (
+            "a pin at the greatest",
+            three(),
+            vec![Pin(2, 1)],
+            Some([(&[1, 1, 1], 101), (&[1, 1, 1], 101)]),
+        ),
+        // One of the two loses 1,000,000; both plans that lose it once are as even as
+        // the one that loses it twice.
+        (
+            "0 and 1,000,000",
+            vec![vec![(0, 1_000_000), (4, 0)]; 2],
+            vec![],
+            Some([(&[0, 1], 1_000_000), (&[0, 1], 1_000_000)]),
+        ),
+        // 1,000,000 + 0 is less than 999,999 + 2.
+        (
+            "999,999 and 1,000,000",
+            vec![vec![(4, 999_999), (0, 1_000_000)], vec![(4, 0), (0, 2)]],
+            vec![],
+            Some([(&[1, 0], 1_000_000), (&[0, 1], 1_000_001)]),
+        ),
+        ("0 alone", vec![vec![(0, 0), (2, 0)]; 2], vec![], Some([(&[0, 0], 0), (&[0, 0], 0)])),
+        // Of 256 and more the lower byte is less: 255 is the greatest of choices 0, 0,
+        // 256 that of 1, 1.
+        (
+            "255 and 256",
+            vec![vec![(2, 255), (4, 1)], vec![(2, 255), (0, 256)]],
+            vec![],
+            Some([(&[1, 1], 257), (&[0, 0], 510)]),
+        ),
+        (
+            "65,535 and 65,536",
+            vec![vec![(2, 65_535), (4, 0)], vec![(2, 65_535), (0, 65_536)]],
+            vec![],
+            Some([(&[1, 1], 65_536), (&[0, 0], 131_070)]),
+        ),
+        // Eight grains are not there, whatever the aim.
+        ("no plan", vec![free(), free()], vec![Pin(1, 0), Pin(2, 0)], None),
+        ("no plan, a unit free", vec![free(); 3], vec![Pin(1, 0), Pin(2, 0)], None),
+        ("no plan at all", vec![vec![(5, 0), (4095, 7)]], vec![], None),
+    ]
+}
+
+fn even_by_hand_group() -> Result<String, String> {
+    let mut rng = Rng(1);
+    let rows = shared_rows();
+    for (what, units, commands, due) in &rows {
+        let one = four_grains(units).commanded(commands);
+        // Nothing is sent, so that a second bucket stays as it is, and each word is
+        // there for each of its levels.
+        for draft in [one.clone(), one.doubled(SECOND_A)] {
+            let asked = Asked::new(&mut rng, &draft);
+            check_shared(&mut rng, &asked, due)
+                .map_err(|trouble| format!("{what}: {trouble}\n  {}", asked.show()))?;
+        }
+    }
+    let tables = check_even_tables(&mut rng)?;
+
+    // Job A: unit 2 has no choice but 40, so that unit 1 is to lose as little as it
+    // can. None of its choices loses more than 40: the table is the full one. Pinned
+    // at choice 1, unit 1 loses 30, and the greatest is 40 still.
+    for (known, commands) in known_lines().iter().flat_map(|known| [(known, 0), (known, 1)]) {
+        let draft = known.draft.commanded(&[Pin(1, 1)][..commands]);
+        let asked = Asked::new(&mut rng, &draft);
+        let full = brute_table(&asked.job, &asked.pins);
+        let entries = if commands == 0 { BEST_A } else { [0, 255, 255, 1, 1, 0, 1, 1, 0] };
+        let plan = Some(read_plan(&asked.job, &entries).expect("a plan"));
+        let due = Due { table: full, plan };
+        check_aims(&mut rng, &asked, &[due.clone(), due])
+            .map_err(|trouble| format!("Job A, {commands} pins: {trouble}"))?;
+    }
+
+    // One grain is there, and one may be sent. Either choice loses 5: without sending
+    // the second alone can be had, with it the first too. The smaller rate decides.
+    let draft = Draft::new([0, 2, 0, 1, 1, 0], &[0, 1], &[vec![(2, 5), (1, 5)]]);
+    let asked = Asked::new(&mut rng, &draft);
+    let due = Due { table: vec![5, 5, 5, 0, 0, 0], plan: Some(vec![(0, 1)]) };
+    check_aims(&mut rng, &asked, &[due.clone(), due]).map_err(|t| format!("rate first: {t}"))?;
+
+    // 512 units at the largest distortion: a sum of 512,000,000.
+    let units = vec![vec![(0, 1_000_000)]; 512];
+    let asked = Asked::new(&mut rng, &four_grains(&units));
+    let plan = vec![(0, 0); 512];
+    same("512 units", Some(vec![512_000_000, 0, 0, 512]), totals_of(&asked, &plan))?;
+    let table = (0..=512).rev().flat_map(|left| [left * 1_000_000; 5]).collect();
+    let due = Due { table, plan: Some(plan) };
+    check_aims(&mut rng, &asked, &[due.clone(), due]).map_err(|t| format!("512 units: {t}"))?;
+
+    same("the default", upload_planner::Aim::Total, upload_planner::Aim::default())?;
+    let numbered = [numbers::TOTAL, numbers::EVEN];
+    same("numbers of aims", [0, 1], numbered)?;
+    same("aims by name", numbered, AIMS.map(|aim| typed_aim(aim).number()))?;
+    Ok(format!("{} jobs, {tables} tables", 2 * rows.len() + 6))
+}
+
+/// Units that share four grains: both plans are those by hand, and so are their totals.
+fn check_shared(
+    rng: &mut Rng,
+    asked: &Asked,
+    due: &Option<[(&'static [usize], u64); 2]>,
+) -> Checked {
+    let plans =
+        [enumerate(&asked.job, &asked.pins).best, enumerate_even(&asked.job, &asked.pins).best];
+    for (which, plan) in plans.iter().enumerate() {
+        let due = due.map(|due| due[which]);
+        let chosen = |plan: &Plan| plan.iter().map(|entry| entry.1).collect::<Vec<usize>>();
+        same("choices", due.map(|due| due.0.to_vec()), plan.as_ref().map(chosen))?;
+        let totals = plan.as_ref().and_then(|plan| totals_of(asked, plan));
+        same("distortion", due.map(|due| due.1), totals.as_ref().map(|totals| totals[0]))?;
+        let rates = plan.iter().flatten().map(|entry| entry.0).max();
+        same("rates", due.map(|_| 0), rates)?;
+    }
+    let limit = plans[1].as_ref().map(|plan| greatest(&asked.job, plan));
+    let tables = [None, limit].map(|limit| even_table(&asked.job, &asked.pins, limit));
+    let [total, even] = plans;
+    let [full, left] = tables;
+    check_aims(rng, asked, &[Due { table: full, plan: total }, Due { table: left, plan: even }])
+}
+
+/// Tables by hand, for both aims, on lines of one bucket and of two.
+fn check_even_tables(rng: &mut Rng) -> Result<usize, String> {
+    const X: u32 = NEVER;
+    let (sharing, _, _, tables) = two_sharing();
+    // Unit 1 loses 900 by its pin and takes nothing, so that its words are those of unit
+    // 2 and 900. Of unit 2 the choice at 900 stays, that at 901 goes.
+    let units = [vec![(0, 900), (4, 0), (4, 0)], vec![(4, 3), (2, 900), (0, 901)]];
+    let pinned = four_grains(&units).commanded(&[Pin(1, 0)]);
+    // Unit 3 is free, and unit 2 takes four grains by its pin. No plan has eight.
+    let none = four_grains(&[four_two_none(), four_two_none(), four_two_none()])
+        .commanded(&[Pin(1, 0), Pin(2, 0)]);
+    let without = vec![[X; 5], [X, X, X, X, 90], [90, 90, 50, 50, 0], [0; 5]];
+    let rows: [(&str, Draft, [Vec<[u32; 5]>; 2]); 4] = [
+        ("two sharing", sharing, tables.map(|table| table.to_vec())),
+        (
+            "a pin at 900",
+            pinned,
+            [
+                vec![[1801, 1801, 1800, 1800, 903], [901, 901, 900, 900, 3], [0; 5]],
+                vec![[X, X, 1800, 1800, 903], [X, X, 900, 900, 3], [0; 5]],
+            ],
+        ),
+        ("no plan", none, [without.clone(), without]),
+        // What loses nothing is all that stays.
+        (
+            "nothing lost",
+            four_grains(&[vec![(0, 1), (4, 0)]]),
+            [vec![[1, 1, 1, 1, 0], [0; 5]], vec![[X, X, X, X, 0], [0; 5]]],
+        ),
+    ];
+    for (what, one, tables) in &rows {
+        for (draft, times) in [(one.clone(), 1), (one.doubled(SECOND_A), 3)] {
+            let asked = Asked::new(rng, &draft);
+            let plans = [
+                enumerate(&asked.job, &asked.pins).best,
+                enumerate_even(&asked.job, &asked.pins).best,
+            ];
+            let limit = plans[1].as_ref().map(|plan| greatest(&asked.job, plan));
+            let words = |table: &Vec<[u32; 5]>| -> Vec<u32> {
+                table.concat().iter().flat_map(|&word| vec![word; times]).collect()
+            };
+            let [full, left] = [&tables[0], &tables[1]].map(words);
+            let [total, even] = plans;
+            let check = || -> Checked {
+                same("full", &full, &even_table(&asked.job, &asked.pins, None))?;
+                same("even", &left, &even_table(&asked.job, &asked.pins, limit))?;
+                let dues = [Due { table: full, plan: total }, Due { table: left, plan: even }];
+                check_aims(rng, &asked, &dues)
+            };
+            check().map_err(|trouble| format!("table of {what}: {trouble}"))?;
+        }
+    }
+    Ok(4 * rows.len())
+}
+
+/// Every set of defects of planning, and each with every aim: a number that names none
+/// is refused after the job's own numbers and before those of the calls.
+fn aim_order_group() -> Result<String, String> {
+    let mut rng = Rng(1);
+    let mut sets = 0;
+    let (one, choices, totals, tables) = two_sharing();
+    for (draft, times) in [(one.clone(), 1), (one.doubled(SECOND_A), 3)] {
+        let known = [0, 1].map(|aim| {
+            let words = tables[aim].concat();
+            let plan: Plan = choices[aim].iter().map(|&choice| (0, choice)).collect();
+            let mut totals = vec![totals[aim], 4, 0, 2];
+            totals.extend((times > 1).then_some(4));
+            let table: Vec<u32> = words.iter().flat_map(|&word| vec![word; times]).collect();
+            (table, plan_bytes(&plan), totals)
+        });
+        for wrong in 0..=5 {
+            let job = wrong_job(&draft, wrong);
+            for bits in (0..1 << 9).step_by(if small() { 13 } else { 1 }) {
+                let has = |bit: usize| bits >> bit & 1 == 1;
+                // In a small run one of the wrong numbers, in turn.
+                let number = bits % WRONG_AIMS.len();
+                let others = if small() { &WRONG_AIMS[number..=number] } else { &WRONG_AIMS[..] };
+                for aim in [TOTAL, EVEN].iter().chain(others) {
+                    let known = known.get(*aim as usize);
+                    check_aim_order(&mut rng, &job, wrong, *aim, known, times, has).map_err(
+                        |t| {
+                            format!("{times} levels, job {wrong}, aim {aim}, defects {bits:b}: {t}")
+                        },
+                    )?;
+                    sets += 1;
+                }
+            }
+        }
+    }
+    Ok(format!("{sets} sets of defects"))
+}
+
+/// `known`: table, entries and values, where the aim is one.
+fn check_aim_order(
+    rng: &mut Rng,
+    job: &[u8],
+    wrong: Refusal,
+    aim: u32,
+    known: Option<&(Vec<u32>, Vec<u8>, Vec<u64>)>,
+    times: usize,
+    has: impl Fn(usize) -> bool,
+) -> Checked {
+    let [values, kind, cut, table, answers, entries, no_plan] = std::array::from_fn(&has);
+    let by_all = has(7);
+    let pins: [u16; 6] = if no_plan { [6, 1, 0, 6, 2, 0] } else { [6, 1, 1, 7, 1, 9] };
+    let calls = faulty_calls(&pins, kind, cut, has(8));
+    let count = if times > 1 { 5 } else { 4 };
+    let lengths = [
+        cut_to(2, answers, by_all),
+        cut_to(15 * times, table, by_all),
+        cut_to(6, entries, by_all),
+        cut_to(count, values, by_all),
+    ];
+    let mut lent = PlanLists::new(rng, lengths);
+    let due = first_of(&[
+        (wrong > 0, wrong),
+        (known.is_none(), 2),
+        (kind, 2),
+        (cut, 1),
+        (table, 11),
+        (answers, 12),
+        (entries, 12),
+        (values, 12),
+        (no_plan, 13),
+    ]);
+    same("plan", due, lent.plan_for(aim, job, &calls))?;
+    match (due, known) {
+        (0, Some((table, entries, values))) => {
+            lent.answers.wrote("answers", &[0, 0])?;
+            lent.table.wrote("table", table)?;
+            lent.entries.wrote("entries", entries)?;
+            lent.values.wrote("values", values)
+        }
+        (13, _) => {
+            // Both units take four grains; from the four that are there one can.
+            let never = vec![NEVER; 9 * times];
+            let full = [never, vec![0; 6 * times]].concat();
+            lent.table.wrote("table", &full)?;
+            lent.kept_but_table()
+        }
+        _ => lent.kept(),
+    }
+}
+
+/// What came of planning for both aims.
+#[derive(Default)]
+struct Aimed {
+    jobs: usize,
+    plans: usize,
+    /// Even pictures have another plan than the least total.
+    differ: usize,
+    /// A pinned unit loses more than every other.
+    by_pin: usize,
+    /// Words that are other than in the full table, and those among them that cannot be
+    /// completed any more.
+    words: usize,
+    other: usize,
+    lost: usize,
+}
+
+impl Aimed {
+    fn count(&mut self, asked: &Asked, dues: &[Due; 2]) {
+        let [total, even] = dues;
+        self.jobs += 1;
+        self.words += even.table.len();
+        for (full, left) in total.table.iter().zip(&even.table) {
+            self.other += (full != left) as usize;
+            self.lost += (full != left && *left == NEVER) as usize;
+        }
+        let Some(plan) = &even.plan else { return };
+        self.plans += 1;
+        self.differ += (even.plan != total.plan) as usize;
+        let job = &asked.job;
+        let lost = |unit: usize| job.units[unit][plan[job.delay + unit].1].distortion;
+        let free = (0..job.units.len()).filter(|unit| asked.pins[*unit].is_none());
+        let most = free.map(lost).max().unwrap_or(-1);
+        self.by_pin += (most < greatest(job, plan)) as usize;
+    }
+
+    fn show(&self) -> String {
+        let Aimed { jobs, plans, differ, by_pin, words, other, lost } = self;
+        let (none, agree) = (jobs - plans, plans - differ);
+        format!(
+            "{jobs} jobs, {none} without a plan; for even pictures {differ} have another and \
+             {agree} the same, {by_pin} with a pin for the greatest; {words} words, {other} other \
+             than in the full table, {lost} of them lost"
+        )
+    }
+
+    /// Whether each of them is there in one of `rarest` jobs or more often.
+    fn worthwhile(&self, rarest: usize) -> bool {
+        let Aimed { jobs, plans, differ, by_pin, words, other, lost } = *self;
+        [jobs - plans, differ, plans - differ, by_pin].iter().all(|count| count * rarest > jobs)
+            && other * 25 > words
+            && lost * 25 > words
+    }
+}
+
+/// Both aims against every plan and every completion, on lines of one bucket and of
+/// two; and the searches against each other.
+fn even_tiny_group(seed: u64, asks: bool) -> Result<String, String> {
+    even_tiny_jobs(seed, asks, random_even_job, &[even_mistakes], 25)
+}
+
+/// The same of jobs in which many plans are equal.
+fn even_ties_group(seed: u64, asks: bool) -> Result<String, String> {
+    even_tiny_jobs(seed, asks, random_level_job, &[even_mistakes, read_off_mistakes], 50)
+}
+
+/// That of a program that reads the plan off the right table and tries choices above the
+/// greatest too: some add up to what is due.
+fn read_off_mistakes(job: &Job, pins: &Pins, plan: Option<&Plan>) -> Vec<(&'static str, bool)> {
+    let table = plan.map(|plan| loops_table(job, pins, greatest(job, plan)));
+    let found = table.and_then(|table| read_off(job, pins, &table));
+    vec![("read off with choices above the limit", found.as_ref() != plan)]
+}
+
+/// What can tell the aims apart, and each mistaken rule, is to show in one of `rarest`
+/// jobs or more often.
+fn even_tiny_jobs(
+    seed: u64,
+    asks: bool,
+    make: fn(&mut Rng, &Shape) -> Draft,
+    mistakes: &[Mistakes],
+    rarest: usize,
+) -> Result<String, String> {
+    let mut rng = Rng(seed);
+    let (mut aimed, mut told) = (Aimed::default(), Told::default());
+    // Several plans are as even, and then several of these have the same total.
+    let (mut as_even, mut equals) = (0, 0);
+    let jobs = scaled(1500);
+    for index in 1..=jobs {
+        let draft = make(&mut rng, &EVEN_SHAPES[0]);
+        let asked = Asked::new(&mut rng, &draft);
+        let (job, pins) = (&asked.job, &asked.pins);
+        let all = enumerate_even(job, pins);
+        let limit = all.greatest.unwrap_or(NO_LIMIT);
+        let total = Due { table: brute_table(job, pins), plan: enumerate(job, pins).best };
+        let even = Due { table: even_table(job, pins, all.greatest), plan: all.best.clone() };
+        let dues = [total, even];
+        let mut check = || -> Checked {
+            let table = &dues[1].table;
+            same("loops", table, &loops_table(job, pins, limit))?;
+            same("fast table", table, &fast_table(&limited(job, limit), pins))?;
+            same("plan read off", &all.best, &read_off(&limited(job, limit), pins, table))?;
+            same("least greatest", all.greatest, least_greatest(job, pins))?;
+            same("dynamic program", &all.best, &dynamic_even(job, pins))?;
+            let [total, even] = lowered(job, pins);
+            same("limits lowered", [&dues[0].plan, &all.best], [&total.plan, &even.plan])?;
+            same("tables", [&dues[0].table, table], [&total.table, &even.table])?;
+            ensure!(all.best.is_some() || dues[0].table == *table, "not the full table");
+            check_aims(&mut rng, &asked, &dues)?;
+            check_by_total(&draft).map(|_| ())
+        };
+        check().map_err(|trouble| failed(seed, index, &trouble, &asked))?;
+        aimed.count(&asked, &dues);
+        as_even += (all.as_even > 1) as usize;
+        equals += (all.equals > 1) as usize;
+        if index % 2 == 0 && !small() {
+            for &mistakes in mistakes {
+                told.count(mistakes, job, pins, all.best.as_ref());
+            }
+        }
+    }
+    let text = format!(
+        "{}; {as_even} of several as even, {equals} of several equal ones{}",
+        aimed.show(),
+        if small() { String::new() } else { told.show() }
+    );
+    let often = [as_even, equals].iter().all(|count| count * 4 > jobs);
+    let worthwhile = aimed.worthwhile(rarest) && often && told.each(rarest);
+    ensure!(worthwhile || !asks, "too little in it: {text}");
+    Ok(text)
+}
+
+/// Jobs too large to try everything, against tables by plain loops and the dynamic
+/// program; some of many choices, and some long.
+fn even_larger_group(seed: u64, asks: bool) -> Result<String, String> {
+    let mut rng = Rng(seed);
+    let mut aimed = Aimed::default();
+    let [medium, many, long] = [300, 40, 12].map(scaled);
+    for index in 1..=medium + many + long {
+        let draft = match index {
+            _ if index > medium + many => random_even_job(&mut rng, &EVEN_SHAPES[2]),
+            _ if index > medium => random_many_job(&mut rng, &MANY[1]),
+            _ if index % 3 == 0 => random_level_job(&mut rng, &EVEN_SHAPES[1]),
+            _ => random_even_job(&mut rng, &EVEN_SHAPES[1]),
+        };
+        let asked = Asked::new(&mut rng, &draft);
+        let (job, pins) = (&asked.job, &asked.pins);
+        let dues = lowered(job, pins);
+        let mut check = || -> Checked {
+            let due = dues[1].plan.as_ref().map(|plan| greatest(job, plan));
+            let limit = due.unwrap_or(NO_LIMIT);
+            same("least greatest", due, least_greatest(job, pins))?;
+            same("dynamic program", &dues[0].plan, &dynamic(job, pins))?;
+            same("dynamic program, even", &dues[1].plan, &dynamic_even(job, pins))?;
+            ensure!(dues[1].table == fast_table(&limited(job, limit), pins), "fast table");
+            check_aims(&mut rng, &asked, &dues)?;
+            check_by_total(&draft).map(|_| ())
+        };
+        check().map_err(|trouble| failed(seed, index, &trouble, &asked))?;
+        aimed.count(&asked, &dues);
+    }
+    let text = aimed.show();
+    ensure!(aimed.worthwhile(20) || !asks, "too little in it: {text}");
+    Ok(text)
+}
+
+/// The job with every choice above the limit larger than any decoder.
+fn left_out(draft: &Draft, limit: i64) -> Draft {
+    let mut draft = draft.clone();
+    let codings = draft.units.iter_mut().flatten();
+    codings.filter(|coding| coding.1 as i64 > limit).for_each(|coding| coding.0 = 4095);
+    draft
+}
+
+/// Even pictures by the least total, both from the library: with every choice above the
+/// plan's greatest distortion too large for the decoder it leaves the same, and with
+/// those at this distortion too large as well it has no plan. Gives the greatest.
+fn check_by_total(draft: &Draft) -> Result<Option<i64>, String> {
+    let asked = |draft: &Draft| Asked::new(&mut Rng(1), draft);
+    let whole = asked(draft);
+    let even = planned_numbers_for(Aim::Even, &whole);
+    if even.0 == 13 {
+        let total = planned_numbers_for(Aim::Total, &whole);
+        ensure!(even == total, "no plan, and another answer or table for the total");
+        return Ok(None);
+    }
+    let plan = read_plan(&whole.job, &even.2).map_err(|_| "the entries are no plan")?;
+    let limit = greatest(&whole.job, &plan);
+    let total = planned_numbers_for(Aim::Total, &asked(&left_out(draft, limit)));
+    same("number and values by the total", (even.0, even.3), (total.0, total.3))?;
+    same("entries by the total", &even.2, &total.2)?;
+    ensure!(even.1 == total.1, "another table by the total, limit {limit}");
+    let below = planned_numbers_for(Aim::Total, &asked(&left_out(draft, limit - 1)));
+    same("below the greatest", 13, below.0)?;
+    Ok(Some(limit))
+}
+
+/// Large jobs, of which the first is as large as those that are timed.
+fn even_large_group() -> Result<String, String> {
+    let few = Size { units: 48, delay: 8, decoder: 63, bucket: 15, rates: 8, choices: 8 };
+    let sizes = [
+        ("300 units", Size { units: 300, delay: 8, choices: 31, ..FULL }, None, false),
+        (
+            "1,000 choices",
+            Size { units: 64, delay: 8, decoder: 127, bucket: 63, ..FULL },
+            None,
+            false,
+        ),
+        ("many units", Size { decoder: 31, bucket: 31, choices: 31, ..FULL }, None, false),
+        ("pins", Size { decoder: 63, bucket: 31, choices: 31, ..FULL }, None, true),
+        ("two buckets", few, Some([63, 18, 20]), false),
+    ];
+    let mut rng = Rng(5);
+    let (mut words, mut other) = (0, 0);
+    for (name, size, second, pins) in &sizes {
+        let mut draft = large_job(&mut rng, size, *second);
+        if !pins {
+            draft.commands.clear();
+        }
+        for unit in &mut draft.units {
+            // What a grain takes off is the unit's own.
+            let finest = unit.iter().map(|coding| coding.0).max().expect("a coding");
+            let (least, gain) = (rng.from(0, 500) as u32, rng.from(1, 40) as u32);
+            unit.iter_mut().for_each(|coding| coding.1 = least + gain * (finest - coding.0) as u32);
+        }
+        let asked = Asked::new(&mut rng, &draft);
+        // Such a job is too long to print; its name tells.
+        let mut check = || -> Checked {
+            let limit = check_by_total(&draft)?.ok_or("no plan")?;
+            if asked.job.words() > 5_000_000 {
+                return Ok(());
+            }
+            let (job, pins) = (&asked.job, &asked.pins);
+            let table = fast_table(&limited(job, limit), pins);
+            let plan = read_off(&limited(job, limit), pins, &table);
+            other += (plan != read_off(job, pins, &fast_table(job, pins))) as usize;
+            check_plan_for(Aim::Even, &mut rng, &asked, &table, &plan)
+        };
+        check().map_err(|trouble| format!("{name}: {trouble}"))?;
+        words += asked.job.words();
+    }
+    ensure!(other > 1, "even pictures have another plan in {other} alone");
+    Ok(format!("{} jobs, {words} words", sizes.len()))
+}
+
+// ---------------------------------------------------------------------------
 // Long sessions.
 // ---------------------------------------------------------------------------
 
@@ -2959,7 +3701,8 @@ fn check_no_job(
     same("owned calls", Some(number), found.err().map(|refusal| refusal.number()))?;
 
     let mut lent = PlanLists::new(rng, [answers, table, room, planned]);
-    same("plan", number, lent.plan(bytes, calls))?;
+    let aim = rng.pick(&[TOTAL, EVEN, WRONG_AIMS[0], u32::MAX]);
+    same("plan", number, lent.plan_for(aim, bytes, calls))?;
     lent.kept()?;
 
     let entries: Vec<u8> = (0..rng.from(0, 12)).map(|_| rng.next() as u8).collect();
@@ -3147,9 +3890,10 @@ fn known_lines() -> [Known; 2] {
 fn job_a_group() -> Result<String, String> {
     use upload_planner::{best_plan, called, open, plan, replay, report, written, Refusal};
     let job = job_a().bytes();
+    let aim = upload_planner::Aim::Total;
     let (first, second) = (Call::Pin { unit: 1, choice: 0 }, Call::Pin { unit: 2, choice: 0 });
     let (other, lifted) = (Call::Pin { unit: 1, choice: 1 }, Call::Lift { unit: 1 });
-    let best = |calls: &[Call]| best_plan(&job, calls).map(|best| (best.entries, best.totals));
+    let best = |calls: &[Call]| best_plan(&job, calls, aim).map(|best| (best.entries, best.totals));
     let found = (BEST_A.to_vec(), typed_totals(&TOTALS_A));
     let coarse = (vec![0, 255, 255, 1, 1, 0, 1, 1, 0], typed_totals(&[70, 4, 4, 2]));
 
@@ -3163,9 +3907,9 @@ fn job_a_group() -> Result<String, String> {
     same("unit 1 pinned at 1 and lifted", Ok(found.clone()), best(&[other, lifted]))?;
     same("both pinned at 0", Err(Refusal::NoPlan), best(&[first, second]))?;
     same("unit 2 pinned at 0", Err(Refusal::NoPlan), best(&[second]))?;
-    let table = best_plan(&job, &[]).map(|best| best.table);
+    let table = best_plan(&job, &[], aim).map(|best| best.table);
     same("the table", Ok(TABLE_A.concat().concat()), table)?;
-    let answers = best_plan(&job, &[lifted]).map(|best| best.answers);
+    let answers = best_plan(&job, &[lifted], aim).map(|best| best.answers);
     same("lift of no pin", Ok(vec![Err(Refusal::NotPinned)]), answers)?;
 
     let pinned = |calls: &[Call]| {
@@ -3180,7 +3924,7 @@ fn job_a_group() -> Result<String, String> {
     same("pinned totals, lift of no pin", due(&[10], [0; 3]), pinned(&[lifted]))?;
 
     let sized = |words: usize, bytes: usize| {
-        plan(&job, &[], &mut [], &mut vec![0; words], &mut vec![0; bytes])
+        plan(&job, &[], aim, &mut [], &mut vec![0; words], &mut vec![0; bytes])
     };
     same("79 words", Err(Refusal::TableTooShort), sized(79, 9))?;
     for bytes in [0, 5, 6, 8] {
@@ -4406,6 +5150,8 @@ fn run_all(new_seed: u64, with_full: bool, examples: Option<&Path>) -> bool {
         print_group("a second bucket", second_group()),
         print_group("a thousand choices", thousand_group()),
         print_group("every choice", every_choice_group()),
+        print_group("even pictures by hand", even_by_hand_group()),
+        print_group("aims and refusals in their order", aim_order_group()),
         print_group("stored plans turned", turning_group()),
         print_group("refusals of turning in their order", turning_order_group()),
         print_group("every stored plan", former_plans_group()),
@@ -4439,6 +5185,9 @@ fn run_all(new_seed: u64, with_full: bool, examples: Option<&Path>) -> bool {
     seeded("long sessions", &[1, 2], sessions_group);
     seeded("larger jobs", &[4], larger_group);
     seeded("jobs of many choices", &[1, 2], many_group);
+    seeded("even pictures, tiny jobs", &[1, 2], even_tiny_group);
+    seeded("even pictures, tiny jobs full of ties", &[1, 2], even_ties_group);
+    seeded("even pictures, larger jobs", &[1], even_larger_group);
     seeded("harmed plans", &[1], harmed_plans_group);
     seeded("random stored plans", &[1, 2], turned_group);
     seeded("harmed stored plans", &[1], harmed_stored_group);
@@ -4452,6 +5201,7 @@ fn run_all(new_seed: u64, with_full: bool, examples: Option<&Path>) -> bool {
     seeded("larger jobs of two buckets", &[4], larger_double_group);
     if !small() {
         results.push(print_group("large jobs", large_group()));
+        results.push(print_group("even pictures, large jobs", even_large_group()));
     }
     if !small() && with_full {
         results.push(print_group("a job of the largest size", full_group()));

@@ -1,11 +1,12 @@
 //! What the test programs share: answers worked out straight from the product's
 //! paper, and the jobs they are asked of.
 //!
-//! The answers have five parts: a reader that gives the first refusal due, an
+//! The answers have six parts: a reader that gives the first refusal due, an
 //! enumeration of every plan (small jobs), a dynamic program that carries whole
-//! paths forward (the jobs too large to enumerate), a reader of plans of either
-//! shape, and a writer that gives a job's bytes or the first refusal due. Each
-//! program uses a part of what stands here.
+//! paths forward (the jobs too large to enumerate), both of these again for even
+//! pictures, with every word of the table, a reader of plans of either shape, and a
+//! writer that gives a job's bytes or the first refusal due. Each program uses a part
+//! of what stands here.
 
 use std::collections::btree_map::Entry as MapEntry;
 use std::collections::BTreeMap;
@@ -601,6 +602,189 @@ pub fn best_plan(job: &Job, pins: &Pins) -> Option<Plan> {
 }
 
 // ---------------------------------------------------------------------------
+// Even pictures: every plan replayed, every completion tried, and a search forward.
+// ---------------------------------------------------------------------------
+
+/// What a plan is to make least, as the caller names it.
+#[derive(Clone, Copy, Debug, PartialEq, Eq)]
+pub enum Aim {
+    /// The total distortion.
+    Total,
+    /// The greatest distortion of a unit, and then the total.
+    Even,
+}
+
+pub const AIMS: [Aim; 2] = [Aim::Total, Aim::Even];
+
+/// The numbers by which C names them.
+pub const TOTAL: u32 = 0;
+pub const EVEN: u32 = 1;
+
+impl Aim {
+    pub fn number(self) -> u32 {
+        match self {
+            Aim::Total => TOTAL,
+            Aim::Even => EVEN,
+        }
+    }
+}
+
+/// No choice is left out: more than any distortion.
+pub const NO_LIMIT: i64 = i64::MAX;
+
+/// The greatest distortion of a unit in a plan, be it pinned or not.
+pub fn greatest(job: &Job, plan: &Plan) -> i64 {
+    let units = job.units.iter().zip(&plan[job.delay..]);
+    units.map(|(unit, entry)| unit[entry.1].distortion).max().expect("a unit")
+}
+
+/// An admissible plan and what it is judged by.
+#[derive(Clone, Debug)]
+pub struct Judged {
+    pub greatest: i64,
+    pub total: i64,
+    pub plan: Plan,
+}
+
+/// Every admissible plan, found by replaying every plan in range.
+pub fn admissible_plans(job: &Job, pins: &Pins) -> Vec<Judged> {
+    let first = |t| (0, if t > job.delay { 0 } else { NO_CHOICE });
+    let mut plan: Plan = (1..=job.intervals()).map(first).collect();
+    let mut found = Vec::new();
+    loop {
+        if let Some(totals) = replay(job, pins, &plan, |_, _| ()) {
+            let (greatest, total) = (greatest(job, &plan), totals.distortion);
+            found.push(Judged { greatest, total, plan: plan.clone() });
+        }
+        if !next_plan(job, &mut plan) {
+            return found;
+        }
+    }
+}
+
+pub struct Evened {
+    pub best: Option<Plan>,
+    /// The least that the greatest distortion of a plan can be.
+    pub greatest: Option<i64>,
+    /// How many admissible plans have it.
+    pub as_even: usize,
+    /// How many of these share the least total.
+    pub equals: usize,
+}
+
+/// In the words of document 02: the greatest distortion is as small as an admissible
+/// plan allows, among such plans the total is least, and then the order holds.
+pub fn enumerate_even(job: &Job, pins: &Pins) -> Evened {
+    let mut plans = admissible_plans(job, pins);
+    let greatest = plans.iter().map(|judged| judged.greatest).min();
+    plans.retain(|judged| Some(judged.greatest) == greatest);
+    let as_even = plans.len();
+    let total = plans.iter().map(|judged| judged.total).min();
+    plans.retain(|judged| Some(judged.total) == total);
+    let equals = plans.len();
+    let best = plans.into_iter().map(|judged| judged.plan).min();
+    Evened { best, greatest, as_even, equals }
+}
+
+/// The least that intervals t + 1 to T add from these levels, by trying every
+/// completion in which each pinned unit has its choice and no unit has a distortion
+/// above the limit; `None` where there is no such completion.
+pub fn completed(
+    job: &Job,
+    pins: &Pins,
+    limit: i64,
+    t: usize,
+    decoder: i64,
+    levels: &Levels,
+) -> Option<i64> {
+    if t == job.intervals() {
+        return Some(0);
+    }
+    // Interval t + 1 decodes this unit, counted from 0, or none.
+    let unit = t.checked_sub(job.delay);
+    let mut open = Vec::new();
+    match unit {
+        None => open.push((0, 0)),
+        Some(unit) => {
+            for (index, choice) in job.units[unit].iter().enumerate() {
+                let held = pins[unit].is_none() || pins[unit] == Some(index);
+                if held && choice.distortion <= limit {
+                    open.push((choice.grains, choice.distortion));
+                }
+            }
+        }
+    }
+    let mut sums = Vec::new();
+    for &sent in &job.rates {
+        let Some(after) = filled(job, levels, sent) else { continue };
+        for &(taken, distortion) in &open {
+            let Some(level) = by_peak(job, decoder, sent, taken) else { continue };
+            let rest = completed(job, pins, limit, t + 1, level, &after);
+            sums.extend(rest.map(|rest| distortion + rest));
+        }
+    }
+    sums.into_iter().min()
+}
+
+/// Every word of the table in which choices above the limit are left out.
+pub fn completed_table(job: &Job, pins: &Pins, limit: i64) -> Vec<u32> {
+    let mut table = vec![0; job.words()];
+    for t in 0..=job.intervals() {
+        for decoder in 0..=job.decoder_size {
+            for levels in job.all_levels() {
+                let word = completed(job, pins, limit, t, decoder, &levels);
+                table[job.word(t, decoder, &levels)] = word.map_or(u32::MAX, |word| word as u32);
+            }
+        }
+    }
+    table
+}
+
+/// The table that planning for even pictures leaves: where there is no plan, the full
+/// one.
+pub fn even_table(job: &Job, pins: &Pins, greatest: Option<i64>) -> Vec<u32> {
+    completed_table(job, pins, greatest.unwrap_or(NO_LIMIT))
+}
+
+/// The least that the greatest distortion of a plan can be: carried forward to each
+/// set of levels, interval by interval.
+pub fn least_greatest(job: &Job, pins: &Pins) -> Option<i64> {
+    let mut layer = BTreeMap::from([((job.start_decoder, job.start_levels()), 0)]);
+    for t in 1..=job.intervals() {
+        let options = options(job, pins, t);
+        let mut next: BTreeMap<(i64, Levels), i64> = BTreeMap::new();
+        for ((decoder, levels), worst) in &layer {
+            for &sent in &job.rates {
+                let Some(after) = filled(job, levels, sent) else { continue };
+                for &(_, grains, distortion) in &options {
+                    let Some(level) = by_peak(job, *decoder, sent, grains) else { continue };
+                    let held = next.entry((level, after)).or_insert(NO_LIMIT);
+                    *held = (*held).min(distortion.max(*worst));
+                }
+            }
+        }
+        layer = next;
+    }
+    layer.into_values().min()
+}
+
+/// The job with every choice above the limit made larger than any decoder, so that no
+/// plan has it. What each choice loses is as before.
+pub fn limited(job: &Job, limit: i64) -> Job {
+    let mut job = job.clone();
+    let choices = job.units.iter_mut().flatten();
+    choices.filter(|choice| choice.distortion > limit).for_each(|choice| choice.grains = 1 << 20);
+    job
+}
+
+/// The least greatest distortion by the search forward, then the dynamic program over
+/// the choices that this leaves.
+pub fn dynamic_even(job: &Job, pins: &Pins) -> Option<Plan> {
+    let limit = least_greatest(job, pins)?;
+    dynamic(&limited(job, limit), pins)
+}
+
+// ---------------------------------------------------------------------------
 // Plans as bytes.
 // ---------------------------------------------------------------------------
 
@@ -784,6 +968,89 @@ pub fn choice_mistakes(job: &Job, pins: &Pins, plan: Option<&Plan>) -> Vec<(&'st
         ("the price of a size's last choice", told(|_, _| true)),
         ("the greatest price of a size", told(|held, other| other > held)),
     ]
+}
+
+/// Those of programs for even pictures: another plan, or another table. Every plan is
+/// tried, and `plan` is the one due.
+pub fn even_mistakes(job: &Job, pins: &Pins, plan: Option<&Plan>) -> Vec<(&'static str, bool)> {
+    let plans = admissible_plans(job, pins);
+    let table = even_table(job, pins, plan.map(|plan| greatest(job, plan)));
+    // The greatest of the units that are not pinned; 0 where all are.
+    let unpinned = |plan: &Plan| {
+        let units = job.units.iter().zip(pins).zip(&plan[job.delay..]);
+        let free = units.filter(|((_, pinned), _)| pinned.is_none());
+        free.map(|((unit, _), entry)| unit[entry.1].distortion).max().unwrap_or(0)
+    };
+    // The first plan by these numbers and then in order.
+    let by = |key: &dyn Fn(&Judged) -> (i64, i64)| {
+        let first = plans.iter().min_by_key(|judged| (key(judged), &judged.plan));
+        first.map(|judged| &judged.plan)
+    };
+    let least_total = by(&|judged| (judged.total, 0));
+    let free = by(&|judged| (unpinned(&judged.plan), judged.total));
+    let last = plan.and_then(|plan| {
+        let due = replay(job, pins, plan, |_, _| ())?.distortion;
+        let as_good =
+            |judged: &&Judged| (judged.greatest, judged.total) == (greatest(job, plan), due);
+        plans.iter().filter(as_good).map(|judged| &judged.plan).max()
+    });
+    // Each unit at the least that any of its choices loses: what no plan goes below.
+    let floor = |unit: &Vec<Choice>| unit.iter().map(|choice| choice.distortion).min();
+    let floor = job.units.iter().filter_map(floor).max();
+    let other = |limit: Option<i64>| even_table(job, pins, limit) != table;
+    let limit_of = |plan: Option<&Plan>| plan.map(|plan| greatest(job, plan));
+    let below = limit_of(plan).map(|limit| limit - 1);
+    // Of the pinned choices none is left out by it.
+    let open_pins = |limit: Option<i64>| {
+        let mut job = job.clone();
+        for (unit, pinned) in job.units.iter_mut().zip(pins) {
+            for (index, choice) in unit.iter_mut().enumerate() {
+                let left_out = limit.is_some_and(|limit| choice.distortion > limit);
+                if left_out && *pinned != Some(index) {
+                    choice.grains = 1 << 20;
+                }
+            }
+        }
+        completed_table(&job, pins, NO_LIMIT)
+    };
+    vec![
+        ("the least total", least_total != plan),
+        ("the greatest alone, then the order", by(&|judged| (judged.greatest, 0)) != plan),
+        ("the greatest after the total", by(&|j| (j.total, j.greatest)) != plan),
+        ("the last of equal plans", last != plan),
+        ("the limit of the plan of least total", other(limit_of(least_total))),
+        ("the full table", other(None)),
+        ("the choices at the limit left out", plan.is_some() && other(below)),
+        ("the least of each unit for the limit", plan.is_some() && other(floor)),
+        ("the greatest without the pins", free != plan || open_pins(free.map(unpinned)) != table),
+        ("the full table where it is not reached", unreached(job, pins, &table)),
+    ]
+}
+
+/// Whether the table and the full one have other words for levels that no admissible
+/// beginning of a plan comes to.
+fn unreached(job: &Job, pins: &Pins, table: &[u32]) -> bool {
+    let full = completed_table(job, pins, NO_LIMIT);
+    let mut reached = vec![false; table.len()];
+    let mut layer = vec![(job.start_decoder, job.start_levels())];
+    for t in 0..=job.intervals() {
+        let mut next = Vec::new();
+        for (decoder, levels) in layer {
+            let word = job.word(t, decoder, &levels);
+            if std::mem::replace(&mut reached[word], true) || t == job.intervals() {
+                continue;
+            }
+            for &sent in &job.rates {
+                let Some(after) = filled(job, &levels, sent) else { continue };
+                for (_, grains, _) in options(job, pins, t + 1) {
+                    next.extend(by_peak(job, decoder, sent, grains).map(|level| (level, after)));
+                }
+            }
+        }
+        layer = next;
+    }
+    let differs = |at: usize| !reached[at] && table[at] != full[at];
+    (0..table.len()).any(differs)
 }
 
 /// The job with one choice left of each size: the first, or a later one where
@@ -1882,6 +2149,156 @@ pub fn random_double_job(rng: &mut Rng, shape: &Shape) -> Draft {
     let mut draft = if rng.one_in(2) { draft.swapped() } else { draft };
     draft.commands = random_commands(rng, &draft, shape.commands);
     draft
+}
+
+/// The shapes of jobs for both aims: to enumerate, for the dynamic program, and long.
+/// Of these a second bucket has at most half the size of the first one.
+pub const EVEN_SHAPES: [Shape; 3] = [
+    Shape {
+        units: (1, 3),
+        delay: (0, 3),
+        decoder: 6,
+        bucket: 3,
+        rates: 3,
+        choices: 4,
+        grains: 0,
+        heavy: &[4, 1000],
+        commands: 2,
+    },
+    Shape {
+        units: (6, 12),
+        delay: (0, 4),
+        decoder: 20,
+        bucket: 10,
+        rates: 5,
+        choices: 6,
+        grains: 2,
+        heavy: &[1000],
+        commands: 2,
+    },
+    Shape {
+        units: (80, 160),
+        delay: (0, 20),
+        decoder: 9,
+        bucket: 4,
+        rates: 4,
+        choices: 4,
+        grains: 1,
+        heavy: &[1000],
+        commands: 2,
+    },
+];
+
+/// A job in which too few grains have to be shared out, on a line of one bucket or of
+/// two. Each unit has a distortion that no coding goes below and one that a grain more
+/// takes off; in half of the jobs the grains of a fine coding take off more than those
+/// of a coarse one. The least total gives the grains to the units that gain most by
+/// them, even pictures to those that lose most. In some jobs a pin sets the greatest.
+pub fn random_even_job(rng: &mut Rng, shape: &Shape) -> Draft {
+    let decoder = rng.from(3, shape.decoder);
+    let bucket = rng.from(0, shape.bucket);
+    let levels = [
+        rng.from(shape.delay.0, shape.delay.1),
+        decoder,
+        bucket,
+        rng.from(1, 1 + decoder / 8),
+        rng.from(0, decoder),
+        rng.from(0, bucket),
+    ];
+    let count = rng.from(1, shape.rates);
+    let mut rates = rng.rising(count, (decoder / 2).max(count));
+    if !rng.one_in(12) {
+        rates[0] = 0;
+    }
+    // Of the two aims one unit says nothing.
+    let count = rng.from(shape.units.0, shape.units.1).max(if rng.one_in(12) { 1 } else { 2 });
+    let choices = rng.from(2, shape.choices);
+    let (heavy, bent) = (rng.pick(shape.heavy), rng.one_in(2));
+    let mut units = Vec::new();
+    for _ in 0..count {
+        let (least, gain) = (rng.from(0, 30), rng.from(1, 12));
+        let coding = |size: usize| {
+            let coarse = if bent { decoder * decoder - size * size } else { decoder - size };
+            (size as u16, (least + gain * coarse) as u32)
+        };
+        // Sizes from nothing to all that the decoder holds, in any order but for the
+        // last one, which is next to nothing.
+        let spread = |choice: usize| choice * decoder / (choices - 1).max(1);
+        let mut unit: Vec<_> = (1..choices).map(|choice| coding(spread(choice))).collect();
+        for at in (1..unit.len()).rev() {
+            unit.swap(at, rng.from(0, at));
+        }
+        let light = if rng.one_in(heavy) { rng.from(2, decoder) } else { rng.from(0, 1) };
+        unit.push(coding(light));
+        units.push(unit);
+    }
+    let mut draft = Draft::new(levels.map(|level| level as u16), &rates, &units);
+    match rng.from(1, 8) {
+        1 | 2 => draft.commands = vec![random_worst(rng, &mut draft)],
+        3 => draft.commands = random_commands(rng, &draft, shape.commands),
+        _ => (),
+    }
+    either_line(rng, draft, shape)
+}
+
+/// The same with few distortions, so that many plans are equally even, and many of
+/// these have the same total; or with one that a grain takes off anywhere, so that all
+/// plans that take as many grains have the same total; and with the same coding twice
+/// in a unit.
+pub fn random_level_job(rng: &mut Rng, shape: &Shape) -> Draft {
+    let mut draft = random_even_job(rng, shape);
+    if rng.one_in(2) {
+        let decoder = draft.header[DECODER] as u32;
+        let gain = rng.pick(&[1, 7, 256, 3900]);
+        for (size, distortion) in draft.units.iter_mut().flatten() {
+            *distortion = gain * (decoder - *size as u32);
+        }
+        if !rng.one_in(3) {
+            // The coarsest first: what is too coarse for an even plan comes before what is
+            // not, and adds up to the same.
+            draft.units.iter_mut().for_each(|unit| unit.sort());
+        }
+        return draft;
+    }
+    let most = draft.units.iter().flatten().map(|coding| coding.1).max().expect("a coding");
+    let levels: &[u32] = rng.pick(&[
+        &[7][..],
+        &[0, 1_000_000],
+        &[0, 1, 2],
+        &[0, 2, 3],
+        &[0, 2, 3],
+        &[0, 999_999, 1_000_000],
+        &[0, 255, 256, 65_535, 65_536],
+        &[1, 3, 4, 6, 7, 9],
+    ]);
+    for (_, distortion) in draft.units.iter_mut().flatten() {
+        *distortion = levels[*distortion as usize * levels.len() / (most as usize + 1)];
+    }
+    for unit in &mut draft.units {
+        if rng.one_in(4) {
+            let (from, to) = (rng.from(0, unit.len() - 1), rng.from(0, unit.len() - 1));
+            unit[to] = unit[from];
+        }
+    }
+    draft
+}
+
+/// A pin of a unit at its last choice, which is light and now loses about as much as
+/// any choice of the job, or more.
+fn random_worst(rng: &mut Rng, draft: &mut Draft) -> Command {
+    let most = draft.units.iter().flatten().map(|coding| coding.1).max().expect("a coding");
+    let unit = rng.from(0, draft.units.len() - 1);
+    let last = draft.units[unit].len() - 1;
+    draft.units[unit][last].1 = rng.pick(&[most, most + 1, most / 2, most * 3 / 4, 900]);
+    Pin(unit as u16 + 1, last as u16)
+}
+
+fn either_line(rng: &mut Rng, draft: Draft, shape: &Shape) -> Draft {
+    if rng.one_in(2) {
+        return draft;
+    }
+    let most = draft.rates[draft.rates.len() - 1] as usize;
+    random_doubled(rng, &draft, shape.bucket / 2, most.max(1))
 }
 
 /// A job with commands, its bytes then harmed.

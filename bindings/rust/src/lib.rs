@@ -17,6 +17,9 @@
 //! What an interval sends goes to each bucket too, which then loses its drain, or
 //! all that it has. Grains of the drain that find nothing there go by unused.
 //!
+//! Every call that plans names an [`Aim`]: the least total distortion, or even
+//! pictures, where the worst unit is as good as it can be.
+//!
 //! [`write()`] makes the bytes of a job from its header and lists; [`open`],
 //! [`calls()`], [`plan`], [`replay`], [`report`] and [`turn`] take these bytes and
 //! read them again. They fill lists that the caller lends; [`written`], [`called`],
@@ -33,7 +36,7 @@
 //! are in C.
 //!
 //! ```
-//! use upload_planner::{best_plan, Call, Refusal};
+//! use upload_planner::{best_plan, Aim, Call, Refusal};
 //!
 //! // Two units over three intervals: the header, the rates 0, 2 and 4, then
 //! // grains and distortion of both choices of each unit.
@@ -46,7 +49,7 @@
 //! ];
 //!
 //! // A plan has three bytes for each interval: a rate, then a choice or 65,535.
-//! let best = best_plan(&job, &[])?;
+//! let best = best_plan(&job, &[], Aim::Total)?;
 //! assert_eq!(best.totals.distortion, 50);
 //! assert_eq!(best.entries, [0, 255, 255, 2, 0, 0, 1, 1, 0]);
 //!
@@ -54,15 +57,15 @@
 //! assert_eq!(best.totals.unused_grains, 2);
 //!
 //! let coarse = Call::Pin { unit: 1, choice: 1 };
-//! let best = best_plan(&job, &[coarse])?;
+//! let best = best_plan(&job, &[coarse], Aim::Total)?;
 //! assert_eq!(best.totals.distortion, 70);
 //!
 //! // Five grains, and the decoder holds four.
 //! let large = Call::Pin { unit: 2, choice: 0 };
-//! assert_eq!(best_plan(&job, &[coarse, large]), Err(Refusal::NoPlan));
+//! assert_eq!(best_plan(&job, &[coarse, large], Aim::Total), Err(Refusal::NoPlan));
 //!
 //! let lifts = [Call::Lift { unit: 2 }, Call::Lift { unit: 1 }];
-//! let best = best_plan(&job, &[coarse, large, lifts[0], lifts[1]])?;
+//! let best = best_plan(&job, &[coarse, large, lifts[0], lifts[1]], Aim::Total)?;
 //! assert_eq!(best.totals.distortion, 50);
 //! # Ok::<(), Refusal>(())
 //! ```
@@ -87,8 +90,9 @@ pub enum Refusal {
     /// 1: the bytes end before a record that is due is whole, or the last call is
     /// cut.
     Cut,
-    /// 2: a record's kind or length is not the one due, or a call is neither a
-    /// pin nor a lift.
+    /// 2: a record's kind or length is not the one due, an aim's number is neither
+    /// of the two, or a call is neither a pin nor a lift. An [`Aim`] always has one
+    /// or the other.
     WrongRecord,
     /// 3: a field of the header is out of range, or the fields are not nine or
     /// twelve. A [`Header`] always has one or the other.
@@ -162,7 +166,9 @@ impl fmt::Display for Refusal {
             Refusal::Cut => {
                 "the bytes end before a record that is due is whole, or the last call is cut"
             }
-            Refusal::WrongRecord => "a record or a call of another kind or length than the one due",
+            Refusal::WrongRecord => {
+                "a record, an aim or a call of another kind or length than the one due"
+            }
             Refusal::Header => {
                 "a field of the header is out of range, or the fields are not nine or twelve"
             }
@@ -215,6 +221,76 @@ impl Call {
 
 fn numbers_of(calls: &[Call]) -> Vec<u16> {
     calls.iter().flat_map(|call| call.numbers()).collect()
+}
+
+/// What a plan is to make least. The caller names it in every call that plans.
+///
+/// Pinned units count as all others do. Among plans that are equal in what the aim
+/// names, the first interval at which they differ decides, whatever the aim: the
+/// smaller rate index, then the smaller choice index. There is no plan for the one aim
+/// exactly where there is none for the other.
+///
+/// # Examples
+///
+/// Four grains are there for two units, and nothing is sent. All of them for unit 1
+/// leave none for unit 2, which then loses 90; two for each lose 50 and 50.
+///
+/// ```
+/// use upload_planner::{best_plan, written, Aim, Call, Header, Refusal, NEVER};
+///
+/// let header = Header {
+///     units: 2,
+///     delay: 0,
+///     decoder: 4,
+///     bucket: 0,
+///     drain: 1,
+///     level: 4,
+///     fill: 0,
+///     rates: 1,
+///     choices: 3,
+///     second: None,
+/// };
+/// let (sizes, distortions) = ([4, 2, 0].repeat(2), [0, 50, 90].repeat(2));
+/// let job = written(&header, &[0], &sizes, &distortions)?;
+///
+/// let total = best_plan(&job, &[], Aim::Total)?;
+/// assert_eq!(total.totals.distortion, 0 + 90);
+/// assert_eq!(total.entries, [0, 0, 0, 0, 2, 0]);
+///
+/// let even = best_plan(&job, &[], Aim::Even)?;
+/// assert_eq!(even.totals.distortion, 50 + 50);
+/// assert_eq!(even.entries, [0, 1, 0, 0, 1, 0]);
+///
+/// // The words after interval 1, by what is left for unit 2: with less than two
+/// // grains it loses 90, and that choice is left out of the second table.
+/// assert_eq!(total.table[5..10], [90, 90, 50, 50, 0]);
+/// assert_eq!(even.table[5..10], [NEVER, NEVER, 50, 50, 0]);
+///
+/// // Unit 2 is to lose 90: then no plan is more even than that, and unit 1 has all.
+/// let coarse = Call::Pin { unit: 2, choice: 2 };
+/// let even = best_plan(&job, &[coarse], Aim::Even)?;
+/// assert_eq!(even.entries, total.entries);
+/// assert_eq!(Aim::default(), Aim::Total);
+/// # Ok::<(), Refusal>(())
+/// ```
+#[derive(Clone, Copy, Debug, Default, PartialEq, Eq, Hash)]
+pub enum Aim {
+    /// The total distortion.
+    #[default]
+    Total,
+    /// The greatest distortion of a unit, and among plans in which that is least the
+    /// total.
+    Even,
+}
+
+impl Aim {
+    /// The number that the library takes.
+    pub fn number(self) -> u32 {
+        match self {
+            Aim::Total => numbers::TOTAL,
+            Aim::Even => numbers::EVEN,
+        }
+    }
 }
 
 /// A carrier's leaky bucket, as a job starts with it.
@@ -534,20 +610,24 @@ pub fn calls(job: &[u8], calls: &[Call], answers: &mut [u8]) -> Result<PinTotals
 /// Makes the calls as [`calls()`] does, then plans with the pins that stand at the
 /// end.
 ///
+/// - `aim`: what the plan is to make least.
 /// - `answers`: one byte for each call is written, as [`calls()`] writes them.
 /// - `table`: [`Opened::table_words`] words are written. Word
 ///   (t × (decoder size + 1) + b) × (bucket size + 1) + l is the least
 ///   distortion that intervals t + 1 to T can add from decoder level b and
 ///   bucket level l after interval t, pins held, or [`NEVER`]. With two buckets,
 ///   the second at level m, that is word ((t × (decoder size + 1) + b) ×
-///   (bucket size + 1) + l) × (second size + 1) + m.
+///   (bucket size + 1) + l) × (second size + 1) + m. For [`Aim::Even`] it is the table
+///   in which choices above the plan's greatest distortion are left out, and where
+///   there is no plan the full one.
 /// - `entries`: 3 × T bytes are written, three for each interval: the index of
 ///   its rate, then that of its unit's choice as two bytes, the lower first, or
 ///   [`NO_UNIT`]. [`Entry::each`] names them.
 ///
-/// The plan has the least distortion of all that are admissible. Among several
-/// the first interval at which they differ decides: the smaller rate index,
-/// then the smaller choice index.
+/// Of all plans that are admissible it has the least total distortion, or for
+/// [`Aim::Even`] the least greatest distortion of a unit and among such plans the least
+/// total. Among several the first interval at which they differ decides: the smaller
+/// rate index, then the smaller choice index.
 ///
 /// # Errors
 ///
@@ -557,12 +637,14 @@ pub fn calls(job: &[u8], calls: &[Call], answers: &mut [u8]) -> Result<PinTotals
 pub fn plan(
     job: &[u8],
     calls: &[Call],
+    aim: Aim,
     answers: &mut [u8],
     table: &mut [u32],
     entries: &mut [u8],
 ) -> Result<Totals, Refusal> {
     let mut values = [0; numbers::PLAN_VALUES_MOST];
-    checked(numbers::plan(job, &numbers_of(calls), answers, table, entries, &mut values))?;
+    let (calls, aim) = (numbers_of(calls), aim.number());
+    checked(numbers::plan(job, &calls, aim, answers, table, entries, &mut values))?;
     Ok(Totals::of(values, buckets_of(job)))
 }
 
@@ -651,7 +733,7 @@ pub struct Called {
 /// No plan holds both pins, and each of them was taken all the same.
 ///
 /// ```
-/// use upload_planner::{best_plan, called, written, Call, Header, Refusal};
+/// use upload_planner::{best_plan, called, written, Aim, Call, Header, Refusal};
 ///
 /// let header = Header {
 ///     units: 2,
@@ -672,7 +754,7 @@ pub struct Called {
 ///     Call::Pin { unit: 1, choice: 0 },
 ///     Call::Pin { unit: 2, choice: 0 },
 /// ];
-/// assert_eq!(best_plan(&job, &calls), Err(Refusal::NoPlan));
+/// assert_eq!(best_plan(&job, &calls, Aim::Total), Err(Refusal::NoPlan));
 ///
 /// let made = called(&job, &calls)?;
 /// assert_eq!(made.answers, [Ok(()), Err(Refusal::Pinned), Ok(())]);
@@ -696,7 +778,8 @@ pub struct BestPlan {
     pub entries: Vec<u8>,
     /// What each call met with.
     pub answers: Vec<Result<(), Refusal>>,
-    /// The least distortion from every state.
+    /// The least distortion from every state; for [`Aim::Even`] without the choices
+    /// above the plan's greatest distortion.
     pub table: Vec<u32>,
 }
 
@@ -706,12 +789,12 @@ pub struct BestPlan {
 /// # Errors
 ///
 /// Numbers 1 to 5 for the job; 13.
-pub fn best_plan(job: &[u8], calls: &[Call]) -> Result<BestPlan, Refusal> {
+pub fn best_plan(job: &[u8], calls: &[Call], aim: Aim) -> Result<BestPlan, Refusal> {
     let opened = open(job)?;
     let mut answers = vec![0; calls.len()];
     let mut table = vec![0; opened.table_words];
     let mut entries = vec![0; opened.plan_bytes()];
-    let totals = plan(job, calls, &mut answers, &mut table, &mut entries)?;
+    let totals = plan(job, calls, aim, &mut answers, &mut table, &mut entries)?;
     Ok(BestPlan { totals, entries, answers: met_with(answers), table })
 }
 
@@ -727,7 +810,7 @@ pub fn best_plan(job: &[u8], calls: &[Call]) -> Result<BestPlan, Refusal> {
 /// The best plan over a line with one bucket sends four grains in interval 2.
 ///
 /// ```
-/// use upload_planner::{best_plan, replayed, written, Bucket, Header, Levels};
+/// use upload_planner::{best_plan, replayed, written, Aim, Bucket, Header, Levels};
 /// use upload_planner::{Refusal, Replayed, Violation};
 ///
 /// let one = Header {
@@ -746,7 +829,7 @@ pub fn best_plan(job: &[u8], calls: &[Call]) -> Result<BestPlan, Refusal> {
 ///     written(&header, &[0, 2, 4], &[4, 2, 5, 2], &[10, 30, 12, 40])
 /// };
 /// let job = job_of(one)?;
-/// let best = best_plan(&job, &[])?;
+/// let best = best_plan(&job, &[], Aim::Total)?;
 /// assert_eq!(best.entries, [0, 255, 255, 2, 0, 0, 1, 1, 0]);
 ///
 /// let (levels, found) = replayed(&job, &[], &best.entries)?;
@@ -770,7 +853,7 @@ pub fn best_plan(job: &[u8], calls: &[Call]) -> Result<BestPlan, Refusal> {
 /// assert_eq!(levels, [Levels { decoder: 0, bucket: 0, second: Some(0) }]);
 /// let violation = Violation::SecondBucketOver;
 /// assert_eq!(found, Replayed::Violated { violation, interval: 2 });
-/// assert_eq!(best_plan(&job, &[])?.entries, [1, 255, 255, 1, 0, 0, 1, 1, 0]);
+/// assert_eq!(best_plan(&job, &[], Aim::Total)?.entries, [1, 255, 255, 1, 0, 0, 1, 1, 0]);
 /// # Ok::<(), Refusal>(())
 /// ```
 pub fn replayed(
@@ -799,7 +882,7 @@ pub fn replayed(
 /// The best plan of a job was stored while an entry had two bytes.
 ///
 /// ```
-/// use upload_planner::{best_plan, turned, written, Entry, Header, Refusal};
+/// use upload_planner::{best_plan, turned, written, Aim, Entry, Header, Refusal};
 ///
 /// let header = Header {
 ///     units: 2,
@@ -816,7 +899,7 @@ pub fn replayed(
 /// let job = written(&header, &[0, 2, 4], &[4, 2, 5, 2], &[10, 30, 12, 40])?;
 ///
 /// let entries = turned(&job, &[0, 255, 2, 0, 1, 1])?;
-/// assert_eq!(entries, best_plan(&job, &[])?.entries);
+/// assert_eq!(entries, best_plan(&job, &[], Aim::Total)?.entries);
 /// let plan: Vec<Entry> = Entry::each(&entries).collect();
 /// assert_eq!(plan[0], Entry { rate: 0, choice: None });
 /// assert_eq!(plan[1], Entry { rate: 2, choice: Some(0) });
@@ -874,7 +957,7 @@ pub fn write(
 /// A distortion is corrected, and the plan follows.
 ///
 /// ```
-/// use upload_planner::{best_plan, written, Header, Refusal};
+/// use upload_planner::{best_plan, written, Aim, Header, Refusal};
 ///
 /// let header = Header {
 ///     units: 2,
@@ -893,14 +976,14 @@ pub fn write(
 /// let mut distortions = [10, 30, 12, 40];
 ///
 /// let job = written(&header, &rates, &sizes, &distortions)?;
-/// let best = best_plan(&job, &[])?;
+/// let best = best_plan(&job, &[], Aim::Total)?;
 /// assert_eq!(best.totals.distortion, 50);
 /// assert_eq!(best.entries, [0, 255, 255, 2, 0, 0, 1, 1, 0]);
 ///
 /// // Unit 1 at its second choice is better than was thought.
 /// distortions[1] = 5;
 /// let job = written(&header, &rates, &sizes, &distortions)?;
-/// let best = best_plan(&job, &[])?;
+/// let best = best_plan(&job, &[], Aim::Total)?;
 /// assert_eq!(best.totals.distortion, 45);
 /// assert_eq!(best.entries, [0, 255, 255, 1, 1, 0, 1, 1, 0]);
 ///

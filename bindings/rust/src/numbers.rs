@@ -5,13 +5,19 @@
 //! Calls are numbers, three a call: [`PIN`] or [`LIFT`], the unit, the choice,
 //! which a lift does not look at. A call of another kind is refused with 2, then
 //! a last call that is cut with 1, both right after the job's numbers, 1 to 5,
-//! which come first. A `values` list is one of those to be filled: where it is too
-//! short, its 12 comes right after theirs.
+//! which come first. An aim that is neither [`TOTAL`] nor [`EVEN`] is refused with 2
+//! too, right after the job's numbers and before the calls'. A `values` list is one of
+//! those to be filled: where it is too short, its 12 comes right after theirs.
 
 /// The first number of a call that pins.
 pub const PIN: u16 = 6;
 /// The first number of a call that lifts.
 pub const LIFT: u16 = 7;
+
+/// The aim of a plan of least total distortion.
+pub const TOTAL: u32 = 0;
+/// The aim of a plan whose greatest unit distortion is least, and then its total.
+pub const EVEN: u32 = 1;
 
 /// How many values [`open`] writes: the bytes that the job took, N, T, and the
 /// words of the table.
@@ -72,6 +78,7 @@ extern "C" {
         job_len: usize,
         calls: *const u16,
         calls_len: usize,
+        aim: u32,
         answers: *mut u8,
         answers_len: usize,
         table: *mut u32,
@@ -154,10 +161,11 @@ pub fn calls(job: &[u8], calls: &[u16], answers: &mut [u8], values: &mut [u64]) 
     }
 }
 
-/// Makes the calls, then plans.
+/// Makes the calls, then plans for the aim, [`TOTAL`] or [`EVEN`].
 pub fn plan(
     job: &[u8],
     calls: &[u16],
+    aim: u32,
     answers: &mut [u8],
     table: &mut [u32],
     entries: &mut [u8],
@@ -169,6 +177,7 @@ pub fn plan(
             job.len(),
             calls.as_ptr(),
             calls.len(),
+            aim,
             answers.as_mut_ptr(),
             answers.len(),
             table.as_mut_ptr(),
