@@ -1,4 +1,4 @@
--- What a well-formed job's values keep to, index by index, and that a job which keeps to it is well formed: `Limited` and `OpensExactly`.
+-- What a well-formed job's values keep to, index by index, and that a job which keeps to it is well formed: `Limited`, `OpensExactly` and `TwoDoors`.
 use Prim.Native.Nat.{ℕ, zero, suc, _+_, _-_, _≤_, _<_}
 use mathlib.Core.Path.{_≡_, refl, sym, _∙_, ap}
 use mathlib.Core.Option.{Option, none, some}
@@ -11,10 +11,12 @@ use Rattle.model.specs.Table.{Bounded}
 use Rattle.format.specs.Limits.{AllKept}
 use Rattle.format.specs.Parser.{took, Each}
 use Rattle.format.specs.Parser as P
-use Rattle.format.specs.JobBytes.{largest-sizes, bucket-limits, rate-limits, coding-limits, policed, header-in, parse, encode, UnitKept, WellFormed}
-use Rattle.format.specs.Claims.{InLimits, Limited, OpensExactly}
+use Rattle.format.specs.JobBytes.{no-bucket, Door, opening, archive, drain-limits, Formed, largest-sizes, bucket-limits, rate-limits, coding-limits, policed, header-in, parse, encode, UnitKept, WellFormed}
+use Rattle.format.specs.Claims.{InLimits, Limited, Drains, OpensExactly, TwoDoors}
 use Rattle.format.proofs.Header.{buckets-count}
 use Rattle.format.proofs.RoundTrip.{parse-encode, encode-parse, sized}
+use Rattle.format.proofs.Doors.{none-idle, all-drain}
+use Rattle.format.proofs.Places.{well-read, other-door}
 
 module _ (low : ℕ) where
   rate-low : (rs : List ℕ) → AllKept (rate-limits low rs) → 0 < length rs → low ≤ getD rs 0 0
@@ -200,15 +202,52 @@ within j l = record {
 pub limits : Limited
 limits j = (limited j, within j)
 
+-- a job's drains, as the door asks for them, and as its header tells them
+drain-told : (bs : List Bucket) (ls : List ℕ) → length ls ≡ length bs → (i : ℕ) → i < length bs → getD (zipWith policed bs ls) i no-bucket .drain ≡ bucketAt bs i .drain
+unfolding zipWith policed
+drain-told [] ls e i h = absurd (omega arith)
+drain-told (a ∷ bs) [] e i h = absurd (omega arith)
+drain-told (a ∷ bs) (l ∷ ls) e zero h = refl
+drain-told (a ∷ bs) (l ∷ ls) e (suc i) h = drain-told bs ls (omega arith) i (omega arith)
+
+pub drains-told : (d : Door) (j : Job) → Formed d j → Drains d j
+unfolding header-in
+drains-told archive j w = tt
+drains-told opening j w = λ i h.
+    let n = buckets-count (j .line .buckets) (j .start .buckets) (w .well-formed .fills) in
+    omega (arith, none-idle (header-in j .buckets) (w .drains) i (omega arith), drain-told (j .line .buckets) (j .start .buckets) (w .well-formed .fills) i h)
+
+pub told-drains : (d : Door) (j : Job) → InLimits j → Drains d j → AllKept (drain-limits d (header-in j .buckets))
+unfolding header-in
+told-drains archive j l f = tt
+told-drains opening j l f =
+    let n = buckets-count (j .line .buckets) (j .start .buckets) (l .buckets .2) in
+    all-drain (header-in j .buckets)
+    (λ i h. let k : i < length (j .line .buckets) = omega arith in omega (arith, l .drains i k, drain-told (j .line .buckets) (j .start .buckets) (l .buckets .2) i k))
+    (λ i h. let k : i < length (j .line .buckets) = omega arith in omega (arith, f i k, drain-told (j .line .buckets) (j .start .buckets) (l .buckets .2) i k))
+
 pub opens-exactly : OpensExactly
-opens-exactly b B j n = (
-  λ e. let r = encode-parse b B j n e in (limited j (r .well-formed), sym (length-take-le n b (r .size)) ∙ ap length (r .same) ∙ sized j (r .well-formed), r .same),
+opens-exactly d b B j n = (
+  λ e.
+      let r = encode-parse d b B j n e in
+      let w = r .formed .well-formed in
+      (limited j w, drains-told d j (r .formed), sym (length-take-le n b (r .size)) ∙ ap length (r .same) ∙ sized j w, r .same),
   λ h.
       let w = within j (h .0) in
-      let s : length (encode j) ≡ n = sized j w ∙ sym (h .1) in
-      let whole : encode j ++ drop n b ≡ b = ap (λ (l : List ℕ). l ++ drop n b) (sym (h .2)) ∙ take-append-drop n b in
-      ap parse (sym whole) ∙ parse-encode j w (drop n b) ∙ ap (took j) s,
+      let s : length (encode j) ≡ n = sized j w ∙ sym (h .2) in
+      let whole : encode j ++ drop n b ≡ b = ap (λ (l : List ℕ). l ++ drop n b) (sym (h .3)) ∙ take-append-drop n b in
+      ap (parse d) (sym whole) ∙ parse-encode d j (record { well-formed = w; drains = told-drains d j (h .0) (h .1) }) (drop n b) ∙ ap (took j) s,
 )
+
+pub two-doors : TwoDoors
+two-doors b j n = (
+  λ e. (other-door opening archive b j n e tt, drains-told opening j (well-read opening b j n e)),
+  λ h. other-door archive opening b j n (h .0) (told-drains opening j (limited j (well-read archive b j n (h .0) .well-formed)) (h .1)),
+)
+
+-- what opening reads, the archive reads
+pub archived : (d : Door) (b : List ℕ) (j : Job) (n : ℕ) → parse d b ≡ took j n → parse archive b ≡ took j n
+archived d b j n e = other-door d archive b j n e tt
 
 -- what the table law asks of a job
 pub bounded : (j : Job) → WellFormed j → Bounded j

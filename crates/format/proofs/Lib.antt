@@ -5,6 +5,7 @@ pub mod Left
 pub mod Records
 pub mod Choices
 pub mod Parsing
+pub mod Doors
 pub mod Header
 pub mod Spelling
 pub mod Exact

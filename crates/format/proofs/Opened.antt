@@ -7,32 +7,33 @@ use lib.ListN.{length}
 use Rattle.model.specs.Job.{Job, intervals}
 use Rattle.format.specs.Limits.{AllKept}
 use Rattle.format.specs.Parser.{took}
-use Rattle.format.specs.JobBytes.{Header, bucket-of, header-in, job-of, parse, job-or-none, job-in, Opens, WellFormed, header-limits}
+use Rattle.format.specs.JobBytes.{Door, archive, Header, bucket-of, header-in, job-of, parse, job-or-none, job-in, Opens, WellFormed, header-limits}
 use Rattle.format.specs.Claims.{InLimits, LookedUp}
 use Rattle.format.proofs.RoundTrip.{job-back}
-use Rattle.format.proofs.Bounds.{limited}
+use Rattle.format.proofs.Bounds.{limited, archived}
 use Rattle.format.proofs.Places.{well-read, looks-up}
 
-pub held-job : (b : List ℕ) (j : Job) (k : ℕ) → parse b ≡ took j k → job-in b ≡ j
+-- by either door
+pub held-job : (d : Door) (b : List ℕ) (j : Job) (k : ℕ) → parse d b ≡ took j k → job-in b ≡ j
 unfolding job-in job-or-none
-held-job b j k e = rw e
+held-job d b j k e = rw (archived d b j k e)
 
-pub opens-by : (b : List ℕ) (h : Header) (j : Job) (k : ℕ) → parse b ≡ took j k → header-in j ≡ h → Opens b h
-opens-by b h j k e q = record {
+pub opens-by : (d : Door) (b : List ℕ) (h : Header) (j : Job) (k : ℕ) → parse d b ≡ took j k → header-in j ≡ h → Opens b h
+opens-by d b h j k e q = record {
   taken = k;
-  parsed = e ∙ ap (λ (i : Job). took i k) (sym (held-job b j k e));
-  header-is = ap header-in (held-job b j k e) ∙ q;
+  parsed = archived d b j k e ∙ ap (λ (i : Job). took i k) (sym (held-job d b j k e));
+  header-is = ap header-in (held-job d b j k e) ∙ q;
 }
 
 module _ (b : List ℕ) (h : Header) (o : Opens b h) where
   pub job-formed : WellFormed (job-in b)
-  job-formed = well-read b (job-in b) (o .taken) (o .parsed)
+  job-formed = well-read archive b (job-in b) (o .taken) (o .parsed) .well-formed
 
   pub job-limits : InLimits (job-in b)
   job-limits = limited (job-in b) job-formed
 
   pub looked-up : LookedUp b (job-in b)
-  looked-up = looks-up b (job-in b) (o .taken) (o .parsed)
+  looked-up = looks-up archive b (job-in b) (o .taken) (o .parsed)
 
   -- the header's counts are the job's
   pub units-are : length (job-in b .units) ≡ h .units

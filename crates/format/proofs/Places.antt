@@ -12,12 +12,14 @@ use Rattle.model.specs.Job.{Coding, Job, nothing, codingAt}
 use Rattle.format.specs.Fields.{number, total, fields}
 use Rattle.format.specs.Parser.{took, Parser, many, Each, no-more, one-more}
 use Rattle.format.specs.Records.{Form, record-due, kind-in, record-either}
-use Rattle.format.specs.JobBytes.{Header, further-buckets, policed-by, header-of, codings, entry-widths, bucket-widths, header-widths, header-form, rates-form, unit-form, job-of, header-in, header-parser, unit-parser, parse, UnitKept}
+use Rattle.format.specs.Limits.{AllKept}
+use Rattle.format.specs.JobBytes.{Header, further-buckets, policed-by, header-of, codings, entry-widths, bucket-widths, header-widths, header-form, rates-form, unit-form, job-of, header-in, header-parser, unit-parser, parse, UnitKept, Door, drain-limits, header-limits, header-read}
+use Rattle.format.proofs.Doors.{header-by, by-header}
 use Rattle.format.specs.Places.{field-at, header-size, rates-size, unit-size, rate-place, rate-at, coding-place, coding-at}
 use Rattle.format.specs.Claims.{WellRead, LooksUp}
 use Rattle.format.proofs.Fields.{nth-field}
 use Rattle.format.proofs.Records.{total-same, total-entries}
-use Rattle.format.proofs.Parsing.{RecordTook, bound, record-is, fields-length, many-is, many-length, done-is}
+use Rattle.format.proofs.Parsing.{bind-took, RecordTook, bound, record-is, fields-length, many-is, many-length, done-is}
 use Rattle.format.proofs.Header.{header-back}
 use Rattle.format.proofs.Either.{either-is}
 use Rattle.format.proofs.RoundTrip.{header-total, either-count, level-each}
@@ -57,10 +59,11 @@ unfolding header-of header-form header-widths fields
 header-count n b = omega (arith, policed-count n (drop 2 (drop 2 (drop 2 (drop 2 (drop 2 (drop 2 (drop 2 (drop 2 (drop 2 b))))))))))
 
 -- the parts of a job that was read
-pub record ParseTook (b : List ℕ) (j : Job) (n : ℕ) : Type 0 where
+pub record ParseTook (d : Door) (b : List ℕ) (j : Job) (n : ℕ) : Type 0 where
   pub values : List ℕ
   pub header : Header
   pub few : further-buckets header ≤ 1
+  pub drains : AllKept (drain-limits d (header .buckets))
   pub header-taken : RecordTook (header-form (further-buckets header)) b values (header-size header)
   pub header-is : header ≡ header-of values
   pub rates : List ℕ
@@ -79,8 +82,8 @@ record HeaderTook (b : List ℕ) (h : Header) (n : ℕ) : Type 0 where
   is : h ≡ header-of values
   size : n ≡ header-size h
 
-header-took : (b : List ℕ) (h : Header) (n : ℕ) → header-parser b ≡ took h n → HeaderTook b h n
-unfolding header-parser
+header-took : (b : List ℕ) (h : Header) (n : ℕ) → header-read b ≡ took h n → HeaderTook b h n
+unfolding header-read
 header-took b h n e =
     let y = bound (record-either (header-form 0) (header-form 1)) _ b h n e in
     let z = done-is (header-of (y .value .values)) (drop (y .size) b) h (y .more) (y .second) in
@@ -96,12 +99,17 @@ header-took b h n e =
       size = omega (arith, s, t .size, header-total (c .0), k);
     }
 
-pub parse-is : (b : List ℕ) (j : Job) (n : ℕ) → parse b ≡ took j n → ParseTook b j n
+pub read-kept : (b : List ℕ) (h : Header) (n : ℕ) → header-read b ≡ took h n → AllKept (header-limits h)
+unfolding header-form
+read-kept b h n e = let t = header-took b h n e in rw (t .is) (t .taken .kept)
+
+pub parse-is : (d : Door) (b : List ℕ) (j : Job) (n : ℕ) → parse d b ≡ took j n → ParseTook d b j n
 unfolding parse
-parse-is b j n e =
-    let x = bound header-parser _ b j n e in
+parse-is door b j n e =
+    let x = bound (header-parser door) _ b j n e in
+    let by = header-by door b (x .value) (x .size) (x .first) in
     let h = x .value in
-    let t = header-took b h (x .size) (x .first) in
+    let t = header-took b h (x .size) (by .read) in
     let d : x .size ≡ header-size h = t .size in
     let u = bound (record-due (rates-form (h .rates))) _ (drop (x .size) b) j (x .more) (x .second) in
     let r = record-is (rates-form (h .rates)) (drop (x .size) b) (u .value) (u .size) (u .first) in
@@ -113,6 +121,7 @@ parse-is b j n e =
       values = t .values;
       header = h;
       few = t .few;
+      drains = by .drains;
       header-taken = moved (header-form (further-buckets h)) refl d (t .taken);
       header-is = t .is;
       rates = u .value;
@@ -149,7 +158,7 @@ entry-at (suc m) (suc x) b h =
     let q : 2 + (4 + (6 * x + 2)) ≡ 6 * suc x + 2 = omega arith in
     entry-at m x (drop 4 (drop 2 b)) (omega arith) ∙ rw (drop-drop, drop-drop, drop-drop, drop-drop, p, q)
 
-module _ (b : List ℕ) (j : Job) (n : ℕ) (t : ParseTook b j n) (h : Header) (e : t .header ≡ h) where
+module _ (d : Door) (b : List ℕ) (j : Job) (n : ℕ) (t : ParseTook d b j n) (h : Header) (e : t .header ≡ h) where
   -- where a rate stands
   rates-of : j .line .rates ≡ fields (replicate (h .rates) 2) (drop (header-size h + 4) b)
   unfolding job-of rates-form
@@ -205,9 +214,9 @@ module _ (b : List ℕ) (j : Job) (n : ℕ) (t : ParseTook b j n) (h : Header) (
         (sym coding-values)
 
 -- the header of the job that was read
-header-of-parts : (b : List ℕ) (j : Job) (n : ℕ) (t : ParseTook b j n) → t .header ≡ header-in j
+header-of-parts : (d : Door) (b : List ℕ) (j : Job) (n : ℕ) (t : ParseTook d b j n) → t .header ≡ header-in j
 unfolding rates-form
-header-of-parts b j n t =
+header-of-parts d b j n t =
     sym (
     ap header-in (t .job-is)
     ∙ header-back (t .header) (t .rates) (t .units) (ap length (t .rates-taken .values) ∙ fields-length _ _ ∙ length-replicate (t .header .rates) 2)
@@ -241,24 +250,27 @@ units-well m (suc n) b us k e =
 
 pub well-read : WellRead
 unfolding job-of header-form rates-form
-well-read b j n e =
-    let t = parse-is b j n e in
-    let h = header-of-parts b j n t in
+well-read d b j n e =
+    let t = parse-is d b j n e in
+    let h = header-of-parts d b j n t in
     record {
-      fills = level-each j (t .header) _ _ (t .job-is);
-      header = rw (sym h ∙ t .header-is) (t .header-taken .kept);
-      rates = rw (ap (λ (i : Job). i .line .rates) (t .job-is)) (t .rates-taken .kept);
-      units = rw (t .job-is) (units-well (t .header .choices) (t .header .units) (drop (header-size (t .header) + rates-size (t .header .rates)) b) (t .units) (t .sizes) (t .units-taken));
+      well-formed = record {
+        fills = level-each j (t .header) _ _ (t .job-is);
+        header = rw (sym h ∙ t .header-is) (t .header-taken .kept);
+        rates = rw (ap (λ (i : Job). i .line .rates) (t .job-is)) (t .rates-taken .kept);
+        units = rw (t .job-is) (units-well (t .header .choices) (t .header .units) (drop (header-size (t .header) + rates-size (t .header .rates)) b) (t .units) (t .sizes) (t .units-taken));
+      };
+      drains = rw (sym h) (t .drains);
     }
 
 pub looks-up : LooksUp
 unfolding header-in
-looks-up b j n e =
-    let t = parse-is b j n e in
-    let h = header-of-parts b j n t in
+looks-up d b j n e =
+    let t = parse-is d b j n e in
+    let h = header-of-parts d b j n t in
     record {
-      rate = λ y l. rate-here b j n t (header-in j) h y l;
-      coding = λ u x o l k. coding-here b j n t (header-in j) h (u - 1) x (omega arith) k u refl;
+      rate = λ y l. rate-here d b j n t (header-in j) h y l;
+      coding = λ u x o l k. coding-here d b j n t (header-in j) h (u - 1) x (omega arith) k u refl;
     }
 
 -- what was read lies within the bytes
@@ -273,9 +285,19 @@ many-within p w (suc n) b xs m e =
 unit-within : (m : ℕ) (b : List ℕ) (cs : List Coding) (n : ℕ) → unit-parser m b ≡ took cs n → n ≤ length b
 unit-within m b cs n e = let t = unit-is m b cs n e .taken in omega (arith, t .there, t .size)
 
-pub read-within : (b : List ℕ) (j : Job) (n : ℕ) → parse b ≡ took j n → n ≤ length b
-read-within b j n e =
-    let t = parse-is b j n e in
+pub read-within : (d : Door) (b : List ℕ) (j : Job) (n : ℕ) → parse d b ≡ took j n → n ≤ length b
+read-within d b j n e =
+    let t = parse-is d b j n e in
     let start = header-size (t .header) + rates-size (t .header .rates) in
     let u = many-within (unit-parser (t .header .choices)) (unit-within (t .header .choices)) (t .header .units) (drop start b) (t .units) (t .sizes) (t .units-taken) in
-    omega (arith, t .size, rates-room b j n t (t .header) refl, u, length-drop start b)
+    omega (arith, t .size, rates-room d b j n t (t .header) refl, u, length-drop start b)
+
+-- what one door reads the other reads too, where it takes the drains
+pub other-door : (d e : Door) (b : List ℕ) (j : Job) (n : ℕ) → parse d b ≡ took j n → AllKept (drain-limits e (header-in j .buckets)) → parse e b ≡ took j n
+unfolding parse parse-is
+other-door d e b j n q k =
+    let x = bound (header-parser d) _ b j n q in
+    let by = header-by d b (x .value) (x .size) (x .first) in
+    let h : x .value ≡ header-in j = header-of-parts d b j n (parse-is d b j n q) in
+    bind-took (header-parser e) _ b (x .value) (x .size) j (x .more) (by-header e b (x .value) (x .size) (record { read = by .read; drains = rw h k })) (x .second)
+    ∙ rw (← x .sizes)

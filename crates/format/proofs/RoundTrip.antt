@@ -6,7 +6,8 @@ use native.Mathlib.Omega.{arith}
 use native.Mathlib.Nat.{zero-mul, suc-mul}
 use lib.ListN.{length, getD, drop, replicate, length-append, length-map, length-replicate}
 use Rattle.model.specs.Job.{Bucket, Coding, Job}
-use Rattle.format.specs.JobBytes.{Policed, Header, further-buckets, bucket-values, policed-by, no-bucket, nine-values, header-values, header-of, largest-sizes, bucket-limits, header-limits, rate-limits, unit-values, codings, coding-limits, entry-widths, bucket-widths, header-widths, header-kind, header-form, rates-form, unit-form, bucket-of, job-of, header-in, header-parser, unit-parser, parse, unit-bytes, header-bytes, encode, UnitKept, WellFormed}
+use Rattle.format.specs.JobBytes.{Policed, Header, further-buckets, bucket-values, policed-by, no-bucket, nine-values, header-values, header-of, largest-sizes, bucket-limits, header-limits, rate-limits, unit-values, codings, coding-limits, entry-widths, bucket-widths, header-widths, header-kind, header-form, rates-form, unit-form, bucket-of, job-of, header-in, header-parser, unit-parser, parse, unit-bytes, header-bytes, encode, UnitKept, WellFormed, Door, drain-limits, header-read, Formed}
+use Rattle.format.proofs.Doors.{header-by, by-header}
 use Rattle.format.specs.Fields.{total, Fit}
 use Rattle.format.specs.Fields as F
 use Rattle.format.specs.Limits.{limit, AllKept}
@@ -174,13 +175,26 @@ written-so : (h : Header) → AllKept (header-limits h) → filled-bytes (header
 unfolding filled-bytes header-record header-bytes
 written-so h k = ap (λ (f : Form). record-bytes f (header-values h)) (form-count (further-buckets h) (omega arith))
 
-exact-header : Exact header-parser (λ h. AllKept (header-limits h)) header-bytes
-unfolding header-parser header-record
-exact-header =
+exact-read : Exact header-read (λ h. AllKept (header-limits h)) header-bytes
+unfolding header-read header-record
+exact-read =
     exact-written
     (exact-map (exact-either (header-form 0) (header-form 1) head-either) (λ r. header-of (r .values)) header-record (λ h. AllKept (header-limits h))
     (λ h k. (record-good h k, header-again h (omega arith))) good-values)
     header-bytes written-so
+
+-- with the drains that a door takes
+abbrev HeaderKept : Door → Header → Type 0
+HeaderKept d h = AllKept (header-limits h) × AllKept (drain-limits d (h .buckets))
+
+exact-header : (d : Door) → Exact (header-parser d) (HeaderKept d) header-bytes
+exact-header d = record {
+  forth = λ h k rest. by-header d _ h _ (record { read = exact-read .forth h (k .0) rest; drains = k .1 });
+  back = λ b B h n e.
+      let x = header-by d b h n e in
+      let r = exact-read .back b B h n (x .read) in
+      record { size = r .size; same = r .same; good = (r .good, x .drains) };
+}
 
 -- the rates
 rates-small : (low : ℕ) (rs : List ℕ) → AllKept (rate-limits low rs) → Each (λ v. v < 65536) rs
@@ -326,19 +340,19 @@ well-formed j g = record {
   units = g .rest .units .units;
 }
 
-pub exact-parse : Exact parse WellFormed encode
+pub exact-parse : (d : Door) → Exact (parse d) (Formed d) encode
 unfolding parse encode
-exact-parse =
-    exact-same WellFormed
-    (exact-then exact-header header-in (λ h. record-due (rates-form (h .rates)) >>= λ rs. many (h .units) (unit-parser (h .choices)) >>= λ us. done (job-of h rs us)) RestGood (λ h j. record-bytes (rates-form (h .rates)) (j .line .rates) ++ all-bytes (unit-bytes (h .choices)) (j .units)) exact-rest told-header)
-    (λ j w. let g = good-job j w in (g .header, g .rest))
-    (λ j g. well-formed j (record { header = g .0; rest = g .1 }))
+exact-parse d =
+    exact-same (Formed d)
+    (exact-then (exact-header d) header-in (λ h. record-due (rates-form (h .rates)) >>= λ rs. many (h .units) (unit-parser (h .choices)) >>= λ us. done (job-of h rs us)) RestGood (λ h j. record-bytes (rates-form (h .rates)) (j .line .rates) ++ all-bytes (unit-bytes (h .choices)) (j .units)) (λ h k. exact-rest h (k .0)) told-header)
+    (λ j w. let g = good-job j (w .well-formed) in ((g .header, w .drains), g .rest))
+    (λ j g. record { well-formed = well-formed j (record { header = g .0 .0; rest = g .1 }); drains = g .0 .1 })
 
 pub parse-encode : ReadsBack
-parse-encode j w rest = exact-parse .forth j w rest
+parse-encode d j w rest = exact-parse d .forth j w rest
 
 pub encode-parse : WritesBack
-encode-parse b B j n e = let r = exact-parse .back b B j n e in record { size = r .size; same = r .same; well-formed = r .good }
+encode-parse d b B j n e = let r = exact-parse d .back b B j n e in record { size = r .size; same = r .same; formed = r .good }
 
 -- how many bytes that is
 unit-length : (m : ℕ) → 6 * m < 65534 → (u : List Coding) → UnitKept m u → length (unit-bytes m u) ≡ unit-size m

@@ -11,21 +11,21 @@ use Rattle.format.specs.Limits.{AllKept}
 use Rattle.format.specs.Choices.{choice-of}
 use Rattle.format.specs.Parser.{refused, took, Parser}
 use Rattle.format.specs.Records.{record-due}
-use Rattle.format.specs.JobBytes.{Policed, Header, header-limits, rate-limits, codings, coding-limits, entry-widths, rates-form, job-of, header-in, header-parser, unit-parser, parse, encode, WellFormed}
+use Rattle.format.specs.JobBytes.{Policed, Header, no-bucket, header-limits, Door, opening, archive, rate-limits, codings, coding-limits, entry-widths, rates-form, job-of, header-in, header-read, header-parser, unit-parser, parse, encode, WellFormed, Formed}
 use Rattle.format.specs.Places.{job-size, rate-at, coding-at}
 
 -- what is written is read back, whatever stands behind it
 abbrev pub ReadsBack : Type 0
-ReadsBack = (j : Job) → WellFormed j → (rest : List ℕ) → parse (encode j ++ rest) ≡ took j (length (encode j))
+ReadsBack = (d : Door) (j : Job) → Formed d j → (rest : List ℕ) → parse d (encode j ++ rest) ≡ took j (length (encode j))
 
 -- what was read is a job within the limits, and the bytes that it took are the bytes written of it
-pub record WrittenBack (b : List ℕ) (j : Job) (n : ℕ) : Type 0 where
+pub record WrittenBack (d : Door) (b : List ℕ) (j : Job) (n : ℕ) : Type 0 where
   pub size : n ≤ length b
   pub same : take n b ≡ encode j
-  pub well-formed : WellFormed j
+  pub formed : Formed d j
 
 abbrev pub WritesBack : Type 0
-WritesBack = (b : List ℕ) → Bytes b → (j : Job) (n : ℕ) → parse b ≡ took j n → WrittenBack b j n
+WritesBack = (d : Door) (b : List ℕ) → Bytes b → (j : Job) (n : ℕ) → parse d b ≡ took j n → WrittenBack d b j n
 
 -- how many bytes are written
 abbrev pub Sized : Type 0
@@ -33,7 +33,7 @@ Sized = (j : Job) → WellFormed j → length (encode j) ≡ job-size (header-in
 
 -- what opens is within the limits
 abbrev pub WellRead : Type 0
-WellRead = (b : List ℕ) (j : Job) (n : ℕ) → parse b ≡ took j n → WellFormed j
+WellRead = (d : Door) (b : List ℕ) (j : Job) (n : ℕ) → parse d b ≡ took j n → Formed d j
 
 -- a reader that looks up one field of a job that opens finds the job's value
 pub record LookedUp (b : List ℕ) (j : Job) : Type 0 where
@@ -41,7 +41,7 @@ pub record LookedUp (b : List ℕ) (j : Job) : Type 0 where
   pub coding : (u x : ℕ) → 1 ≤ u → u ≤ length (j .units) → x < j .choices → coding-at b (header-in j) u x ≡ codingAt j (u - 1) x
 
 abbrev pub LooksUp : Type 0
-LooksUp = (b : List ℕ) (j : Job) (n : ℕ) → parse b ≡ took j n → LookedUp b j
+LooksUp = (d : Door) (b : List ℕ) (j : Job) (n : ℕ) → parse d b ≡ took j n → LookedUp b j
 
 -- the limits of document 01 and of document 02, E5, index by index: what a job keeps to
 pub record InLimits (j : Job) : Type 0 where
@@ -67,9 +67,18 @@ pub record InLimits (j : Job) : Type 0 where
 abbrev pub Limited : Type 0
 Limited = (j : Job) → WellFormed j ↔ InLimits j
 
--- every job within the limits opens, and nothing else does: bytes open as a job exactly where it is within the limits and they begin with the bytes written of it
+-- document 02, E8: every bucket drains something, where opening is asked
+abbrev pub Drains : Door → Job → Type 0
+Drains archive j = Unit {0}
+Drains opening j = (i : ℕ) → i < length (j .line .buckets) → 1 ≤ bucketAt (j .line .buckets) i .drain
+
+-- every job within the limits opens, and nothing else does: by either door bytes are a job exactly where it is within the limits, with drains that the door takes, and they begin with the bytes written of it
 abbrev pub OpensExactly : Type 0
-OpensExactly = (b : List ℕ) → Bytes b → (j : Job) (n : ℕ) → (parse b ≡ took j n) ↔ (InLimits j × (n ≡ job-size (header-in j)) × (take n b ≡ encode j))
+OpensExactly = (d : Door) (b : List ℕ) → Bytes b → (j : Job) (n : ℕ) → (parse d b ≡ took j n) ↔ (InLimits j × Drains d j × (n ≡ job-size (header-in j)) × (take n b ≡ encode j))
+
+-- opening takes exactly the archive's jobs whose drains are all above 0, as the same job and as many bytes
+abbrev pub TwoDoors : Type 0
+TwoDoors = (b : List ℕ) (j : Job) (n : ℕ) → (parse opening b ≡ took j n) ↔ ((parse archive b ≡ took j n) × Drains opening j)
 
 -- a u16 at a place, the lower byte first
 abbrev pub u16-at : List ℕ → ℕ → ℕ
@@ -115,13 +124,25 @@ two-buckets-at b = header-with (record { size = u16-at b 22; drain = u16-at b 24
 
 -- the header that is due: kind 1 with nine u16, or kind 8 with twelve
 pub record HeaderOrder (b : List ℕ) : Type 0 where
-  pub head : HeadOrder header-parser (Due 1 18 b ⊎ Due 8 24 b) b
-  pub one : BodyOrder header-parser 1 18 3 one-bucket-at (λ h. AllKept (header-limits h)) b
-  pub two : BodyOrder header-parser 8 24 3 two-buckets-at (λ h. AllKept (header-limits h)) b
+  pub head : HeadOrder header-read (Due 1 18 b ⊎ Due 8 24 b) b
+  pub one : BodyOrder header-read 1 18 3 one-bucket-at (λ h. AllKept (header-limits h)) b
+  pub two : BodyOrder header-read 8 24 3 two-buckets-at (λ h. AllKept (header-limits h)) b
+
+-- some bucket of a header has a drain of 0
+abbrev pub Idle : Header → Type 0
+Idle h = (i : ℕ) × (i < length (h .buckets)) × (getD (h .buckets) i no-bucket .drain ≡ 0)
+
+-- then its drains: opening refuses a header with a drain of 0 by 17, whatever stands behind it, and the archive takes it
+pub record DrainOrder (b : List ℕ) : Type 0 where
+  pub record-first : (d : Door) (n : ℕ) → header-read b ≡ refused n → header-parser d b ≡ refused n
+  pub then-drains : (h : Header) (k : ℕ) → header-read b ≡ took h k → Idle h → header-parser opening b ≡ refused 17
+  pub else-opening : (h : Header) (k : ℕ) → header-read b ≡ took h k → (Idle h → ⊥) → header-parser opening b ≡ took h k
+  pub archive-takes : (h : Header) (k : ℕ) → header-read b ≡ took h k → header-parser archive b ≡ took h k
 
 -- the records of a job: its header, kind 2 with P u16, kind 3 with M entries of 6 bytes
 pub record RecordOrders (b : List ℕ) : Type 0 where
   pub header : HeaderOrder b
+  pub drains : DrainOrder b
   pub rates : (p : ℕ) → RecordOrder (record-due (rates-form p)) 2 (2 * p) 4 (λ l. fields (replicate p 2) (drop 4 l)) (λ rs. AllKept (rate-limits 0 rs)) b
   pub unit : (m : ℕ) → RecordOrder (unit-parser m) 3 (6 * m) 5 (λ l. codings (fields (entry-widths m) (drop 4 l))) (λ u. AllKept (coding-limits u)) b
 
@@ -131,17 +152,17 @@ pub data Units (m : ℕ) : List ℕ → List (List Coding) → ℕ → Type 0 wh
   one-more : {b : List ℕ} {u : List Coding} {k : ℕ} {us : List (List Coding)} {s : ℕ} → unit-parser m b ≡ took u k → Units m (drop k b) us s → Units m b (u ∷ us) (k + s)
 
 -- a record is looked at whole before the next: the header, then its P rates, then each of its N units
-pub record OpeningOrder (b : List ℕ) : Type 0 where
-  pub header-first : (n : ℕ) → header-parser b ≡ refused n → parse b ≡ refused n
+pub record OpeningOrder (d : Door) (b : List ℕ) : Type 0 where
+  pub header-first : (n : ℕ) → header-parser d b ≡ refused n → parse d b ≡ refused n
   -- the header takes k bytes
-  pub then-rates : (h : Header) (k n : ℕ) → header-parser b ≡ took h k → record-due (rates-form (h .rates)) (drop k b) ≡ refused n → parse b ≡ refused n
+  pub then-rates : (h : Header) (k n : ℕ) → header-parser d b ≡ took h k → record-due (rates-form (h .rates)) (drop k b) ≡ refused n → parse d b ≡ refused n
   -- and the rates take r, and fewer than N units before one that is refused take s
-  pub then-units : (h : Header) (k : ℕ) (rs : List ℕ) (r : ℕ) (us : List (List Coding)) (s n : ℕ) → header-parser b ≡ took h k → record-due (rates-form (h .rates)) (drop k b) ≡ took rs r → Units (h .choices) (drop r (drop k b)) us s → length us < h .units → unit-parser (h .choices) (drop s (drop r (drop k b))) ≡ refused n → parse b ≡ refused n
-  pub else-opens : (h : Header) (k : ℕ) (rs : List ℕ) (r : ℕ) (us : List (List Coding)) (s : ℕ) → header-parser b ≡ took h k → record-due (rates-form (h .rates)) (drop k b) ≡ took rs r → Units (h .choices) (drop r (drop k b)) us s → length us ≡ h .units → parse b ≡ took (job-of h rs us) (k + (r + s))
+  pub then-units : (h : Header) (k : ℕ) (rs : List ℕ) (r : ℕ) (us : List (List Coding)) (s n : ℕ) → header-parser d b ≡ took h k → record-due (rates-form (h .rates)) (drop k b) ≡ took rs r → Units (h .choices) (drop r (drop k b)) us s → length us < h .units → unit-parser (h .choices) (drop s (drop r (drop k b))) ≡ refused n → parse d b ≡ refused n
+  pub else-opens : (h : Header) (k : ℕ) (rs : List ℕ) (r : ℕ) (us : List (List Coding)) (s : ℕ) → header-parser d b ≡ took h k → record-due (rates-form (h .rates)) (drop k b) ≡ took rs r → Units (h .choices) (drop r (drop k b)) us s → length us ≡ h .units → parse d b ≡ took (job-of h rs us) (k + (r + s))
 
 -- demand 1, of opening
 abbrev pub Refusals : Type 0
-Refusals = (b : List ℕ) → RecordOrders b × OpeningOrder b
+Refusals = (d : Door) (b : List ℕ) → RecordOrders b × OpeningOrder d b
 
 -- a choice as a number: 65,535 stands for none, and every other number for itself
 pub record ChoiceNumbers (x : ℕ) : Type 0 where

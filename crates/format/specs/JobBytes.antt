@@ -1,4 +1,4 @@
--- A job as bytes: `parse` reads one, `encode` writes one, and `WellFormed` says which can be written (document 01, "The job's bytes"). What is claimed of them stands in `Claims`.
+-- A job as bytes: `parse` reads one, `encode` writes one, and `WellFormed` says which can be written (document 01, "The job's bytes"; document 02, E5 and E8). What is claimed of them stands in `Claims`.
 use Prim.Native.Nat.{ℕ, zero, suc, _-_, _≤_}
 use mathlib.Core.Path.{_≡_}
 use mathlib.Core.Bool.{Bool, true, false, _&&_}
@@ -101,6 +101,17 @@ header-limits h =
     ∷ limit 3 1 2 (length (h .buckets))
     ∷ bucket-limits largest-sizes (h .buckets)
 
+-- Which jobs a reader takes (document 02, E8): opening none that has a bucket which never drains, the archive these too.
+pub data Door : Type 0 where
+  opening : Door
+  archive : Door
+
+-- 17: a drain is 0, where the door asks for one that is not
+abbrev pub drain-limits : Door → List Policed → List Limit
+drain-limits archive ks = []
+drain-limits opening [] = []
+drain-limits opening (k ∷ ks) = limit 17 1 4095 (k .drain) ∷ drain-limits opening ks
+
 -- 4: a rate is at most 4,095, and at least `low`: 0 for the first, and one more than the rate before for each other
 abbrev pub rate-limit : ℕ → ℕ → Limit
 rate-limit low r = limit 4 low 4095 r
@@ -185,20 +196,29 @@ header-in j = record {
   choices = j .choices;
 }
 
--- a header record of either kind, a record of its P rates, N records of its M entries: the job, and how many bytes it took
-unfoldable pub header-parser : Parser Header
-header-parser = do
+-- a header record of either kind, then the drains that it tells, of which nothing more is read
+unfoldable pub header-read : Parser Header
+header-read = do
   r ← record-either (header-form 0) (header-form 1)
   done (header-of (r .values))
+
+unfoldable pub draining : Door → Header → Parser Header
+draining d h b = unless-refused (broken (drain-limits d (h .buckets))) (took h 0)
+
+unfoldable pub header-parser : Door → Parser Header
+header-parser d = do
+  h ← header-read
+  draining d h
 
 unfoldable pub unit-parser : ℕ → Parser (List Coding)
 unit-parser m = do
   vs ← record-due (unit-form m)
   done (codings vs)
 
-unfoldable pub parse : Parser Job
-parse = do
-  h ← header-parser
+-- the header, a record of its P rates, N records of its M entries: the job, and how many bytes it took
+unfoldable pub parse : Door → Parser Job
+parse d = do
+  h ← header-parser d
   rates ← record-due (rates-form (h .rates))
   units ← many (h .units) (unit-parser (h .choices))
   done (job-of h rates units)
@@ -207,18 +227,18 @@ parse = do
 abbrev pub no-header : Header
 no-header = record { units = 0; delay = 0; decoder = 0; level = 0; buckets = no-bucket ∷ []; rates = 0; choices = 0 }
 
--- the job that bytes hold; where they hold none, a job without units
+-- the job that bytes hold, drained or not; where they hold none, a job without units
 unfoldable pub job-or-none : Result Job → Job
 job-or-none (refused n) = job-of no-header [] []
 job-or-none (took j k) = j
 
 unfoldable pub job-in : List ℕ → Job
-job-in b = job-or-none (parse b)
+job-in b = job-or-none (parse archive b)
 
 -- the bytes hold a job, and it has this header
 pub record Opens (b : List ℕ) (h : Header) : Type 0 where
   pub taken : ℕ
-  pub parsed : parse b ≡ took (job-in b) taken
+  pub parsed : parse archive b ≡ took (job-in b) taken
   pub header-is : header-in (job-in b) ≡ h
 
 -- the records of a job, in their only order
@@ -246,7 +266,12 @@ pub record WellFormed (j : Job) : Type 0 where
   pub rates : AllKept (rate-limits 0 (j .line .rates))
   pub units : Each (UnitKept (j .choices)) (j .units)
 
+-- and whose buckets drain, where the door asks for it
+pub record Formed (d : Door) (j : Job) : Type 0 where
+  pub well-formed : WellFormed j
+  pub drains : AllKept (drain-limits d (header-in j .buckets))
+
 -- to unfold this is to unfold all that `parse` and `encode` compute through: for a worked example
 unfoldable pub computes : Unit {0}
-unfolding number bytes total fields spelled kept broken done further onward _>>=_ unless-refused with-value many all-bytes if_then_else_ zipWith block head-values head-limits record-due kind-in form-for record-either record-bytes bucket-values policed-by nine-values header-values header-of same-buckets same-header unit-values codings entry-widths bucket-widths header-widths header-kind header-form rates-form unit-form bucket-of job-of policed header-in header-parser unit-parser parse unit-bytes header-bytes encode
+unfolding number bytes total fields spelled kept broken done further onward _>>=_ unless-refused with-value many all-bytes if_then_else_ zipWith block head-values head-limits record-due kind-in form-for record-either record-bytes bucket-values policed-by nine-values header-values header-of same-buckets same-header unit-values codings entry-widths bucket-widths header-widths header-kind header-form rates-form unit-form bucket-of job-of policed header-in header-read draining header-parser unit-parser parse unit-bytes header-bytes encode
 computes = tt
