@@ -16,7 +16,7 @@ use Rattle.format.specs.Claims.{InLimits, Limited, Drains, OpensExactly,
 use Rattle.format.proofs.Header.{buckets-count}
 use Rattle.format.proofs.RoundTrip.{parse-encode, encode-parse, sized}
 use Rattle.format.proofs.Doors.{none-idle, all-drain}
-use Rattle.format.proofs.Places.{well-read, other-door}
+use Rattle.format.proofs.Places.{well-read, other-door, not-drained}
 
 module _ (low : ℕ) where
   rate-low : (rs : List ℕ) → AllKept (rate-limits low rs) → 0 < length rs → low ≤ getD rs 0 0
@@ -240,10 +240,13 @@ opens-exactly d b B j n = (
 )
 
 pub two-doors : TwoDoors
-two-doors b j n = (
-  λ e. (other-door opening archive b j n e tt, drains-told opening j (well-read opening b j n e)),
-  λ h. other-door archive opening b j n (h .0) (told-drains opening j (limited j (well-read archive b j n (h .0) .well-formed)) (h .1)),
-)
+two-doors b j n = record {
+  opening-iff = (
+    λ e. (other-door opening archive b j n e tt, drains-told opening j (well-read opening b j n e)),
+    λ h. other-door archive opening b j n (h .0) (told-drains opening j (limited j (well-read archive b j n (h .0) .well-formed)) (h .1)),
+  );
+  else-17 = λ e f. not-drained b j n e (λ a. f (drains-told opening j (record { well-formed = well-read archive b j n e .well-formed; drains = a })));
+}
 
 -- what opening reads, the archive reads
 pub archived : (d : Door) (b : List ℕ) (j : Job) (n : ℕ) → parse d b ≡ took j n → parse archive b ≡ took j n

@@ -25,7 +25,7 @@ pub draining-took : (d : Door) (h : Header) (b : List ℕ) → AllKept (drain-li
 unfolding draining unless-refused
 draining-took d h b k = rw (none-broken (drain-limits d (h .buckets)) k)
 
-draining-refused : (d : Door) (h : Header) (b : List ℕ) → (AllKept (drain-limits d (h .buckets)) → ⊥) → draining d h b ≡ refused 17
+pub draining-refused : (d : Door) (h : Header) (b : List ℕ) → (AllKept (drain-limits d (h .buckets)) → ⊥) → draining d h b ≡ refused 17
 unfolding draining unless-refused
 draining-refused d h b f = rw (broken-one 17 (drain-limits d (h .buckets)) (drains-number d (h .buckets)) f)
 

@@ -10,16 +10,16 @@ use lib.Seq.{drop-drop}
 use Rattle.base.specs.If.{if_then_else_}
 use Rattle.model.specs.Job.{Coding, Job, nothing, codingAt}
 use Rattle.format.specs.Fields.{number, total, fields}
-use Rattle.format.specs.Parser.{took, Parser, many, Each, no-more, one-more}
+use Rattle.format.specs.Parser.{refused, took, Parser, many, Each, no-more, one-more}
 use Rattle.format.specs.Records.{Form, record-due, kind-in, record-either}
 use Rattle.format.specs.Limits.{AllKept}
-use Rattle.format.specs.JobBytes.{Header, further-buckets, policed-by, header-of, codings, entry-widths, bucket-widths, header-widths, header-form, rates-form, unit-form, job-of, header-in, header-parser, unit-parser, parse, UnitKept, Door, drain-limits, header-limits, header-read}
-use Rattle.format.proofs.Doors.{header-by, by-header}
+use Rattle.format.specs.JobBytes.{Header, further-buckets, policed-by, header-of, codings, entry-widths, bucket-widths, header-widths, header-form, rates-form, unit-form, job-of, header-in, header-parser, unit-parser, parse, UnitKept, Door, opening, archive, drain-limits, header-limits, draining, header-read}
+use Rattle.format.proofs.Doors.{header-by, by-header, draining-refused}
 use Rattle.format.specs.Places.{field-at, header-size, rates-size, unit-size, rate-place, rate-at, coding-place, coding-at}
 use Rattle.format.specs.Claims.{WellRead, LooksUp}
 use Rattle.format.proofs.Fields.{nth-field}
 use Rattle.format.proofs.Records.{total-same, total-entries}
-use Rattle.format.proofs.Parsing.{bind-took, RecordTook, bound, record-is, fields-length, many-is, many-length, done-is}
+use Rattle.format.proofs.Parsing.{bind-refused, bind-later, bind-took, RecordTook, bound, record-is, fields-length, many-is, many-length, done-is}
 use Rattle.format.proofs.Header.{header-back}
 use Rattle.format.proofs.Either.{either-is}
 use Rattle.format.proofs.RoundTrip.{header-total, either-count, level-each}
@@ -301,3 +301,12 @@ other-door d e b j n q k =
     let h : x .value ≡ header-in j = header-of-parts d b j n (parse-is d b j n q) in
     bind-took (header-parser e) _ b (x .value) (x .size) j (x .more) (by-header e b (x .value) (x .size) (record { read = by .read; drains = rw h k })) (x .second)
     ∙ rw (← x .sizes)
+
+-- and where opening does not take the drains it refuses by 17
+pub not-drained : (b : List ℕ) (j : Job) (n : ℕ) → parse archive b ≡ took j n → (AllKept (drain-limits opening (header-in j .buckets)) → ⊥) → parse opening b ≡ refused 17
+unfolding parse parse-is header-parser
+not-drained b j n q f =
+    let x = bound (header-parser archive) _ b j n q in
+    let by = header-by archive b (x .value) (x .size) (x .first) in
+    let h : x .value ≡ header-in j = header-of-parts archive b j n (parse-is archive b j n q) in
+    bind-refused (header-parser opening) _ b 17 (bind-later header-read (draining opening) b (x .value) (x .size) 17 (by .read) (draining-refused opening (x .value) (drop (x .size) b) (λ a. f (rw h at a))))

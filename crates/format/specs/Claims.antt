@@ -76,9 +76,13 @@ Drains opening j = (i : ℕ) → i < length (j .line .buckets) → 1 ≤ bucketA
 abbrev pub OpensExactly : Type 0
 OpensExactly = (d : Door) (b : List ℕ) → Bytes b → (j : Job) (n : ℕ) → (parse d b ≡ took j n) ↔ (InLimits j × Drains d j × (n ≡ job-size (header-in j)) × (take n b ≡ encode j))
 
--- opening takes exactly the archive's jobs whose drains are all above 0, as the same job and as many bytes
+-- opening takes exactly the archive's jobs whose drains are all above 0, as the same job and as many bytes; the archive's other jobs it refuses by 17
+pub record DoorsClaim (b : List ℕ) (j : Job) (n : ℕ) : Type 0 where
+  pub opening-iff : (parse opening b ≡ took j n) ↔ ((parse archive b ≡ took j n) × Drains opening j)
+  pub else-17 : parse archive b ≡ took j n → (Drains opening j → ⊥) → parse opening b ≡ refused 17
+
 abbrev pub TwoDoors : Type 0
-TwoDoors = (b : List ℕ) (j : Job) (n : ℕ) → (parse opening b ≡ took j n) ↔ ((parse archive b ≡ took j n) × Drains opening j)
+TwoDoors = (b : List ℕ) (j : Job) (n : ℕ) → DoorsClaim b j n
 
 -- a u16 at a place, the lower byte first
 abbrev pub u16-at : List ℕ → ℕ → ℕ

@@ -17,7 +17,7 @@ use Rattle.model.specs.Pins.{PinTotals, totals-to}
 use Rattle.base.proofs.All.{all-each}
 use Rattle.model.proofs.PinTotals.{totals-agree}
 use Rattle.format.specs.Parser.{refused, took, on-read, Looks}
-use Rattle.format.specs.JobBytes.{Header, header-in, parse, same-header}
+use Rattle.format.specs.JobBytes.{Header, header-in, Door, parse, same-header}
 use Rattle.format.specs.Claims.{InLimits}
 use Rattle.format.proofs.Bounds.{limited}
 use Rattle.format.proofs.Parsing.{not-took}
@@ -56,38 +56,38 @@ module _ (codings : ℕ → ℕ → Coding) (h : Header) (s : PinSet) where
   unfolding fits if_then_else_
   fits-by-totals e f = rw (e, f)
 
-module _ (b : List ℕ) (j : Job) (k : ℕ) (parsed : parse b ≡ took j k) where
+module _ (d : Door) (b : List ℕ) (j : Job) (k : ℕ) (parsed : parse d b ≡ took j k) where
   pub limits : InLimits j
-  limits = limited j (well-read b j k parsed)
+  limits = limited j (well-read d b j k parsed .well-formed)
 
   -- a unit in place i, at a choice that it has, is coded in the job as in the bytes
   pub coding-agrees : (i x : ℕ) → i < length (j .units) → x < j .choices → codings-in b (header-in j) i x ≡ codingAt j i x
   unfolding codings-in
   coding-agrees i x l c =
       let e : suc i - 1 ≡ i = omega arith in
-      looks-up b j k parsed .coding (suc i) x (omega arith) (omega arith) c ∙ ap (λ (n : ℕ). codingAt j n x) e
+      looks-up d b j k parsed .coding (suc i) x (omega arith) (omega arith) c ∙ ap (λ (n : ℕ). codingAt j n x) e
 
-  pub checked-took : (s : PinSet) → fits (codingAt j) (header-in j) s ≡ true → checked b s ≡ took j k
+  pub checked-took : (s : PinSet) → fits (codingAt j) (header-in j) s ≡ true → checked d b s ≡ took j k
   unfolding checked accept if_then_else_
   checked-took s e = rw (parsed, e)
 
-  pub checked-six : (s : PinSet) → fits (codingAt j) (header-in j) s ≡ false → checked b s ≡ refused 6
+  pub checked-six : (s : PinSet) → fits (codingAt j) (header-in j) s ≡ false → checked d b s ≡ refused 6
   unfolding checked accept if_then_else_
   checked-six s e = rw (parsed, e)
 
   -- in the document's words
-  pub matched : (s : PinSet) → Matches j s → checked b s ≡ took j k
+  pub matched : (s : PinSet) → Matches j s → checked d b s ≡ took j k
   matched s m = checked-took s (checks j s (limits .units .1) .1 m)
 
-  pub unmatched : (s : PinSet) → (Matches j s → ⊥) → checked b s ≡ refused 6
+  pub unmatched : (s : PinSet) → (Matches j s → ⊥) → checked d b s ≡ refused 6
   unmatched s f = go (fits (codingAt j) (header-in j) s) refl
     where
-      go : (t : Bool) → fits (codingAt j) (header-in j) s ≡ t → checked b s ≡ refused 6
+      go : (t : Bool) → fits (codingAt j) (header-in j) s ≡ t → checked d b s ≡ refused 6
       go true e = absurd (f (checks j s (limits .units .1) .0 e))
       go false e = checked-six s e
 
   -- a set that passes matches
-  pub passes-matches : (s : PinSet) → checked b s ≡ took j k → Matches j s
+  pub passes-matches : (s : PinSet) → checked d b s ≡ took j k → Matches j s
   passes-matches s q = go (fits (codingAt j) (header-in j) s) refl
     where
       go : (t : Bool) → fits (codingAt j) (header-in j) s ≡ t → Matches j s
@@ -117,17 +117,17 @@ module _ (b : List ℕ) (j : Job) (k : ℕ) (parsed : parse b ≡ took j k) wher
         go true false e = refl
         go true true e = ap (same-totals (s .totals)) (totals-agree-in e)
 
-pub checked-refused : (b : List ℕ) (s : PinSet) (n : ℕ) → parse b ≡ refused n → checked b s ≡ refused n
+pub checked-refused : (d : Door) (b : List ℕ) (s : PinSet) (n : ℕ) → parse d b ≡ refused n → checked d b s ≡ refused n
 unfolding checked accept
-checked-refused b s n e = rw e
+checked-refused d b s n e = rw e
 
 -- a call that checks a set against its job first: 1 to 5, then 6, then its own tests
-pub looks-checked : {R : Type 0} (refuse : ℕ → R) (b : List ℕ) (s : PinSet) (tests : Job → List Test) (conditions : Job → List Condition) (work : Job → R) (Else : Job → R → Type 0) → ((j : Job) (k : ℕ) → parse b ≡ took j k → Matches j s → Decides (tests j) (conditions j) × (AllHold (conditions j) → Else j (work j))) → Looks (on-read refuse (checked b s) (λ j. guarded refuse (tests j) (work j))) refuse (parse b) (λ j. condition 6 (Matches j s) ∷ conditions j) (λ j. Else j (on-read refuse (checked b s) (λ j. guarded refuse (tests j) (work j))))
+pub looks-checked : {R : Type 0} (refuse : ℕ → R) (d : Door) (b : List ℕ) (s : PinSet) (tests : Job → List Test) (conditions : Job → List Condition) (work : Job → R) (Else : Job → R → Type 0) → ((j : Job) (k : ℕ) → parse d b ≡ took j k → Matches j s → Decides (tests j) (conditions j) × (AllHold (conditions j) → Else j (work j))) → Looks (on-read refuse (checked d b s) (λ j. guarded refuse (tests j) (work j))) refuse (parse d b) (λ j. condition 6 (Matches j s) ∷ conditions j) (λ j. Else j (on-read refuse (checked d b s) (λ j. guarded refuse (tests j) (work j))))
 unfolding on-read
-looks-checked refuse b s tests conditions work Else f = (
-  λ n e. rw (checked-refused b s n e),
+looks-checked refuse d b s tests conditions work Else f = (
+  λ n e. rw (checked-refused d b s n e),
   λ j k e. (
-    λ m. rw (unmatched b j k e s m),
-    λ m. let h = f j k e m in in-order refuse (h .0) (Else j) (work j) (on-read refuse (checked b s) (λ j. guarded refuse (tests j) (work j))) (rw (matched b j k e s m)) (h .1),
+    λ m. rw (unmatched d b j k e s m),
+    λ m. let h = f j k e m in in-order refuse (h .0) (Else j) (work j) (on-read refuse (checked d b s) (λ j. guarded refuse (tests j) (work j))) (rw (matched d b j k e s m)) (h .1),
   ),
 )

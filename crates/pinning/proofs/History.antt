@@ -18,7 +18,7 @@ use Rattle.model.specs.Job.{Job, codingAt}
 use Rattle.model.specs.Pins.{PinMap, no-pins, pinOf, Call, pin, lift, Noted, outside, note-pin, note-lift, note, pins-after, answers, with-line, pin-totals}
 use Rattle.model.proofs.PinTotals.{totals-same, totals-filled, totals-emptied, totals-none}
 use Rattle.format.specs.Parser.{took, on-read}
-use Rattle.format.specs.JobBytes.{header-in, parse}
+use Rattle.format.specs.JobBytes.{header-in, opening, archive, parse}
 use Rattle.format.specs.Claims.{InLimits}
 use Rattle.format.proofs.Places.{well-read}
 use Rattle.format.proofs.Bounds.{limited}
@@ -147,9 +147,9 @@ module _ (j : Job) (limits : InLimits j) where
         go false p = rw (guarded-past (refuse s) (test 7 true) (test 10 (not (eqb (pin-of s u) no-choice)) ∷ []) (take-in (called j s (lift u))) refl) (lift-follows u (place-below u p) (getD m (u - 1) none) refl)
 
 -- a set that holds a map is taken by the check, and its call is the one for the job
-module _ (b : List ℕ) (j : Job) (n : ℕ) (parsed : parse b ≡ took j n) (limits : InLimits j) where
-  holds-checked : (m : PinMap) (s : PinSet) → Holds j m s → checked b s ≡ took j n
-  holds-checked m s h = matched b j n parsed s (holds-matches j limits m s h)
+module _ (b : List ℕ) (j : Job) (n : ℕ) (parsed : parse opening b ≡ took j n) (limits : InLimits j) where
+  holds-checked : (m : PinMap) (s : PinSet) → Holds j m s → checked opening b s ≡ took j n
+  holds-checked m s h = matched opening b j n parsed s (holds-matches j limits m s h)
 
   holds-call : (m : PinMap) (s : PinSet) (k : Call) → Holds j m s → call b s k ≡ call-in j s k
   unfolding call on-read
@@ -179,7 +179,7 @@ module _ (b : List ℕ) (j : Job) (n : ℕ) (parsed : parse b ≡ took j n) (lim
     totals = sym (totals-none (codingAt j) (length (j .units)) (length (j .units)) (omega arith));
   }
 
-  history-claim : (calls : List Call) → HistoryClaim b j n calls (run b (open-call b .set) calls)
+  history-claim : (calls : List Call) → HistoryClaim b j n calls (run b (open-call opening b .set) calls)
   unfolding open-call opened
   history-claim calls = rw parsed (
       let r = run-follows (no-pins (length (j .units))) (fresh (header-in j)) calls fresh-holds in
@@ -193,4 +193,4 @@ module _ (b : List ℕ) (j : Job) (n : ℕ) (parsed : parse b ≡ took j n) (lim
       )
 
 pub history : History
-history b j n parsed = history-claim b j n parsed (limited j (well-read b j n parsed))
+history b j n parsed = history-claim b j n parsed (limited j (well-read opening b j n parsed .well-formed))

@@ -40,7 +40,7 @@ module _ (s : PinSet) where
 
 pub refusing : Refusing
 unfolding call
-refusing b s k = kept-read s k (checked b s)
+refusing b s k = kept-read s k (checked opening b s)
 
 -- each test says what is asked
 not-true : (t : Bool) → not t ≡ true → t ≡ false
@@ -55,5 +55,5 @@ pin-decides x = (λ e. eqb-false x no-choice (not-true _ e), λ h. rw (ne-eqb x 
 
 pub refusals : Refusals
 unfolding call call-in call-tests
-refusals b s (pin u x) = looks-checked (refuse s) b s (λ j. call-tests j s (pin u x)) _ (λ j. take-in (called j s (pin u x))) (λ j r. r ≡ take-in (called j s (pin u x))) (λ j k e m. (one-more refl (unit-decides j u) (one-more refl (ltb-true x (j .choices), lt-ltb x (j .choices)) (one-more refl (eqb-true (pin-of s u) no-choice, eq-eqb (pin-of s u) no-choice) no-more)), λ a. refl))
-refusals b s (lift u) = looks-checked (refuse s) b s (λ j. call-tests j s (lift u)) _ (λ j. take-in (called j s (lift u))) (λ j r. r ≡ take-in (called j s (lift u))) (λ j k e m. (one-more refl (unit-decides j u) (one-more refl (pin-decides (pin-of s u)) no-more), λ a. refl))
+refusals b s (pin u x) = looks-checked (refuse s) opening b s (λ j. call-tests j s (pin u x)) _ (λ j. take-in (called j s (pin u x))) (λ j r. r ≡ take-in (called j s (pin u x))) (λ j k e m. (one-more refl (unit-decides j u) (one-more refl (ltb-true x (j .choices), lt-ltb x (j .choices)) (one-more refl (eqb-true (pin-of s u) no-choice, eq-eqb (pin-of s u) no-choice) no-more)), λ a. refl))
+refusals b s (lift u) = looks-checked (refuse s) opening b s (λ j. call-tests j s (lift u)) _ (λ j. take-in (called j s (lift u))) (λ j r. r ≡ take-in (called j s (lift u))) (λ j k e m. (one-more refl (unit-decides j u) (one-more refl (pin-decides (pin-of s u)) no-more), λ a. refl))

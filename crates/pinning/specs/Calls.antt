@@ -11,7 +11,7 @@ use Rattle.model.specs.Job.{Coding, Job, codingAt}
 use Rattle.model.specs.Pins.{Call, pin, lift, outside}
 use Rattle.format.specs.Parser.{Result, on-read}
 use Rattle.format.specs.Parser as P
-use Rattle.format.specs.JobBytes.{no-header, header-in, parse}
+use Rattle.format.specs.JobBytes.{no-header, header-in, Door, opening, parse}
 use Rattle.format.specs.Choices.{no-choice}
 use Rattle.pinning.specs.PinSet.{PinSet, fresh}
 use Rattle.pinning.specs.Check.{checked}
@@ -25,8 +25,9 @@ unfoldable pub opened : Result Job → Opening
 opened (P.refused n) = record { answer = refused n; set = fresh no-header }
 opened (P.took j k) = record { answer = gives k; set = fresh (header-in j) }
 
-unfoldable pub open-call : List ℕ → Opening
-open-call b = opened (parse b)
+-- by either door
+unfoldable pub open-call : Door → List ℕ → Opening
+open-call d b = opened (parse d b)
 
 -- the number that refuses a call, or none, and the set that is handed back
 pub record Handed : Type 0 where
@@ -80,9 +81,9 @@ called j s (lift u) = without-pin s (u - 1) (codingAt j (u - 1) (pin-of s u))
 unfoldable pub call-in : Job → PinSet → Call → Handed
 call-in j s k = guarded (refuse s) (call-tests j s k) (take-in (called j s k))
 
--- a pin or a lift with the bytes of a job and a set: 1 to 5, then 6, then its own refusals
+-- a pin or a lift with the bytes of a job that opens and a set: 1 to 5 and 17, then 6, then its own refusals
 unfoldable pub call : List ℕ → PinSet → Call → Handed
-call b s k = on-read (refuse s) (checked b s) (λ j. call-in j s k)
+call b s k = on-read (refuse s) (checked opening b s) (λ j. call-in j s k)
 
 -- a list of calls with the bytes of one job, each given the set that the last handed back: their answers, and the last set
 pub record CallsMade : Type 0 where

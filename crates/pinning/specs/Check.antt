@@ -10,7 +10,7 @@ use Rattle.base.specs.If.{if_then_else_}
 use Rattle.base.specs.All.{all-below}
 use Rattle.model.specs.Job.{Coding, Job, codingAt}
 use Rattle.model.specs.Pins.{PinTotals, totals-to, pin-totals}
-use Rattle.format.specs.JobBytes.{Header, same-header, header-in, parse, job-in, Opens}
+use Rattle.format.specs.JobBytes.{Header, same-header, header-in, Door, parse, job-in, Opens}
 use Rattle.format.specs.Parser.{Result, refused, took}
 use Rattle.format.specs.Places.{coding-at}
 use Rattle.format.specs.Choices.{no-choice}
@@ -50,9 +50,9 @@ unfoldable pub accept : PinSet → Result Job → Result Job
 accept s (refused n) = refused n
 accept s (took j k) = if fits (codingAt j) (header-in j) s then took j k else refused 6
 
--- what every call that takes a job and a set tests first: the job, 1 to 5, then the set against it, 6
-unfoldable pub checked : List ℕ → PinSet → Result Job
-checked b s = accept s (parse b)
+-- what every call that takes a job and a set tests first: the job by its door, 1 to 5 and 17, then the set against it, 6
+unfoldable pub checked : Door → List ℕ → PinSet → Result Job
+checked d b s = accept s (parse d b)
 
 -- the bytes are those of a job with this header, and the set, of 512 pins, matches it
 pub record Ready (b : List ℕ) (h : Header) (s : PinSet) : Type 0 where
