@@ -83,7 +83,7 @@ pub fn candidate_at(job: &[u8], header: Header, choices: Choices, choice: Choice
     }
     let coding = header::coding_at(job, header, choices.unit, choice);
     Candidate {
-        free: interval::pin_holds(choices.pin, choice),
+        free: parts::pin_holds(choices.pin, choice),
         size: coding.size,
         distortion: coding.distortion,
     }

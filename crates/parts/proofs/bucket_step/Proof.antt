@@ -1,11 +1,11 @@
--- `interval::bucket_step` meets its contract.
-use Rattle.interval.proofs.Steps.{drained-same}
-use Rattle.interval.specs.Answers.{drained}
+-- `parts::bucket_step` meets its contract.
+use Rattle.parts.proofs.Parts.{drained-same}
+use Rattle.parts.specs.Answers.{drained}
 use Rattle.model.specs.Step.{bucket-step}
 use native.Mathlib.Omega.{arith}
 use borrow.Author.Needs.{needs}
-use Rattle.interval.proofs.bucket_step.Statement.{statement}
-use Rattle.interval.proofs.bucket_step.Tie as tie
+use Rattle.parts.proofs.bucket_step.Statement.{statement}
+use Rattle.parts.proofs.bucket_step.Tie as tie
 
 add-full : tie.Need-add-full
 add-full c = search needs

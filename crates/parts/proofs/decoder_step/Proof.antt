@@ -1,11 +1,11 @@
--- `interval::decoder_step` meets its contract.
+-- `parts::decoder_step` meets its contract.
 use mathlib.Core.Path.{sym}
 use native.Mathlib.Omega.{arith}
 use Rattle.model.proofs.Decoder.{decoder-steps}
-use Rattle.interval.specs.Answers.{violation, decoded}
+use Rattle.parts.specs.Answers.{violation, decoded}
 use borrow.Author.Needs.{needs}
-use Rattle.interval.proofs.decoder_step.Statement.{statement}
-use Rattle.interval.proofs.decoder_step.Tie as tie
+use Rattle.parts.proofs.decoder_step.Statement.{statement}
+use Rattle.parts.proofs.decoder_step.Tie as tie
 
 add-peak : tie.Need-add-peak
 add-peak c = search needs

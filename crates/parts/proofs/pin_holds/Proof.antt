@@ -1,7 +1,7 @@
--- `interval::pin_holds` meets its contract.
-use Rattle.interval.proofs.Steps.{no-pin-holds, pin-holds-by}
-use Rattle.interval.proofs.pin_holds.Statement.{statement}
-use Rattle.interval.proofs.pin_holds.Tie as tie
+-- `parts::pin_holds` meets its contract.
+use Rattle.parts.proofs.Parts.{no-pin-holds, pin-holds-by}
+use Rattle.parts.proofs.pin_holds.Statement.{statement}
+use Rattle.parts.proofs.pin_holds.Tie as tie
 
 returns : tie.Need-returns
 returns c = no-pin-holds _ _ (c .if1 .taken)
