@@ -15,7 +15,7 @@ use Rattle.format.proofs.Limits.{AllOf, none-broken, all-kept, broken-o
 use Rattle.format.proofs.Parsing.{not-took, bind-refused, bind-took, bind-later, bound}
 
 -- the drains of a door
-drains-number : (d : Door) (ks : List Policed) → AllOf 17 (drain-limits d ks)
+pub drains-number : (d : Door) (ks : List Policed) → AllOf 17 (drain-limits d ks)
 drains-number archive ks = tt
 drains-number opening [] = tt
 drains-number opening (k ∷ ks) = (refl, drains-number opening ks)
@@ -49,7 +49,7 @@ all-drain [] m f = tt
 all-drain (k ∷ ks) m f = ((f 0 (omega arith), m 0 (omega arith)), all-drain ks (λ i h. m (suc i) (omega arith)) (λ i h. f (suc i) (omega arith)))
 
 -- one that is 0, or none
-idle-or : (ks : List Policed) → ((i : ℕ) → i < length ks → getD ks i no-bucket .drain ≡ 0 → ⊥) → (i : ℕ) → i < length ks → 1 ≤ getD ks i no-bucket .drain
+pub idle-or : (ks : List Policed) → ((i : ℕ) → i < length ks → getD ks i no-bucket .drain ≡ 0 → ⊥) → (i : ℕ) → i < length ks → 1 ≤ getD ks i no-bucket .drain
 idle-or ks f i h = go (decLt 0 (getD ks i no-bucket .drain))
   where
     go : Dec (0 < getD ks i no-bucket .drain) → 1 ≤ getD ks i no-bucket .drain

@@ -48,7 +48,7 @@ module _ (b : List ℕ) where
       ∙ ap (header-from (λ at. u16-at b (4 + at))) (λ k. record { size = (t 18 (omega arith)) k; drain = d k; fill = l k } ∷ [])
 
 -- buckets within their limits have a drain of at most 4,095
-kept-drains : (ss : List ℕ) (ks : List Policed) → AllKept (bucket-limits ss ks) → length ks ≤ length ss → (i : ℕ) → i < length ks → getD ks i no-bucket .drain ≤ 4095
+pub kept-drains : (ss : List ℕ) (ks : List Policed) → AllKept (bucket-limits ss ks) → length ks ≤ length ss → (i : ℕ) → i < length ks → getD ks i no-bucket .drain ≤ 4095
 kept-drains [] ks a l i h = absurd (omega arith)
 kept-drains (s ∷ ss) [] a l i h = absurd (omega arith)
 kept-drains (s ∷ ss) (k ∷ ks) a l zero h = omega arith

@@ -146,6 +146,22 @@ module _ (j : Job) (limits : InLimits j) where
         go true p = rw (guarded-here (refuse s) (test 7 false) (test 10 (not (eqb (pin-of s u) no-choice)) ∷ []) (take-in (called j s (lift u))) refl) (refused-follows 7)
         go false p = rw (guarded-past (refuse s) (test 7 true) (test 10 (not (eqb (pin-of s u) no-choice)) ∷ []) (take-in (called j s (lift u))) refl) (lift-follows u (place-below u p) (getD m (u - 1) none) refl)
 
+-- a fresh set holds no pin
+module _ (j : Job) (limits : InLimits j) where
+  fresh-holds : Holds j (no-pins (length (j .units))) (fresh (header-in j))
+  unfolding fresh unpinned no-pins pin-totals
+  fresh-holds = record {
+    header = refl;
+    size = length-replicate 512 no-choice;
+    pins = lines-unpinned (length (j .units)) (limits .units .1);
+    choices = λ i x l e. absurd (Option·none-ne-some x (sym (getD-replicate {A = Option ℕ} (length (j .units)) i none none l) ∙ e));
+    past = λ i l k. getD-replicate 512 i no-choice 0 k;
+    totals = sym (totals-none (codingAt j) (length (j .units)) (length (j .units)) (omega arith));
+  }
+
+  pub fresh-matches : Matches j (fresh (header-in j))
+  fresh-matches = holds-matches j limits _ _ fresh-holds
+
 -- a set that holds a map is taken by the check, and its call is the one for the job
 module _ (b : List ℕ) (j : Job) (n : ℕ) (parsed : parse opening b ≡ took j n) (limits : InLimits j) where
   holds-checked : (m : PinMap) (s : PinSet) → Holds j m s → checked opening b s ≡ took j n
@@ -168,21 +184,10 @@ module _ (b : List ℕ) (j : Job) (n : ℕ) (parsed : parse opening b ≡ took j
       let r = run-follows (note (j .choices) m k .map) (call-in j s k .set) calls (f .holds) in
       rw (holds-call m s k h) (record { answered = rw (f .answered, r .answered); holds = r .holds })
 
-  fresh-holds : Holds j (no-pins (length (j .units))) (fresh (header-in j))
-  unfolding fresh unpinned no-pins pin-totals
-  fresh-holds = record {
-    header = refl;
-    size = length-replicate 512 no-choice;
-    pins = lines-unpinned (length (j .units)) (limits .units .1);
-    choices = λ i x l e. absurd (Option·none-ne-some x (sym (getD-replicate {A = Option ℕ} (length (j .units)) i none none l) ∙ e));
-    past = λ i l k. getD-replicate 512 i no-choice 0 k;
-    totals = sym (totals-none (codingAt j) (length (j .units)) (length (j .units)) (omega arith));
-  }
-
   history-claim : (calls : List Call) → HistoryClaim b j n calls (run b (open-call opening b .set) calls)
   unfolding open-call opened
   history-claim calls = rw parsed (
-      let r = run-follows (no-pins (length (j .units))) (fresh (header-in j)) calls fresh-holds in
+      let r = run-follows (no-pins (length (j .units))) (fresh (header-in j)) calls (fresh-holds j limits) in
       record {
         answered = r .answered;
         pins = r .holds .pins;

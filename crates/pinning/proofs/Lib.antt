@@ -4,5 +4,6 @@ pub mod Lines
 pub mod Checks
 pub mod Agree
 pub mod History
+pub mod Archive
 pub mod Refusals
 pub mod Loops

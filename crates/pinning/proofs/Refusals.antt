@@ -1,4 +1,5 @@
 -- A pin or a lift is refused in document 01's order, and then hands back the set as it came: `Refusals` and `Refusing`.
+use Rattle.format.specs.JobBytes.{opening}
 use Prim.Native.Nat.{ℕ, _≤_}
 use mathlib.Core.Path.{_≡_, refl}
 use mathlib.Core.Logic.{_↔_}

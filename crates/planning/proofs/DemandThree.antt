@@ -1,4 +1,5 @@
 -- Every list of calls with the planning after it: `DemandThree`.
+use Rattle.format.specs.JobBytes.{opening}
 use Prim.Native.Nat.{ℕ, _+_, _-_, _*_, _≤_}
 use mathlib.Core.Path.{_≡_, refl, _∙_}
 use mathlib.Core.Option.{Option, none, some}
@@ -99,7 +100,7 @@ pub demand-three : DemandThree
 unfolding plan-call on-read
 demand-three b j n parsed calls =
     let h = history b j n parsed calls in
-    let k = limited j (well-read b j n parsed) in
+    let k = limited j (well-read opening b j n parsed .well-formed) in
     record {
       history = h;
       planning = λ a o table entries room space.

@@ -18,7 +18,7 @@ use Rattle.model.specs.Pins.{PinMap}
 use Rattle.model.specs.Best.{Order, Open, least-total, Aim, total, even, open-for}
 use Rattle.model.specs.Table.{words}
 use Rattle.format.specs.Parser.{Result, refused, took, on-read}
-use Rattle.format.specs.JobBytes.{parse}
+use Rattle.format.specs.JobBytes.{parse, opening}
 use Rattle.model.proofs.Evenness.{aims}
 use Rattle.format.proofs.Bounds.{limited}
 use Rattle.format.proofs.Places.{well-read}
@@ -33,10 +33,10 @@ use Rattle.planning.proofs.DemandThree.{search-claim}
 pub plan-calls : PlanCalls
 unfolding plan-call plan-in plan-tests
 plan-calls b s a o table entries =
-    looks-checked (refuse table entries) b s (λ j. plan-tests j 0 (length table) (length entries)) (λ j. condition 11 (words j ≤ length table) ∷ condition 12 (entry-size * intervals j ≤ length entries) ∷ []) (λ j. search-in j (lines (length (j .units)) (s .pins)) a o 0 (j .start) table entries) (λ j r. PlanClaim j (lines (length (j .units)) (s .pins)) a o 0 (j .start) table entries r)
+    looks-checked (refuse table entries) opening b s (λ j. plan-tests j 0 (length table) (length entries)) (λ j. condition 11 (words j ≤ length table) ∷ condition 12 (entry-size * intervals j ≤ length entries) ∷ []) (λ j. search-in j (lines (length (j .units)) (s .pins)) a o 0 (j .start) table entries) (λ j r. PlanClaim j (lines (length (j .units)) (s .pins)) a o 0 (j .start) table entries r)
     (λ j k e m. (
       one-more refl (leb-true (words j) (length table), le-leb (words j) (length table)) (one-more refl (entries-decide j) no-more),
-      λ h. search-claim j (lines (length (j .units)) (s .pins)) a o 0 (j .start) (omega (arith, limited j (well-read b j k e) .choices)) (omega (arith, limited j (well-read b j k e) .rates)) (omega arith) table entries (h .0) (omega (arith, h .1)),
+      λ h. search-claim j (lines (length (j .units)) (s .pins)) a o 0 (j .start) (omega (arith, limited j (well-read opening b j k e .well-formed) .choices)) (omega (arith, limited j (well-read opening b j k e .well-formed) .rates)) (omega arith) table entries (h .0) (omega (arith, h .1)),
     ))
   where
     entries-decide : (j : Job) → (leb (entry-size * (intervals j - 0)) (length entries) ≡ true) ↔ (entry-size * intervals j ≤ length entries)
@@ -70,7 +70,7 @@ module _ (table entries : List ℕ) where
 
 pub keeps : Keeps
 unfolding plan-call
-keeps b s a o table entries = read-keeps table entries _ (checked b s) (λ j. in-keeps table entries j (lines (length (j .units)) (s .pins)) a o 0 (j .start))
+keeps b s a o table entries = read-keeps table entries _ (checked opening b s) (λ j. in-keeps table entries j (lines (length (j .units)) (s .pins)) a o 0 (j .start))
 
 -- a search gives 13 exactly where it finds nothing
 module _ (j : Job) (k : Open) (o : Order) (s : ℕ) (start : Levels) (table entries : List ℕ) where
@@ -104,4 +104,4 @@ module _ (o : Order) (table entries : List ℕ) where
 pub no-plan-alike : NoPlanAlike
 unfolding plan-call plan-in guarded
 no-plan-alike b s o table entries =
-    read-alike o table entries (checked b s) _ _ (λ j. unless-alike o table entries (refusal (plan-tests j 0 (length table) (length entries))) _ _ (search-alike o table entries j (lines (length (j .units)) (s .pins))))
+    read-alike o table entries (checked opening b s) _ _ (λ j. unless-alike o table entries (refusal (plan-tests j 0 (length table) (length entries))) _ _ (search-alike o table entries j (lines (length (j .units)) (s .pins))))

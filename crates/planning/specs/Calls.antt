@@ -1,4 +1,5 @@
 -- What planning answers, and what it leaves in the two lists that were lent (document 01, "The best plan" and "Where each refusal is checked"; document 02, E7).
+use Rattle.format.specs.JobBytes.{opening}
 use Prim.Native.Nat.{ℕ, _+_, _-_, _*_}
 use mathlib.Core.Option.{Option, none, some}
 use mathlib.Core.List.{List, [], _∷_}
@@ -54,4 +55,4 @@ plan-in j m a o s start table entries = guarded (refuse table entries) (plan-tes
 
 -- the job, 1 to 5, the set, 6, then the two lists: the whole job, from its starting levels
 unfoldable pub plan-call : List ℕ → PinSet → Aim → Order → List ℕ → List ℕ → Planned
-plan-call b s a o table entries = on-read (refuse table entries) (checked b s) (λ j. plan-in j (lines (length (j .units)) (s .pins)) a o 0 (j .start) table entries)
+plan-call b s a o table entries = on-read (refuse table entries) (checked opening b s) (λ j. plan-in j (lines (length (j .units)) (s .pins)) a o 0 (j .start) table entries)

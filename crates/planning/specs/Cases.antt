@@ -70,7 +70,9 @@ questions =
     ∷ asks-with (bytes-a8 3 4 0) [] 320 9
     ∷ asks-with (bytes-a8 1 2 0) [] 160 9
     ∷ asks-with (bytes-a8 1 2 0) [] 159 9
-    ∷ asks-with (bytes-a8 0 0 0) [] 80 9
+    ∷ asks-with (bytes-a8 0 1 0) [] 80 9
+    -- document 02, E8: a drain of 0, in the second bucket, before the table that is too short
+    ∷ asks-with (bytes-a8 0 0 0) [] 79 9
     -- document 02, E7: Job A, where even pictures are the same plan, and where there is none
     ∷ asks-for even bytes-a [] 80 9
     ∷ asks-for even bytes-a (pin 1 0 ∷ pin 2 0 ∷ []) 80 9
@@ -118,6 +120,7 @@ replies =
     ∷ says-two 50 6 6 0 0 (1 ∷ 255 ∷ 255 ∷ 1 ∷ 0 ∷ 0 ∷ 1 ∷ 1 ∷ 0 ∷ [])
     ∷ refuses 11 (replicate 9 7)
     ∷ refuses 13 (replicate 9 7)
+    ∷ refuses 17 (replicate 9 7)
     ∷ says 50 6 6 2 (0 ∷ 255 ∷ 255 ∷ 2 ∷ 0 ∷ 0 ∷ 1 ∷ 1 ∷ 0 ∷ [])
     ∷ refuses 13 (replicate 9 7)
     ∷ says 41 6 6 0 (1 ∷ 255 ∷ 255 ∷ 1 ∷ 0 ∷ 0 ∷ 1 ∷ 1 ∷ 0 ∷ [])

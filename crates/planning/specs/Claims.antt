@@ -16,7 +16,7 @@ use Rattle.model.specs.Best.{Order, unlimited, Aim, total, even}
 use Rattle.model.specs.Table.{bound, layerWords, words, IsTable}
 use Rattle.model.specs.Claims.{BestOf, kept-open}
 use Rattle.format.specs.Parser.{took, Looks}
-use Rattle.format.specs.JobBytes.{header-in, parse}
+use Rattle.format.specs.JobBytes.{header-in, parse, opening}
 use Rattle.pinning.specs.PinSet.{PinSet, lines}
 use Rattle.pinning.specs.Check.{Matches}
 use Rattle.pinning.specs.Calls.{Handed, open-call, call, run}
@@ -55,8 +55,8 @@ module _ (j : Job) (m : PinMap) (a : Aim) (o : Order) (s : ℕ) (start : Levels)
 
 -- demand 3 of one list of calls, refused ones included, from the set that opening answers: the set holds what the book of document 01 holds, and planning then, by either aim and in either order, is as claimed for the book's lines
 pub record Demand (b : List ℕ) (j : Job) (n : ℕ) (calls : List Call) : Type 0 where
-  pub history : HistoryClaim b j n calls (run b (open-call b .set) calls)
-  pub planning : (a : Aim) (o : Order) (table entries : List ℕ) → words j ≤ length table → 3 * intervals j ≤ length entries → PlanClaim j (pins-after (j .choices) (no-pins (length (j .units))) calls) a o 0 (j .start) table entries (plan-call b (run b (open-call b .set) calls .set) a o table entries)
+  pub history : HistoryClaim b j n calls (run b (open-call opening b .set) calls)
+  pub planning : (a : Aim) (o : Order) (table entries : List ℕ) → words j ≤ length table → 3 * intervals j ≤ length entries → PlanClaim j (pins-after (j .choices) (no-pins (length (j .units))) calls) a o 0 (j .start) table entries (plan-call b (run b (open-call opening b .set) calls .set) a o table entries)
 
 -- a refusal leaves both lists as they came, 13 the table aside
 pub record Keeping (table entries : List ℕ) (r : Planned) : Type 0 where
@@ -67,11 +67,11 @@ pub record Keeping (table entries : List ℕ) (r : Planned) : Type 0 where
 
 -- demand 3, whole: one claim about every list of calls with the planning after it
 abbrev pub DemandThree : Type 0
-DemandThree = (b : List ℕ) (j : Job) (n : ℕ) → parse b ≡ took j n → (calls : List Call) → Demand b j n calls
+DemandThree = (b : List ℕ) (j : Job) (n : ℕ) → parse opening b ≡ took j n → (calls : List Call) → Demand b j n calls
 
 -- demands 1 and 3, of planning with any set: the job, 1 to 5, then the set, the table and the list for the entries; where nothing of these refuses it, 13 or a best plan
 abbrev pub PlanCalls : Type 0
-PlanCalls = (b : List ℕ) (s : PinSet) (a : Aim) (o : Order) (table entries : List ℕ) → Looks (plan-call b s a o table entries) (refuse table entries) (parse b) (λ j. condition 6 (Matches j s) ∷ condition 11 (words j ≤ length table) ∷ condition 12 (3 * intervals j ≤ length entries) ∷ []) (λ j. PlanClaim j (lines (length (j .units)) (s .pins)) a o 0 (j .start) table entries (plan-call b s a o table entries))
+PlanCalls = (b : List ℕ) (s : PinSet) (a : Aim) (o : Order) (table entries : List ℕ) → Looks (plan-call b s a o table entries) (refuse table entries) (parse opening b) (λ j. condition 6 (Matches j s) ∷ condition 11 (words j ≤ length table) ∷ condition 12 (3 * intervals j ≤ length entries) ∷ []) (λ j. PlanClaim j (lines (length (j .units)) (s .pins)) a o 0 (j .start) table entries (plan-call b s a o table entries))
 
 abbrev pub Keeps : Type 0
 Keeps = (b : List ℕ) (s : PinSet) (a : Aim) (o : Order) (table entries : List ℕ) → Keeping table entries (plan-call b s a o table entries)

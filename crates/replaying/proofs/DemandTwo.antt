@@ -18,7 +18,7 @@ use Rattle.model.proofs.DemandTwo.{demand-two}
 use Rattle.model.proofs.Drains.{zip-length, drain-balance, unused-at, level-at}
 use Rattle.model.proofs.Walks.{fits-length}
 use Rattle.format.specs.Parser.{took}
-use Rattle.format.specs.JobBytes.{parse}
+use Rattle.format.specs.JobBytes.{parse, archive}
 use Rattle.format.proofs.Places.{well-read}
 use Rattle.format.proofs.Bounds.{limited}
 use Rattle.replaying.specs.Entries.{plan-of}
@@ -124,12 +124,12 @@ level-numbers j = record {
 }
 
 -- of a job that opens
-pub some-intervals : (b : List ℕ) (j : Job) (n : ℕ) → parse b ≡ took j n → 1 ≤ intervals j
+pub some-intervals : (b : List ℕ) (j : Job) (n : ℕ) → parse archive b ≡ took j n → 1 ≤ intervals j
 unfolding intervals
-some-intervals b j n e = omega (arith, limited j (well-read b j n e) .units)
+some-intervals b j n e = omega (arith, limited j (well-read archive b j n e .well-formed) .units)
 
-pub played-claim : (b : List ℕ) (j : Job) (n : ℕ) → parse b ≡ took j n → (m : PinMap) (entries levels : List ℕ) → InShape j entries → (1 + length (j .line .buckets)) * intervals j ≤ length levels → DemandTwo j m (plan-of j entries) levels (played j m entries levels)
+pub played-claim : (b : List ℕ) (j : Job) (n : ℕ) → parse archive b ≡ took j n → (m : PinMap) (entries levels : List ℕ) → InShape j entries → (1 + length (j .line .buckets)) * intervals j ≤ length levels → DemandTwo j m (plan-of j entries) levels (played j m entries levels)
 unfolding played
 played-claim b j n parsed m entries levels fit room =
-    let w = well-read b j n parsed in
+    let w = well-read archive b j n parsed .well-formed in
     demand-two-of j m (plan-of j entries) (w .fills) levels _ (some-intervals b j n parsed) (fit .fits) room (demand-two j m 0 (j .start) (plan-of j entries))

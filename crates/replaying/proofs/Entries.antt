@@ -17,7 +17,7 @@ use Rattle.model.specs.Levels.{no-entry, entryOf}
 use Rattle.base.proofs.Tests.{branch, both-true, true-both}
 use Rattle.base.proofs.All.{all-each, each-all}
 use Rattle.model.proofs.Walks.{fits-length}
-use Rattle.format.specs.JobBytes.{header-in}
+use Rattle.format.specs.JobBytes.{header-in, archive}
 use Rattle.format.specs.Choices.{no-choice, choice-width, choice-under, choice-of, choice-number}
 use Rattle.format.specs.Fields.{number, bytes, fields, spelled, Fit, no-more, one-more}
 use Rattle.format.proofs.Fields.{one-at, two-at}
@@ -187,4 +187,4 @@ module _ (j : Job) (few : j .choices ≤ no-choice) (rates : length (j .line .ra
   }
 
 pub plan-bytes : PlanBytes
-plan-bytes b j n e = let k = limited j (well-read b j n e) in shapes j (omega (arith, k .choices)) (omega (arith, k .rates))
+plan-bytes b j n e = let k = limited j (well-read archive b j n e .well-formed) in shapes j (omega (arith, k .choices)) (omega (arith, k .rates))

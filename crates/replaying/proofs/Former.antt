@@ -21,7 +21,7 @@ use Rattle.base.proofs.Refusals.{no-more, one-more}
 use Rattle.model.specs.Job.{Job, Entry, intervals, PlanFits}
 use Rattle.model.specs.Levels.{no-entry, entryOf}
 use Rattle.model.proofs.Walks.{fits-length}
-use Rattle.format.specs.JobBytes.{header-in, parse}
+use Rattle.format.specs.JobBytes.{header-in, parse, archive}
 use Rattle.format.specs.Parser.{took}
 use Rattle.format.proofs.Bounds.{limited}
 use Rattle.format.proofs.Parsing.{looks-read}
@@ -103,7 +103,7 @@ module _ (j : Job) (old : List ℕ) where
       same i k (no n) = entries-eq (a .rate i k ∙ sym (b .rate i k)) (a .unit i k n ∙ sym (b .unit i k n))
 
 -- turned, in a list that is long enough
-module _ (b : List ℕ) (j : Job) (n : ℕ) (e : parse b ≡ took j n) (old entries : List ℕ) (w : WasPlan j old) (room : 3 * intervals j ≤ length entries) where
+module _ (b : List ℕ) (j : Job) (n : ℕ) (e : parse archive b ≡ took j n) (old entries : List ℕ) (w : WasPlan j old) (room : 3 * intervals j ≤ length entries) where
   in-range : PlanFits j 0 (former-plan j old)
   unfolding former-plan former-entry former-shaped header-in intervals
   in-range = entries-fit-iff j former-mark (omega (arith, w .few)) (former-rate old) (former-choice old) .0 (both-true _ _ (both-true _ _ (was-plan j old .1 w) .1) .1)
@@ -131,7 +131,7 @@ module _ (b : List ℕ) (j : Job) (n : ℕ) (e : parse b ≡ took j n) (old entr
 pub turns : Turns
 unfolding turn-call turn-tests
 turns b old entries =
-    looks-read (refuse entries) (parse b) (λ j. turn-tests j old (length entries)) (λ j. condition 14 (WasPlan j old) ∷ condition 12 (3 * intervals j ≤ length entries) ∷ []) (λ j. turned j old entries) (λ j r. Turned j old entries r)
+    looks-read (refuse entries) (parse archive b) (λ j. turn-tests j old (length entries)) (λ j. condition 14 (WasPlan j old) ∷ condition 12 (3 * intervals j ≤ length entries) ∷ []) (λ j. turned j old entries) (λ j r. Turned j old entries r)
     (λ j k e. (one-more refl (was-plan j old) (one-more refl (leb-true (3 * intervals j) (length entries), le-leb (3 * intervals j) (length entries)) no-more), λ h. turned-claim b j k e old entries (h .0) (h .1 .0)))
 
 pub turned-replays : TurnedReplays

@@ -17,7 +17,7 @@ use Rattle.base.proofs.Lent.{over-length, over-here, over-rest, refuse-keeps, g
 use Rattle.model.specs.Job.{Job, intervals}
 use Rattle.model.specs.Levels.{effectiveBuffer, effectiveBuffers}
 use Rattle.format.specs.Parser.{Result, refused, took, on-read}
-use Rattle.format.specs.JobBytes.{header-in, parse}
+use Rattle.format.specs.JobBytes.{header-in, parse, archive}
 use Rattle.format.proofs.Parsing.{looks-read}
 use Rattle.pinning.specs.PinSet.{lines}
 use Rattle.pinning.specs.Check.{checked}
@@ -48,20 +48,20 @@ unfolding level-count
 levels-decide j levels = (λ q. omega (arith, leb-true (suc (length (j .line .buckets)) * intervals j) (length levels) q), λ q. le-leb (suc (length (j .line .buckets)) * intervals j) (length levels) (omega arith))
 
 -- what replay is tested for, of a job that opens
-pub replay-decides : (b : List ℕ) (j : Job) (k : ℕ) → parse b ≡ took j k → (entries levels : List ℕ) → Decides (replay-tests j entries (length levels)) (condition 14 (InShape j entries) ∷ condition 12 ((1 + length (j .line .buckets)) * intervals j ≤ length levels) ∷ [])
+pub replay-decides : (b : List ℕ) (j : Job) (k : ℕ) → parse archive b ≡ took j k → (entries levels : List ℕ) → Decides (replay-tests j entries (length levels)) (condition 14 (InShape j entries) ∷ condition 12 ((1 + length (j .line .buckets)) * intervals j ≤ length levels) ∷ [])
 unfolding replay-tests
 replay-decides b j k e entries levels = one-more refl (plan-bytes b j k e .shaped-iff entries) (one-more refl (levels-decide j levels) no-more)
 
 pub replay-calls : ReplayCalls
 unfolding replay-call
 replay-calls b s entries levels =
-    looks-checked (refuse levels) b s (λ j. replay-tests j entries (length levels)) (λ j. condition 14 (InShape j entries) ∷ condition 12 ((1 + length (j .line .buckets)) * intervals j ≤ length levels) ∷ []) (λ j. played j (lines (length (j .units)) (s .pins)) entries levels) (λ j r. DemandTwo j (lines (length (j .units)) (s .pins)) (plan-of j entries) levels r)
+    looks-checked (refuse levels) archive b s (λ j. replay-tests j entries (length levels)) (λ j. condition 14 (InShape j entries) ∷ condition 12 ((1 + length (j .line .buckets)) * intervals j ≤ length levels) ∷ []) (λ j. played j (lines (length (j .units)) (s .pins)) entries levels) (λ j r. DemandTwo j (lines (length (j .units)) (s .pins)) (plan-of j entries) levels r)
     (λ j k e m. (replay-decides b j k e entries levels, λ h. played-claim b j k e (lines (length (j .units)) (s .pins)) entries levels (h .0) (h .1 .0)))
 
 pub reports : Reports
 unfolding report-call report-tests
 reports b entries sums =
-    looks-read (refuse sums) (parse b) (λ j. report-tests j entries (length sums)) (λ j. condition 14 (InShape j entries) ∷ condition 12 (length (j .units) + 1 ≤ length sums) ∷ []) (λ j. reported j entries sums) (λ j r. Reported j (plan-of j entries) sums r)
+    looks-read (refuse sums) (parse archive b) (λ j. report-tests j entries (length sums)) (λ j. condition 14 (InShape j entries) ∷ condition 12 (length (j .units) + 1 ≤ length sums) ∷ []) (λ j. reported j entries sums) (λ j r. Reported j (plan-of j entries) sums r)
     (λ j k e. (one-more refl (plan-bytes b j k e .shaped-iff entries) (one-more refl (λ q. omega (arith, leb-true (suc (length (j .units))) (length sums) q), λ q. le-leb (suc (length (j .units))) (length sums) (omega arith)) no-more), λ h. reported-claim j entries sums (h .1 .0)))
 
 module _ {A : Type 0} (list : List ℕ) where
@@ -77,7 +77,7 @@ module _ {A : Type 0} (list : List ℕ) where
 pub keeps : Keeps
 unfolding replay-call report-call turn-call played reported turned
 keeps b s entries list = (
-  read-keeps list _ (checked b s) (λ j. guarded-keeps list _ _ (gives-keeps list _ _) (guarded-is (refuse list) (replay-tests j entries (length list)) (played j (lines (length (j .units)) (s .pins)) entries list))),
-  read-keeps list _ (parse b) (λ j. guarded-keeps list _ _ (gives-keeps list _ _) (guarded-is (refuse list) (report-tests j entries (length list)) (reported j entries list))),
-  read-keeps list _ (parse b) (λ j. guarded-keeps list _ _ (gives-keeps list _ _) (guarded-is (refuse list) (turn-tests j entries (length list)) (turned j entries list))),
+  read-keeps list _ (checked archive b s) (λ j. guarded-keeps list _ _ (gives-keeps list _ _) (guarded-is (refuse list) (replay-tests j entries (length list)) (played j (lines (length (j .units)) (s .pins)) entries list))),
+  read-keeps list _ (parse archive b) (λ j. guarded-keeps list _ _ (gives-keeps list _ _) (guarded-is (refuse list) (report-tests j entries (length list)) (reported j entries list))),
+  read-keeps list _ (parse archive b) (λ j. guarded-keeps list _ _ (gives-keeps list _ _) (guarded-is (refuse list) (turn-tests j entries (length list)) (turned j entries list))),
 )

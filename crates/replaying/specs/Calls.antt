@@ -12,7 +12,7 @@ use Rattle.model.specs.Pins.{PinMap}
 use Rattle.model.specs.Admissible.{Violation}
 use Rattle.model.specs.Replay.{Totals, totals, Result, clean, stopped, replay}
 use Rattle.format.specs.Parser.{on-read}
-use Rattle.format.specs.JobBytes.{header-in, parse}
+use Rattle.format.specs.JobBytes.{header-in, parse, archive}
 use Rattle.pinning.specs.PinSet.{PinSet, lines}
 use Rattle.pinning.specs.Check.{checked}
 use Rattle.replaying.specs.Entries.{plan-of, shaped}
@@ -48,7 +48,7 @@ replay-tests j entries levels = test 14 (shaped (header-in j) entries) ∷ test 
 
 -- the job, 1 to 5, the set, 6, then the plan and the list
 unfoldable pub replay-call : List ℕ → PinSet → List ℕ → List ℕ → Ended Replayed
-replay-call b s entries levels = on-read (refuse levels) (checked b s) (λ j. guarded (refuse levels) (replay-tests j entries (length levels)) (played j (lines (length (j .units)) (s .pins)) entries levels))
+replay-call b s entries levels = on-read (refuse levels) (checked archive b s) (λ j. guarded (refuse levels) (replay-tests j entries (length levels)) (played j (lines (length (j .units)) (s .pins)) entries levels))
 
 -- the report of a plan in shape
 unfoldable pub reported : Job → List ℕ → List ℕ → Ended (Unit {0})
@@ -59,4 +59,4 @@ report-tests j entries sums = test 14 (shaped (header-in j) entries) ∷ test 12
 
 -- the report takes no set: 1 to 5, then 14, then 12
 unfoldable pub report-call : List ℕ → List ℕ → List ℕ → Ended (Unit {0})
-report-call b entries sums = on-read (refuse sums) (parse b) (λ j. guarded (refuse sums) (report-tests j entries (length sums)) (reported j entries sums))
+report-call b entries sums = on-read (refuse sums) (parse archive b) (λ j. guarded (refuse sums) (report-tests j entries (length sums)) (reported j entries sums))

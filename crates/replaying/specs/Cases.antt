@@ -1,4 +1,5 @@
 -- Document 01's cases of Job A that are marked (m), those of pins, replay and report, and cases of Job A with another delay or a second bucket worked out by hand: what is asked, and what document 01 says, or by document 02, E2, E3 and E5, would.
+use Rattle.format.specs.JobBytes.{opening, archive}
 use Prim.Native.Nat.{ℕ}
 use mathlib.Core.Path.{_≡_}
 use mathlib.Core.Option.{Option, none, some}
@@ -32,10 +33,10 @@ pub data Reply : Type 0 where
   reported : Ended (Unit {0}) → Reply
 
 unfoldable pub set-after : List ℕ → List Call → PinSet
-set-after b ks = run b (open-call b .set) ks .set
+set-after b ks = run b (open-call archive b .set) ks .set
 
 unfoldable pub reply : Question → Reply
-reply (calls ks) = answered (run bytes-a (open-call bytes-a .set) ks .answers) (set-after bytes-a ks .totals)
+reply (calls ks) = answered (run bytes-a (open-call opening bytes-a .set) ks .answers) (set-after bytes-a ks .totals)
 reply (replays-with b room ks entries) = replayed (replay-call b (set-after b ks) entries (replicate room 7))
 reply (reports entries) = reported (report-call bytes-a entries (replicate 4 7))
 

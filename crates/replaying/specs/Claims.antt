@@ -15,7 +15,7 @@ use Rattle.model.specs.Pins.{PinMap}
 use Rattle.model.specs.Admissible.{Violation, Admissible, FirstViolation}
 use Rattle.model.specs.Replay.{Totals, totals, clean, replay}
 use Rattle.format.specs.Parser.{took, Looks}
-use Rattle.format.specs.JobBytes.{header-in, parse}
+use Rattle.format.specs.JobBytes.{header-in, parse, archive}
 use Rattle.pinning.specs.PinSet.{PinSet, lines}
 use Rattle.pinning.specs.Check.{Matches}
 use Rattle.replaying.specs.Entries.{plan-of, shaped, entry-bytes}
@@ -103,26 +103,26 @@ pub record Turned (j : Job) (old entries : List ℕ) (r : Ended (Unit {0})) : Ty
 -- The claims, of jobs that open.
 
 abbrev pub PlanBytes : Type 0
-PlanBytes = (b : List ℕ) (j : Job) (n : ℕ) → parse b ≡ took j n → Shapes j
+PlanBytes = (b : List ℕ) (j : Job) (n : ℕ) → parse archive b ≡ took j n → Shapes j
 
 abbrev pub LevelNumbers : Type 0
 LevelNumbers = (j : Job) → LevelsClaim j
 
 -- demands 1 and 2, of replay: the job, 1 to 5, then the set, the plan, and room for T numbers of the decoder and T of each bucket; where nothing refuses it, it is as demand 2 says
 abbrev pub ReplayCalls : Type 0
-ReplayCalls = (b : List ℕ) (s : PinSet) (entries levels : List ℕ) → Looks (replay-call b s entries levels) (refuse levels) (parse b) (λ j. condition 6 (Matches j s) ∷ condition 14 (InShape j entries) ∷ condition 12 ((1 + length (j .line .buckets)) * intervals j ≤ length levels) ∷ []) (λ j. DemandTwo j (lines (length (j .units)) (s .pins)) (plan-of j entries) levels (replay-call b s entries levels))
+ReplayCalls = (b : List ℕ) (s : PinSet) (entries levels : List ℕ) → Looks (replay-call b s entries levels) (refuse levels) (parse archive b) (λ j. condition 6 (Matches j s) ∷ condition 14 (InShape j entries) ∷ condition 12 ((1 + length (j .line .buckets)) * intervals j ≤ length levels) ∷ []) (λ j. DemandTwo j (lines (length (j .units)) (s .pins)) (plan-of j entries) levels (replay-call b s entries levels))
 
 -- demand 1, of the report, and what it writes
 abbrev pub Reports : Type 0
-Reports = (b entries sums : List ℕ) → Looks (report-call b entries sums) (refuse sums) (parse b) (λ j. condition 14 (InShape j entries) ∷ condition 12 (length (j .units) + 1 ≤ length sums) ∷ []) (λ j. Reported j (plan-of j entries) sums (report-call b entries sums))
+Reports = (b entries sums : List ℕ) → Looks (report-call b entries sums) (refuse sums) (parse archive b) (λ j. condition 14 (InShape j entries) ∷ condition 12 (length (j .units) + 1 ≤ length sums) ∷ []) (λ j. Reported j (plan-of j entries) sums (report-call b entries sums))
 
 -- demand 1, of turning an old plan, and what it writes
 abbrev pub Turns : Type 0
-Turns = (b old entries : List ℕ) → Looks (turn-call b old entries) (refuse entries) (parse b) (λ j. condition 14 (WasPlan j old) ∷ condition 12 (3 * intervals j ≤ length entries) ∷ []) (λ j. Turned j old entries (turn-call b old entries))
+Turns = (b old entries : List ℕ) → Looks (turn-call b old entries) (refuse entries) (parse archive b) (λ j. condition 14 (WasPlan j old) ∷ condition 12 (3 * intervals j ≤ length entries) ∷ []) (λ j. Turned j old entries (turn-call b old entries))
 
 -- with every set of pins the turned plan replays as the plan that the old bytes were: to its levels, its totals, its first violation
 abbrev pub TurnedReplays : Type 0
-TurnedReplays = (b old entries : List ℕ) (j : Job) (n : ℕ) → parse b ≡ took j n → WasPlan j old → 3 * intervals j ≤ length entries → (p : List Entry) → Was j old p → (s : PinSet) (levels : List ℕ) → Matches j s → (1 + length (j .line .buckets)) * intervals j ≤ length levels → DemandTwo j (lines (length (j .units)) (s .pins)) p levels (replay-call b s (take (3 * intervals j) (turn-call b old entries .list)) levels)
+TurnedReplays = (b old entries : List ℕ) (j : Job) (n : ℕ) → parse archive b ≡ took j n → WasPlan j old → 3 * intervals j ≤ length entries → (p : List Entry) → Was j old p → (s : PinSet) (levels : List ℕ) → Matches j s → (1 + length (j .line .buckets)) * intervals j ≤ length levels → DemandTwo j (lines (length (j .units)) (s .pins)) p levels (replay-call b s (take (3 * intervals j) (turn-call b old entries .list)) levels)
 
 -- a refusal leaves the list as it came
 abbrev pub Keeps : Type 0

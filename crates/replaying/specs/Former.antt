@@ -9,7 +9,7 @@ use Rattle.base.specs.Answer.{gives}
 use Rattle.base.specs.Lent.{Ended, over, refuse}
 use Rattle.base.specs.Refusals.{Test, test, guarded}
 use Rattle.model.specs.Job.{Job, Entry, intervals}
-use Rattle.format.specs.JobBytes.{Header, header-in, parse}
+use Rattle.format.specs.JobBytes.{Header, header-in, parse, archive}
 use Rattle.format.specs.Parser.{on-read}
 use Rattle.replaying.specs.Entries.{entry-size, entry-under, entries-from, entries-fit, entry-bytes}
 
@@ -54,4 +54,4 @@ turned j old entries = record { answer = gives tt; list = over (entry-bytes (for
 
 -- 1 to 5, then 14, then 12
 unfoldable pub turn-call : List ℕ → List ℕ → List ℕ → Ended (Unit {0})
-turn-call b old entries = on-read (refuse entries) (parse b) (λ j. guarded (refuse entries) (turn-tests j old (length entries)) (turned j old entries))
+turn-call b old entries = on-read (refuse entries) (parse archive b) (λ j. guarded (refuse entries) (turn-tests j old (length entries)) (turned j old entries))

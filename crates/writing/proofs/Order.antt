@@ -1,10 +1,10 @@
--- The limits of header, lengths, rates and codings, looked at in this order: which group decides.
+-- The limits of header, drains, lengths, rates and codings, looked at in this order: which group decides.
 use Prim.Native.Nat.{ℕ}
 use mathlib.Core.Path.{_≡_, _∙_}
 use mathlib.Core.Option.{some}
 use mathlib.Core.List.{List, _++_}
 use Rattle.format.specs.Limits.{Limit, broken, AllKept}
-use Rattle.format.specs.JobBytes.{Header, header-limits, rate-limits, coding-limits}
+use Rattle.format.specs.JobBytes.{Header, header-limits, opening, drain-limits, rate-limits, coding-limits}
 use Rattle.format.proofs.Limits.{all-kept-join, all-kept-part, broken-first, broken-later}
 use Rattle.writing.specs.Lists.{codings-from}
 use Rattle.writing.specs.Calls.{length-limits, write-limits}
@@ -12,6 +12,7 @@ use Rattle.writing.specs.Calls.{length-limits, write-limits}
 -- what keeps all limits, part by part
 pub record Accepted (h : Header) (rates sizes distortions : List ℕ) : Type 0 where
   pub header : AllKept (header-limits h)
+  pub drains : AllKept (drain-limits opening (h .buckets))
   pub lengths : AllKept (length-limits h rates sizes distortions)
   pub rates-kept : AllKept (rate-limits 0 rates)
   pub codings-kept : AllKept (coding-limits (codings-from sizes distortions))
@@ -21,23 +22,28 @@ module _ (h : Header) (rates sizes distortions : List ℕ) where
   abbrev later : List Limit
   later = rate-limits 0 rates ++ coding-limits (codings-from sizes distortions)
 
+  abbrev after-drains : List Limit
+  after-drains = length-limits h rates sizes distortions ++ later
+
   abbrev after-header : List Limit
-  after-header = length-limits h rates sizes distortions ++ later
+  after-header = drain-limits opening (h .buckets) ++ after-drains
 
   pub accepted : AllKept (write-limits h rates sizes distortions) → Accepted h rates sizes distortions
   unfolding write-limits
   accepted k =
       let a = all-kept-part (header-limits h) after-header k in
-      let b = all-kept-part (length-limits h rates sizes distortions) later (a .1) in
+      let d = all-kept-part (drain-limits opening (h .buckets)) after-drains (a .1) in
+      let b = all-kept-part (length-limits h rates sizes distortions) later (d .1) in
       let c = all-kept-part (rate-limits 0 rates) (coding-limits (codings-from sizes distortions)) (b .1) in
-      record { header = a .0; lengths = b .0; rates-kept = c .0; codings-kept = c .1 }
+      record { header = a .0; drains = d .0; lengths = b .0; rates-kept = c .0; codings-kept = c .1 }
 
   pub accepts : Accepted h rates sizes distortions → AllKept (write-limits h rates sizes distortions)
   unfolding write-limits
   accepts a =
       all-kept-join (header-limits h) after-header (a .header)
+      (all-kept-join (drain-limits opening (h .buckets)) after-drains (a .drains)
       (all-kept-join (length-limits h rates sizes distortions) later (a .lengths)
-      (all-kept-join (rate-limits 0 rates) (coding-limits (codings-from sizes distortions)) (a .rates-kept) (a .codings-kept)))
+      (all-kept-join (rate-limits 0 rates) (coding-limits (codings-from sizes distortions)) (a .rates-kept) (a .codings-kept))))
 
   -- the first group that is not kept decides
   module _ (n : ℕ) where
@@ -45,20 +51,26 @@ module _ (h : Header) (rates sizes distortions : List ℕ) where
     unfolding write-limits
     at-header e = broken-first (header-limits h) after-header n e
 
-    pub at-lengths : AllKept (header-limits h) → broken (length-limits h rates sizes distortions) ≡ some n → broken (write-limits h rates sizes distortions) ≡ some n
+    pub at-drains : AllKept (header-limits h) → broken (drain-limits opening (h .buckets)) ≡ some n → broken (write-limits h rates sizes distortions) ≡ some n
     unfolding write-limits
-    at-lengths a e = broken-later (header-limits h) after-header a ∙ broken-first (length-limits h rates sizes distortions) later n e
+    at-drains a e = broken-later (header-limits h) after-header a ∙ broken-first (drain-limits opening (h .buckets)) after-drains n e
 
-    pub at-rates : AllKept (header-limits h) → AllKept (length-limits h rates sizes distortions) → broken (rate-limits 0 rates) ≡ some n → broken (write-limits h rates sizes distortions) ≡ some n
+    pub at-lengths : AllKept (header-limits h) → AllKept (drain-limits opening (h .buckets)) → broken (length-limits h rates sizes distortions) ≡ some n → broken (write-limits h rates sizes distortions) ≡ some n
     unfolding write-limits
-    at-rates a b e =
+    at-lengths a d e = broken-later (header-limits h) after-header a ∙ broken-later (drain-limits opening (h .buckets)) after-drains d ∙ broken-first (length-limits h rates sizes distortions) later n e
+
+    pub at-rates : AllKept (header-limits h) → AllKept (drain-limits opening (h .buckets)) → AllKept (length-limits h rates sizes distortions) → broken (rate-limits 0 rates) ≡ some n → broken (write-limits h rates sizes distortions) ≡ some n
+    unfolding write-limits
+    at-rates a d b e =
         broken-later (header-limits h) after-header a
+        ∙ broken-later (drain-limits opening (h .buckets)) after-drains d
         ∙ broken-later (length-limits h rates sizes distortions) later b
         ∙ broken-first (rate-limits 0 rates) (coding-limits (codings-from sizes distortions)) n e
 
-  pub at-codings : AllKept (header-limits h) → AllKept (length-limits h rates sizes distortions) → AllKept (rate-limits 0 rates) → broken (write-limits h rates sizes distortions) ≡ broken (coding-limits (codings-from sizes distortions))
+  pub at-codings : AllKept (header-limits h) → AllKept (drain-limits opening (h .buckets)) → AllKept (length-limits h rates sizes distortions) → AllKept (rate-limits 0 rates) → broken (write-limits h rates sizes distortions) ≡ broken (coding-limits (codings-from sizes distortions))
   unfolding write-limits
-  at-codings a b c =
+  at-codings a d b c =
       broken-later (header-limits h) after-header a
+      ∙ broken-later (drain-limits opening (h .buckets)) after-drains d
       ∙ broken-later (length-limits h rates sizes distortions) later b
       ∙ broken-later (rate-limits 0 rates) (coding-limits (codings-from sizes distortions)) c

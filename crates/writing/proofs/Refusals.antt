@@ -13,15 +13,17 @@ use Rattle.base.proofs.Refusals.{first-none, unless-some, unless-none, unless-f
 use Rattle.base.specs.Lent.{Ended, over, refuse, Keeping}
 use Rattle.base.proofs.Lent.{refuse-keeps, gives-keeps}
 use Rattle.format.specs.Limits.{broken, AllKept}
-use Rattle.format.specs.JobBytes.{Header, header-limits, rate-limits, coding-limits, encode}
+use Rattle.format.specs.JobBytes.{Header, header-limits, rate-limits, coding-limits, encode, opening, drain-limits, largest-sizes}
 use Rattle.format.specs.Places.{job-size}
 use Rattle.format.proofs.Limits.{broken-one, none-broken, all-kept, all-kept-join}
-use Rattle.format.proofs.Opening.{header-number, rates-number, codings-number}
+use Rattle.format.specs.Claims.{Idle}
+use Rattle.format.proofs.Doors.{drains-number, none-idle, all-drain, idle-or}
+use Rattle.format.proofs.Opening.{kept-drains, header-number, rates-number, codings-number}
 use Rattle.format.proofs.RoundTrip.{sized}
 use Rattle.writing.specs.Lists.{codings-from, job-from}
 use Rattle.writing.specs.Calls.{length-limits, write-limits, room-tests, write-in, write-refusal, write-call}
 use Rattle.writing.specs.Claims.{Asks, Refusals}
-use Rattle.writing.proofs.Order.{accepted, at-header, at-lengths, at-rates, at-codings}
+use Rattle.writing.proofs.Order.{accepted, accepts, at-header, at-drains, at-lengths, at-rates, at-codings}
 use Rattle.writing.proofs.Writes.{header-given, well-given, taken}
 
 module _ (h : Header) (rates sizes distortions out : List ℕ) where
@@ -84,10 +86,16 @@ module _ (h : Header) (rates sizes distortions out : List ℕ) where
 pub done-first : (h : Header) (rates sizes distortions out : List ℕ) → write-refusal h rates sizes distortions (length out) ≡ none → write-call h rates sizes distortions out .answer ≡ gives (job-size h)
 done-first h rates sizes distortions out e = done h rates sizes distortions out (limits-kept h rates sizes distortions out e) (room-left h rates sizes distortions out e)
 
--- all limits from the four parts
-all-limits : (h : Header) (rates sizes distortions : List ℕ) → AllKept (header-limits h) → AllKept (length-limits h rates sizes distortions) → AllKept (rate-limits 0 rates) → AllKept (coding-limits (codings-from sizes distortions)) → AllKept (write-limits h rates sizes distortions)
-unfolding write-limits
-all-limits h rates sizes distortions a b c d = all-kept-join (header-limits h) (length-limits h rates sizes distortions ++ (rate-limits 0 rates ++ coding-limits (codings-from sizes distortions))) a (all-kept-join (length-limits h rates sizes distortions) (rate-limits 0 rates ++ coding-limits (codings-from sizes distortions)) b (all-kept-join (rate-limits 0 rates) (coding-limits (codings-from sizes distortions)) c d))
+-- 17 exactly for a header with a drain of 0
+idle-broken : (h : Header) → ((Idle h → ⊥) → ⊥) → broken (drain-limits opening (h .buckets)) ≡ some 17
+idle-broken h f = broken-one 17 (drain-limits opening (h .buckets)) (drains-number opening (h .buckets)) (λ k. f (λ i. let z = none-idle (h .buckets) k (i .0) (i .1) in omega (arith, i .2)))
+
+no-idle : (h : Header) → AllKept (header-limits h) → (Idle h → ⊥) → AllKept (drain-limits opening (h .buckets))
+no-idle h a f = all-drain (h .buckets) (kept-drains largest-sizes (h .buckets) (a .1 .1 .1 .1 .1 .1 .1) (omega arith)) (idle-or (h .buckets) (λ i l q. f (i, l, q)))
+
+-- all limits from the five parts
+all-limits : (h : Header) (rates sizes distortions : List ℕ) → AllKept (header-limits h) → AllKept (drain-limits opening (h .buckets)) → AllKept (length-limits h rates sizes distortions) → AllKept (rate-limits 0 rates) → AllKept (coding-limits (codings-from sizes distortions)) → AllKept (write-limits h rates sizes distortions)
+all-limits h rates sizes distortions a q b c d = accepts h rates sizes distortions (record { header = a; drains = q; lengths = b; rates-kept = c; codings-kept = d })
 
 -- the same order of the refusal that is found before writing
 pub refusal-order : (h : Header) (rates sizes distortions out : List ℕ) → InOrder (write-refusal h rates sizes distortions (length out)) some (Asks h rates sizes distortions out) (write-refusal h rates sizes distortions (length out) ≡ none)
@@ -95,14 +103,17 @@ unfolding write-refusal
 refusal-order h rates sizes distortions out = (
   λ f. first-is 3 (at-header h rates sizes distortions 3 (broken-one 3 (header-limits h) (header-number h) f)),
   λ a. (
-    λ f. first-is 16 (at-lengths h rates sizes distortions 16 a (broken-one 16 (length-limits h rates sizes distortions) (refl, (refl, (refl, tt))) f)),
-    λ b. (
-      λ f. first-is 4 (at-rates h rates sizes distortions 4 a b (broken-one 4 (rate-limits 0 rates) (rates-number 0 rates) f)),
-      λ c. (
-        λ f. first-is 5 (at-codings h rates sizes distortions a b c ∙ broken-one 5 (coding-limits (codings-from sizes distortions)) (codings-number (codings-from sizes distortions)) f),
-        λ d. (
-          λ f. kept (all-limits h rates sizes distortions a b c d) ∙ refusal-here _ [] (lt-leb (length (encode (job-from h rates sizes distortions))) (length out) (omega (arith, size-given h rates sizes distortions out (all-limits h rates sizes distortions a b c d)))),
-          λ l. kept (all-limits h rates sizes distortions a b c d) ∙ refusal-last _ (le-leb (length (encode (job-from h rates sizes distortions))) (length out) (omega (arith, size-given h rates sizes distortions out (all-limits h rates sizes distortions a b c d)))),
+    λ f. first-is 17 (at-drains h rates sizes distortions 17 a (idle-broken h f)),
+    λ idle. let q = no-idle h a idle in (
+      λ f. first-is 16 (at-lengths h rates sizes distortions 16 a q (broken-one 16 (length-limits h rates sizes distortions) (refl, (refl, (refl, tt))) f)),
+      λ b. (
+        λ f. first-is 4 (at-rates h rates sizes distortions 4 a q b (broken-one 4 (rate-limits 0 rates) (rates-number 0 rates) f)),
+        λ c. (
+          λ f. first-is 5 (at-codings h rates sizes distortions a q b c ∙ broken-one 5 (coding-limits (codings-from sizes distortions)) (codings-number (codings-from sizes distortions)) f),
+          λ d. (
+            λ f. kept (all-limits h rates sizes distortions a q b c d) ∙ refusal-here _ [] (lt-leb (length (encode (job-from h rates sizes distortions))) (length out) (omega (arith, size-given h rates sizes distortions out (all-limits h rates sizes distortions a q b c d)))),
+            λ l. kept (all-limits h rates sizes distortions a q b c d) ∙ refusal-last _ (le-leb (length (encode (job-from h rates sizes distortions))) (length out) (omega (arith, size-given h rates sizes distortions out (all-limits h rates sizes distortions a q b c d)))),
+          ),
         ),
       ),
     ),
@@ -120,14 +131,17 @@ refusals h rates sizes distortions out = (
   (
     λ f. refused-by h rates sizes distortions out 3 (at-header h rates sizes distortions 3 (broken-one 3 (header-limits h) (header-number h) f)),
     λ a. (
-      λ f. refused-by h rates sizes distortions out 16 (at-lengths h rates sizes distortions 16 a (broken-one 16 (length-limits h rates sizes distortions) (refl, (refl, (refl, tt))) f)),
-      λ b. (
-        λ f. refused-by h rates sizes distortions out 4 (at-rates h rates sizes distortions 4 a b (broken-one 4 (rate-limits 0 rates) (rates-number 0 rates) f)),
-        λ c. (
-          λ f. refused-by h rates sizes distortions out 5 (at-codings h rates sizes distortions a b c ∙ broken-one 5 (coding-limits (codings-from sizes distortions)) (codings-number (codings-from sizes distortions)) f),
-          λ d. (
-            λ f. too-short h rates sizes distortions out (all-limits h rates sizes distortions a b c d) (omega arith),
-            λ l. done h rates sizes distortions out (all-limits h rates sizes distortions a b c d) l,
+      λ f. refused-by h rates sizes distortions out 17 (at-drains h rates sizes distortions 17 a (idle-broken h f)),
+      λ idle. let q = no-idle h a idle in (
+        λ f. refused-by h rates sizes distortions out 16 (at-lengths h rates sizes distortions 16 a q (broken-one 16 (length-limits h rates sizes distortions) (refl, (refl, (refl, tt))) f)),
+        λ b. (
+          λ f. refused-by h rates sizes distortions out 4 (at-rates h rates sizes distortions 4 a q b (broken-one 4 (rate-limits 0 rates) (rates-number 0 rates) f)),
+          λ c. (
+            λ f. refused-by h rates sizes distortions out 5 (at-codings h rates sizes distortions a q b c ∙ broken-one 5 (coding-limits (codings-from sizes distortions)) (codings-number (codings-from sizes distortions)) f),
+            λ d. (
+              λ f. too-short h rates sizes distortions out (all-limits h rates sizes distortions a q b c d) (omega arith),
+              λ l. done h rates sizes distortions out (all-limits h rates sizes distortions a q b c d) l,
+            ),
           ),
         ),
       ),

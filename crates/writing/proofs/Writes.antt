@@ -18,7 +18,7 @@ use Rattle.base.proofs.Answers.{not-refused, gives-same}
 use Rattle.base.proofs.Lent.{over-length, over-rest}
 use Rattle.format.specs.Limits.{broken, AllKept}
 use Rattle.format.specs.Parser.{Each, no-more, one-more}
-use Rattle.format.specs.JobBytes.{Header, job-of, header-in, encode, UnitKept, WellFormed}
+use Rattle.format.specs.JobBytes.{Header, job-of, header-in, encode, UnitKept, WellFormed, opening, drain-limits, Formed}
 use Rattle.format.proofs.Limits.{all-kept, none-broken}
 use Rattle.format.proofs.Header.{header-back}
 use Rattle.format.proofs.RoundTrip.{level-each, job-back, parse-encode, encode-parse}
@@ -52,11 +52,14 @@ module _ (h : Header) (rates sizes distortions : List ℕ) where
       units = unfold job-from job-of in (parted-kept (h .units) (h .choices) cs counted (a .codings-kept));
     }
 
+    formed-given : Formed opening (job-from h rates sizes distortions)
+    formed-given = record { well-formed = well-given; drains = rw header-given (a .drains) }
+
     -- the bytes of the job over those of a list that is long enough
     over-written : (out : List ℕ) → length (encode (job-from h rates sizes distortions)) ≤ length out → (n : ℕ) → length (encode (job-from h rates sizes distortions)) ≡ n → Written h rates sizes distortions out n (over (encode (job-from h rates sizes distortions)) out)
     over-written out fits n e = record {
       job = job-from h rates sizes distortions;
-      opens = unfold over in (parse-encode (job-from h rates sizes distortions) well-given _ ∙ rw e);
+      opens = unfold over in (parse-encode opening (job-from h rates sizes distortions) formed-given _ ∙ rw e);
       header = header-given;
       rates-are = unfold job-from job-of in refl;
       sizes-are = unfold sizes-in in (ap (map (λ c. c .size)) joined-given ∙ sizes-back sizes distortions (omega (arith, a .lengths)));
@@ -111,14 +114,15 @@ module _ (j : Job) (w : WellFormed j) where
       ap (job-of (header-in j) (j .line .rates)) (ap (parted (header-in j .units) (header-in j .choices)) (codings-back (joined (j .units))) ∙ own-units)
       ∙ sym (job-back j w)
 
-  own-accepted : Accepted (header-in j) (j .line .rates) (sizes-in j) (distortions-in j)
+  own-accepted : AllKept (drain-limits opening (header-in j .buckets)) → Accepted (header-in j) (j .line .rates) (sizes-in j) (distortions-in j)
   unfolding sizes-in distortions-in header-in
-  own-accepted =
+  own-accepted q =
       let n = joined-length (j .choices) (j .units) (each-count (j .choices) (j .units) (w .units)) in
       let s = length-map (joined (j .units)) (λ (c : Coding). c .size) in
       let d = length-map (joined (j .units)) (λ (c : Coding). c .distortion) in
       record {
         header = w .header;
+        drains = q;
         lengths = omega arith;
         rates-kept = w .rates;
         codings-kept = rw codings-back (joined-kept (j .choices) (j .units) (w .units));
@@ -135,10 +139,10 @@ over-same j out l n e k = rw (k, e)
 
 pub rewrites : Rewrites
 rewrites b B j n e out room =
-    let r = encode-parse b B j n e in
-    let w = r .well-formed in
+    let r = encode-parse opening b B j n e in
+    let w = r .formed .well-formed in
     let k : length (encode j) ≡ n = ap length (sym (r .same)) ∙ length-take-le n b (r .size) in
-    taken (header-in j) (j .line .rates) (sizes-in j) (distortions-in j) out (accepts (header-in j) (j .line .rates) (sizes-in j) (distortions-in j) (own-accepted j w))
+    taken (header-in j) (j .line .rates) (sizes-in j) (distortions-in j) out (accepts (header-in j) (j .line .rates) (sizes-in j) (distortions-in j) (own-accepted j w (r .formed .drains)))
     ∙ ap (λ (i : Job). write-in i out) (own-job j w)
     ∙ room-for j out k room
     ∙ over-same j out (take n b) n (r .same) k

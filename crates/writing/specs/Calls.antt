@@ -9,7 +9,7 @@ use Rattle.base.specs.Refusals.{Test, test, refusal, unless, first, guarded}
 use Rattle.base.specs.Lent.{Ended, over, refuse}
 use Rattle.model.specs.Job.{Job}
 use Rattle.format.specs.Limits.{Limit, limit, broken}
-use Rattle.format.specs.JobBytes.{Header, header-limits, rate-limits, coding-limits, encode}
+use Rattle.format.specs.JobBytes.{Header, header-limits, opening, drain-limits, rate-limits, coding-limits, encode}
 use Rattle.writing.specs.Lists.{codings-from, job-from}
 
 module _ (h : Header) (rates sizes distortions : List ℕ) where
@@ -21,9 +21,9 @@ module _ (h : Header) (rates sizes distortions : List ℕ) where
       ∷ limit 16 (h .units * h .choices) (h .units * h .choices) (length distortions)
       ∷ []
 
-  -- all limits in the order in which they are looked at: 3 for the header, 16 for the lengths, 4 for the rates, 5 for sizes and distortions
+  -- all limits in the order in which they are looked at: 3 for the header, 17 for its drains, 16 for the lengths, 4 for the rates, 5 for sizes and distortions
   unfoldable pub write-limits : List Limit
-  write-limits = header-limits h ++ (length-limits ++ (rate-limits 0 rates ++ coding-limits (codings-from sizes distortions)))
+  write-limits = header-limits h ++ (drain-limits opening (h .buckets) ++ (length-limits ++ (rate-limits 0 rates ++ coding-limits (codings-from sizes distortions))))
 
 -- 12: so many bytes are enough for the job
 unfoldable pub room-tests : Job → ℕ → List Test

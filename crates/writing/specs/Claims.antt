@@ -10,7 +10,8 @@ use Rattle.model.specs.Job.{Job}
 use Rattle.format.specs.Fields.{Bytes}
 use Rattle.format.specs.Limits.{AllKept}
 use Rattle.format.specs.Parser.{took}
-use Rattle.format.specs.JobBytes.{Header, header-limits, rate-limits, coding-limits, header-in, parse}
+use Rattle.format.specs.JobBytes.{Header, header-limits, rate-limits, coding-limits, header-in, opening, parse}
+use Rattle.format.specs.Claims.{Idle}
 use Rattle.format.specs.Places.{job-size}
 use Rattle.writing.specs.Lists.{sizes-in, distortions-in, codings-from}
 use Rattle.writing.specs.Calls.{length-limits, write-call}
@@ -19,7 +20,7 @@ module _ (h : Header) (rates sizes distortions out : List ℕ) where
   -- what is written opens and holds the same header, rates and lists, and the bytes behind it are unchanged
   pub record Written (n : ℕ) (list : List ℕ) : Type 0 where
     pub job : Job
-    pub opens : parse list ≡ took job n
+    pub opens : parse opening list ≡ took job n
     pub header : header-in job ≡ h
     pub rates-are : job .line .rates ≡ rates
     pub sizes-are : sizes-in job ≡ sizes
@@ -31,6 +32,7 @@ module _ (h : Header) (rates sizes distortions out : List ℕ) where
   abbrev pub Asks : List Condition
   Asks =
       condition 3 (AllKept (header-limits h))
+      ∷ condition 17 (Idle h → ⊥)
       ∷ condition 16 (AllKept (length-limits h rates sizes distortions))
       ∷ condition 4 (AllKept (rate-limits 0 rates))
       ∷ condition 5 (AllKept (coding-limits (codings-from sizes distortions)))
@@ -42,7 +44,7 @@ Writes = (h : Header) (rates sizes distortions out : List ℕ) (n : ℕ) → wri
 
 -- every job that opens, written from its own header, rates and lists, is the bytes that it took
 abbrev pub Rewrites : Type 0
-Rewrites = (b : List ℕ) → Bytes b → (j : Job) (n : ℕ) → parse b ≡ took j n → (out : List ℕ) → n ≤ length out → write-call (header-in j) (j .line .rates) (sizes-in j) (distortions-in j) out ≡ record { answer = gives n; list = take n b ++ drop n out }
+Rewrites = (b : List ℕ) → Bytes b → (j : Job) (n : ℕ) → parse opening b ≡ took j n → (out : List ℕ) → n ≤ length out → write-call (header-in j) (j .line .rates) (sizes-in j) (distortions-in j) out ≡ record { answer = gives n; list = take n b ++ drop n out }
 
 -- the first that does not hold refuses, nothing else does, and a refusal leaves the bytes as they came
 abbrev pub Refusals : Type 0
