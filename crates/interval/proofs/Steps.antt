@@ -11,33 +11,16 @@ use Rattle.model.specs.Replay as replay
 use Rattle.format.specs.JobBytes.{Policed, bucket-of}
 use Rattle.interval.specs.declared.Totals.{Totals}
 use native.Mathlib.Omega.{arith}
-use lib.Dec.{eqb}
-use borrow.Author.Tests.{lt-ltb, le-ltb, eqb-true, eq-eqb, ne-eqb}
+use borrow.Author.Tests.{lt-ltb, le-ltb}
 use Rattle.base.specs.If.{if_then_else_, one-if}
 use Rattle.model.specs.Admissible.{Violation, bucket-overflow, pin-not-held, breaks, holds}
-use Rattle.model.specs.Step.{decoder-step, Drained, bucket-step, Outcome, violates, reaches, after-sending, overfull, same-choice, pin-held, or-overflow, after-decoder, outcome-of}
-use Rattle.format.specs.Choices.{no-choice, choice-of}
-use Rattle.format.proofs.Choices.{of-mark, of-choice}
+use Rattle.model.specs.Step.{decoder-step, Drained, bucket-step, Outcome, violates, reaches, after-sending, overfull, pin-held, or-overflow, after-decoder, outcome-of}
 use Rattle.interval.specs.declared.Buffers.{Buffers}
-use Rattle.interval.specs.declared.Drained as code
+use Rattle.parts.specs.declared.Drained as code
 use Rattle.interval.specs.declared.Levels.{Levels}
-use Rattle.interval.specs.Answers.{drained, levels-of, totals-of, second-of, line-of, SecondStep, both, not-both}
+use Rattle.parts.specs.Answers.{drained}
+use Rattle.interval.specs.Answers.{levels-of, totals-of, second-of, line-of, SecondStep, both, not-both}
 use Rattle.format.proofs.Limits.{not-true}
-
-pub no-pin-holds : (pin : ℕ) (o : Option ℕ) → pin ≡ no-choice → true ≡ pin-held (choice-of pin) o
-unfolding pin-held
-no-pin-holds pin o e = rw (e, of-mark)
-
-pub pin-holds-by : (pin choice : ℕ) → (pin ≡ no-choice → ⊥) → eqb choice pin ≡ pin-held (choice-of pin) (choice-of choice)
-unfolding pin-held same-choice
-pin-holds-by pin choice h = rw (of-choice pin h) (go (eqb choice no-choice) refl)
-  where
-    go : (t : Bool) → eqb choice no-choice ≡ t → eqb choice pin ≡ same-choice (choice-of choice) pin
-    go true e = let q = eqb-true choice no-choice e in rw (q, of-mark) (ne-eqb no-choice pin (λ z. h (sym z)))
-    go false e = rw (of-choice choice (λ z. let y : _≡_ {A = ℕ} 0 1 = cc (eq-eqb choice no-choice z) in omega arith))
-
-pub drained-same : {a a′ b b′ : ℕ} → a ≡ a′ → b ≡ b′ → _≡_ {A = Drained} (record { level = a; unused = b }) (record { level = a′; unused = b′ })
-drained-same p q = cc
 
 pub outcome-decoder : (k : Buffers) (before : Levels) (c : ℕ) (pinned choice : Option ℕ) (b t : ℕ) (v : Violation) → breaks v ≡ decoder-step (k .decoder) b c t → violates v ≡ outcome-of (line-of k []) pinned choice b (levels-of before .buckets) c t
 unfolding outcome-of line-of after-decoder

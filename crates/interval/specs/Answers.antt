@@ -6,36 +6,17 @@ use mathlib.Core.List.{List, [], _∷_, map, zipWith}
 use lib.ListN.{getD}
 use Rattle.base.specs.If.{one-if}
 use Rattle.model.specs.Job as model
-use Rattle.model.specs.Admissible as model-violation
 use Rattle.model.specs.Step as model-step
 use Rattle.model.specs.Replay as model-replay
 use Rattle.format.specs.JobBytes as format
 use Rattle.interval.specs.declared.Totals.{Totals}
-use Rattle.interval.specs.declared.Violation.{Violation}
-use Rattle.interval.specs.declared.Violation.the-variants as v
-use Rattle.interval.specs.declared.Decoded.{Decoded}
-use Rattle.interval.specs.declared.Decoded.the-variants as d
-use Rattle.interval.specs.declared.Drained.{Drained}
+use Rattle.parts.specs.declared.Drained.{Drained}
+use Rattle.parts.specs.Answers.{violation, drained}
 use Rattle.interval.specs.declared.Outcome.{Outcome}
 use Rattle.interval.specs.declared.Outcome.the-variants as o
 use Rattle.interval.specs.declared.Levels.{Levels}
 use Rattle.interval.specs.declared.Buffers.{Buffers}
 use Rattle.interval.specs.declared.Interval.{Interval}
-
--- the violations in the model's words, the buckets counted from 0
-unfoldable pub violation : Violation → model-violation.Violation
-violation v.DecoderOverflow = model-violation.decoder-overflow
-violation v.DecoderUnderflow = model-violation.decoder-underflow
-violation v.BucketOverflow = model-violation.bucket-overflow 0
-violation v.SecondOverflow = model-violation.bucket-overflow 1
-violation v.PinNotHeld = model-violation.pin-not-held
-
-unfoldable pub decoded : Decoded → model-violation.Decoded
-decoded (d.Level n) = model-violation.holds n
-decoded (d.Violated x) = model-violation.breaks (violation x)
-
-unfoldable pub drained : Drained → model-step.Drained
-drained x = record { level = x .level; unused = x .unused }
 
 unfoldable pub levels-of : Levels → model.Levels
 levels-of l = record { decoder = l .decoder; buckets = l .bucket ∷ one-if (l .two) (l .bucket2) }

@@ -4,12 +4,15 @@ ghost use mathlib.Core.Bool.{true};
 ghost use mathlib.Core.List.{[]};
 ghost use Prim.Native.Nat.{_+_, _<_};
 ghost use Rattle.base.specs.If.{if_then_else_};
-ghost use Rattle.model.specs.Step.{decoder-step, bucket-step, pin-held, outcome-of};
+ghost use Rattle.model.specs.Step.{outcome-of};
 ghost use Rattle.format.specs.Choices.{choice-of};
 ghost use Rattle.header.specs.Answers.{plain};
-ghost use Rattle.interval.specs.Answers.{decoded, drained, levels-of, start-of, outcome-is, line-of, totals-of, no-totals, added, OfHeader, SecondStep, Room};
+ghost use Rattle.interval.specs.Answers.{levels-of, start-of, outcome-is, line-of, totals-of, no-totals, added, OfHeader, SecondStep, Room};
 use header::Choice;
 use header::Header;
+use parts::Decoded;
+use parts::Drained;
+use parts::Violation;
 
 // Distortion, source size (the sum of R), channel size (the sum of C) and the drain that each bucket left unused: of two, where the line has a second bucket (document 02, E5).
 pub struct Totals {
@@ -19,15 +22,6 @@ pub struct Totals {
     pub unused: u32,
     pub two: bool,
     pub unused2: u32,
-}
-
-// The violations, document 01's breaches and document 02's of a second bucket, in the order in which they are tested.
-pub enum Violation {
-    DecoderOverflow,
-    DecoderUnderflow,
-    BucketOverflow,
-    SecondOverflow,
-    PinNotHeld,
 }
 
 // The levels at an interval's end: the decoder's, and one for each bucket.
@@ -46,18 +40,6 @@ pub struct Buffers {
     pub two: bool,
     pub bucket2: u16,
     pub drain2: u16,
-}
-
-// The decoder's part of an interval: its level at the end, or the limit that it violates.
-pub enum Decoded {
-    Level(u16),
-    Violated(Violation),
-}
-
-// The bucket's part of an interval: its level at the end, and what it could have drained besides.
-pub struct Drained {
-    pub level: u32,
-    pub unused: u32,
 }
 
 // What an interval leads to.
@@ -121,57 +103,12 @@ impl Buffers {
     }
 }
 
-// (16), and its limits: over by the peak, which stands before the unit leaves; then short.
-pub fn decoder_step(size: u16, level: u16, sent: u16, taken: u16) -> Decoded
-    ensures { λ r. ⌜ decoded r ≡ decoder-step size level sent taken ⌝ }
-{
-    let peak = level as u32 + sent as u32;
-    if (size as u32) < peak {
-        return Decoded::Violated(Violation::DecoderOverflow);
-    }
-    if peak < taken as u32 {
-        return Decoded::Violated(Violation::DecoderUnderflow);
-    }
-    Decoded::Level((peak - taken as u32) as u16)
-}
-
-// Example 1: the larger of level + sent - drain and 0. The larger of drain - level - sent and 0 goes unused.
-pub fn bucket_step(drain: u16, level: u16, sent: u16) -> Drained
-    ensures { λ r. ⌜ drained r ≡ bucket-step drain level sent ⌝ }
-{
-    // what it held, what came, and the most that leaves
-    let held = level as u32;
-    let came = sent as u32;
-    let most = drain as u32;
-    let full = held + came;
-    if full < most {
-        return Drained {
-            level: 0,
-            unused: most - full,
-        };
-    }
-    Drained {
-        level: full - most,
-        unused: 0,
-    }
-}
-
-// Whether there is no pin, or the choice is the pinned one.
-pub fn pin_holds(pin: Choice, choice: Choice) -> bool
-    ensures { λ r. ⌜ r ≡ pin-held (choice-of pin) (choice-of choice) ⌝ }
-{
-    if pin == header::NO_CHOICE {
-        return true;
-    }
-    choice == pin
-}
-
 // The second bucket's part; nothing where there is none.
 fn second_step(buffers: Buffers, before: Levels, sent: u16) -> Drained
     ensures { λ r. ⌜ SecondStep buffers before sent r ⌝ }
 {
     if buffers.two & before.two {
-        return bucket_step(buffers.drain2, before.bucket2, sent);
+        return parts::bucket_step(buffers.drain2, before.bucket2, sent);
     }
     Drained {
         level: 0,
@@ -183,10 +120,10 @@ fn second_step(buffers: Buffers, before: Levels, sent: u16) -> Drained
 pub fn step(buffers: Buffers, before: Levels, x: Interval) -> Outcome
     ensures { λ r. ⌜ outcome-is r ≡ outcome-of (line-of buffers []) (choice-of (x .pin)) (choice-of (x .choice)) (before .decoder) (levels-of before .buckets) (x .sent) (x .size) ⌝ }
 {
-    match decoder_step(buffers.decoder, before.decoder, x.sent, x.size) {
+    match parts::decoder_step(buffers.decoder, before.decoder, x.sent, x.size) {
         Decoded::Violated(v) => Outcome::Violates(v),
         Decoded::Level(decoder) => {
-            let bucket = bucket_step(buffers.drain, before.bucket, x.sent);
+            let bucket = parts::bucket_step(buffers.drain, before.bucket, x.sent);
             let other = second_step(buffers, before, x.sent);
             let level = bucket.level;
             let second = other.level;
@@ -196,7 +133,7 @@ pub fn step(buffers: Buffers, before: Levels, x: Interval) -> Outcome
             if (buffers.bucket2 as u32) < second {
                 return Outcome::Violates(Violation::SecondOverflow);
             }
-            if !pin_holds(x.pin, x.choice) {
+            if !parts::pin_holds(x.pin, x.choice) {
                 return Outcome::Violates(Violation::PinNotHeld);
             }
             Outcome::Reaches(Levels {
@@ -225,7 +162,7 @@ pub fn with_interval(sum: Totals, buffers: Buffers, before: Levels, x: Interval)
     requires { ⌜ Room sum x ⌝ }
     ensures { λ r. ⌜ totals-of r ≡ added (totals-of sum) (line-of buffers [] .buckets) (levels-of before .buckets) x ⌝ }
 {
-    let bucket = bucket_step(buffers.drain, before.bucket, x.sent);
+    let bucket = parts::bucket_step(buffers.drain, before.bucket, x.sent);
     let second = second_step(buffers, before, x.sent);
     let two = sum.two & (buffers.two & before.two);
     Totals {

@@ -7,8 +7,9 @@ use native.Mathlib.Omega.{arith}
 use lib.ListN.{length, replicate, length-replicate}
 use Rattle.base.specs.Lent.{Ended, over, put}
 use Rattle.interval.specs.declared.Totals.{Totals}
-use Rattle.interval.specs.declared.Violation.{Violation}
-use Rattle.interval.specs.Answers.{totals-of, violation}
+use Rattle.interval.specs.Answers.{totals-of}
+use Rattle.parts.specs.declared.Violation.{Violation}
+use Rattle.parts.specs.Answers.{violation}
 use Rattle.replaying.specs.Calls as replaying
 use Rattle.replay.specs.declared.Replayed.{Replayed}
 use Rattle.replay.specs.declared.Replayed.the-variants as replays

@@ -6,7 +6,8 @@ use lib.ListN.{length}
 use Rattle.base.specs.Answer.{Answer, refused, gives}
 use Rattle.base.specs.Lent.{Ended}
 use Rattle.format.specs.JobBytes as format
-use Rattle.interval.specs.Answers.{violation, totals-of}
+use Rattle.parts.specs.Answers.{violation}
+use Rattle.interval.specs.Answers.{totals-of}
 use Rattle.replaying.specs.Calls as calls
 use Rattle.course.specs.Answers.{Shaped}
 use Rattle.replay.specs.declared.Replayed.{Replayed}

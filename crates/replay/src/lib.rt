@@ -18,8 +18,8 @@ use interval::Buffers;
 use interval::Levels;
 use interval::Outcome;
 use interval::Totals;
-use interval::Violation;
 use job::Reading;
+use parts::Violation;
 use pinset::PinSet;
 
 // The totals of a plan without a violation; else the first interval with one, counted from 1, and its first violation; or the refusal's number.

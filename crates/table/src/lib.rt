@@ -105,7 +105,7 @@ pub fn candidate_at(job: &[u8], header: Header, choices: Choices, choice: Choice
         };
     }
     let coding = header::coding_at(job, header, choices.unit, choice);
-    let held = interval::pin_holds(choices.pin, choice);
+    let held = parts::pin_holds(choices.pin, choice);
     let limit = choices.limit;
     Candidate {
         free: held & keeps_to(limit, coding.distortion),

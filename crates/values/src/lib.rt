@@ -5,13 +5,13 @@ ghost use mathlib.Core.List.{[], _∷_};
 ghost use lib.ListN.{length, replicate};
 ghost use Rattle.base.specs.Lent.{over};
 ghost use Rattle.header.specs.Answers.{plain};
-ghost use Rattle.interval.specs.Answers.{violation};
+ghost use Rattle.parts.specs.Answers.{violation};
 ghost use Rattle.values.specs.Lists.{buckets-in, opened-values, totals-values, violation-number};
 use calls::PinTotals;
 use header::Header;
 use interval::Totals;
-use interval::Violation;
 use job::Reading;
+use parts::Violation;
 
 // What an exported call answers where it is not refused.
 pub const DONE: u32 = 0;

@@ -1,50 +1,23 @@
 -- What the writer answers and leaves, case by case, against the call's definition.
-use Prim.Native.Nat.{ℕ, _+_, _*_, _<_, _≤_}
+use Prim.Native.Nat.{ℕ, _+_, _*_, _≤_}
 use mathlib.Core.Path.{_≡_, sym, ap, _∙_}
 use mathlib.Core.Option.{none, some}
-use mathlib.Core.List.{List, []}
+use mathlib.Core.List.{List}
 use native.Mathlib.Omega.{arith}
 use lib.ListN.{length}
-use borrow.Author.Tests.{lt-leb, le-leb}
 use Rattle.base.specs.Answer.{refused, gives}
-use Rattle.base.specs.Refusals.{refusal}
 use Rattle.base.specs.Lent.{refuse, over}
-use Rattle.base.proofs.Refusals.{refusal-here, refusal-last, unless-some, unless-none}
-use Rattle.format.specs.Limits.{broken}
 use Rattle.format.specs.Parser.{all-bytes}
 use Rattle.format.specs.Records.{record-bytes}
 use Rattle.format.specs.JobBytes.{Header, rates-form, unit-bytes, header-bytes, encode}
 use Rattle.format.specs.Places.{header-size, job-size}
-use Rattle.format.proofs.Limits.{all-kept}
 use Rattle.writing.specs.Lists.{parted, codings-from, job-from}
-use Rattle.writing.specs.Calls.{write-limits, room-tests, write-refusal, write-call}
+use Rattle.writing.specs.Calls.{write-refusal, write-call}
 use Rattle.writing.proofs.Order.{Accepted, accepted}
 use Rattle.writing.proofs.Writes.{header-given, taken, room-for}
 use Rattle.writing.proofs.Refusals.{size-given, refused-first, limits-kept, room-left}
 use Rattle.fields.specs.Written.{put-at}
-use Rattle.writer.proofs.Records.{put-job}
-
--- the verdict before writing: the limits, then the room
-module _ (h : Header) (rates sizes distortions : List ℕ) (out : ℕ) where
-  pub limits-refuse : (n : ℕ) → some n ≡ broken (write-limits h rates sizes distortions) → some n ≡ write-refusal h rates sizes distortions out
-  unfolding write-refusal
-  limits-refuse n e = sym (unless-some some (broken (write-limits h rates sizes distortions)) n _ (sym e))
-
-  module _ (e : none ≡ broken (write-limits h rates sizes distortions)) where
-    room-decides : write-refusal h rates sizes distortions out ≡ refusal (room-tests (job-from h rates sizes distortions) out)
-    unfolding write-refusal
-    room-decides = unless-none some (broken (write-limits h rates sizes distortions)) _ (sym e)
-
-    size-is : length (encode (job-from h rates sizes distortions)) ≡ job-size h
-    size-is = size-given h rates sizes distortions [] (all-kept _ (sym e))
-
-    pub room-refuses : out < job-size h → some 12 ≡ write-refusal h rates sizes distortions out
-    unfolding room-tests
-    room-refuses l = sym (room-decides ∙ refusal-here _ _ (lt-leb (length (encode (job-from h rates sizes distortions))) out (omega (arith, size-is))))
-
-    pub all-fits : job-size h ≤ out → none ≡ write-refusal h rates sizes distortions out
-    unfolding room-tests
-    all-fits l = sym (room-decides ∙ refusal-last _ (le-leb (length (encode (job-from h rates sizes distortions))) out (omega (arith, size-is))))
+use Rattle.records.proofs.Records.{put-job}
 
 module _ (h : Header) (rates sizes distortions out : List ℕ) where
   pub write-refused : (n : ℕ) → some n ≡ write-refusal h rates sizes distortions (length out) → record { answer = refused n; list = out } ≡ write-call h rates sizes distortions out

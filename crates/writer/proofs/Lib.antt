@@ -1,4 +1,2 @@
 -- Laws that belong to no one function.
-pub mod Setting
-pub mod Records
 pub mod Answering

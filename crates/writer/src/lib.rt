@@ -1,21 +1,8 @@
 // Writing a job's bytes from its header and lists (document 02, E1). Everything is looked at before a byte is written.
-pub mod refusal;
-
 ghost use mathlib.Core.Path.{_≡_};
-ghost use mathlib.Core.List.{[], _∷_};
-ghost use Prim.Native.Nat.{_+_, _*_, _≤_};
-ghost use lib.ListN.{length, replicate};
-ghost use Rattle.format.specs.Fields.{bytes, spelled};
-ghost use Rattle.format.specs.Limits.{broken, AllKept};
-ghost use Rattle.format.specs.Parser.{all-bytes};
-ghost use Rattle.format.specs.Records.{record-bytes};
-ghost use Rattle.format.specs.JobBytes.{header-limits, rate-limits, coding-limits, nine-values, unit-values, entry-widths, rates-form, header-bytes, unit-bytes};
-ghost use Rattle.format.specs.Places.{header-size, rates-size, unit-size, job-size};
-ghost use Rattle.header.specs.Answers.{policed-of, plain, verdict};
-ghost use Rattle.writing.specs.Lists.{parted, codings-from};
-ghost use Rattle.writing.specs.Calls.{length-limits, write-limits, write-refusal, write-call};
+ghost use Rattle.header.specs.Answers.{plain};
+ghost use Rattle.writing.specs.Calls.{write-call};
 ghost use Rattle.writer.specs.Answers.{wrote};
-ghost use Rattle.fields.specs.Written.{put-at};
 use header::Header;
 use header::Verdict;
 
@@ -23,196 +10,6 @@ use header::Verdict;
 pub enum Wrote {
     Done(usize),
     Refused(u8),
-}
-
-// 16 where a list has not as many numbers as the header calls for.
-fn lengths_verdict(header: Header, rates: &[u16], sizes: &[u16], distortions: &[u32]) -> Verdict
-    ensures { λ r. ⌜ verdict r ≡ broken (length-limits (plain header) (now (rates .entry)) (now (sizes .entry)) (now (distortions .entry))) ⌝ }
-{
-    let count = header.units as usize * (header.choices as usize);
-    if rates.len() != header.rates as usize {
-        return Verdict::Refused(refusal::LENGTHS);
-    }
-    if sizes.len() != count {
-        return Verdict::Refused(refusal::LENGTHS);
-    }
-    if distortions.len() != count {
-        return Verdict::Refused(refusal::LENGTHS);
-    }
-    Verdict::Fits
-}
-
-// 4 where a rate is over its limit or does not rise.
-fn rates_verdict(rates: &[u16]) -> Verdict
-    ensures { λ r. ⌜ verdict r ≡ broken (rate-limits 0 (now (rates .entry))) ⌝ }
-{
-    let mut low = 0;
-    for i in 0..rates.len() {
-        let rate = rates[i];
-        if !header::rate_fits(low, rate) {
-            return Verdict::Refused(header::refusal::RATES);
-        }
-        low = rate + 1;
-    }
-    Verdict::Fits
-}
-
-// 5 where a size or a distortion is over its limit.
-fn codings_verdict(sizes: &[u16], distortions: &[u32]) -> Verdict
-    requires { ⌜ length (now sizes) ≡ length (now distortions) ⌝ }
-    ensures { λ r. ⌜ verdict r ≡ broken (coding-limits (codings-from (now (sizes .entry)) (now (distortions .entry)))) ⌝ }
-{
-    for x in 0..sizes.len() {
-        if !header::coding_fits(sizes[x], distortions[x]) {
-            return Verdict::Refused(header::refusal::CODINGS);
-        }
-    }
-    Verdict::Fits
-}
-
-// All limits in document 02's order: 3, 16, 4, 5.
-fn lists_verdict(header: Header, rates: &[u16], sizes: &[u16], distortions: &[u32]) -> Verdict
-    ensures { λ r. ⌜ verdict r ≡ broken (write-limits (plain header) (now (rates .entry)) (now (sizes .entry)) (now (distortions .entry))) ⌝ }
-{
-    if let Verdict::Refused(n) = header.verdict() {
-        return Verdict::Refused(n);
-    }
-    if let Verdict::Refused(n) = lengths_verdict(header, rates, sizes, distortions) {
-        return Verdict::Refused(n);
-    }
-    if let Verdict::Refused(n) = rates_verdict(rates) {
-        return Verdict::Refused(n);
-    }
-    codings_verdict(sizes, distortions)
-}
-
-// Numbers one after another, two bytes each.
-fn put_numbers(out: &mut [u8], at: usize, numbers: &[u16])
-    requires { ⌜ at + 2 * length (now numbers) ≤ length (now out) ⌝ }
-    ensures { λ _. ⌜ now (out .exit) ≡ put-at (now (out .entry)) at (spelled (replicate (length (now (numbers .entry))) 2) (now (numbers .entry))) ⌝ }
-{
-    let mut place = at;
-    for i in 0..numbers.len() {
-        fields::put16(out, place, numbers[i]);
-        place += 2;
-    }
-}
-
-// A unit's codings, each a size and a distortion.
-fn put_codings(out: &mut [u8], at: usize, sizes: &[u16], distortions: &[u32])
-    requires { ⌜ (length (now sizes) ≡ length (now distortions)) × (at + 6 * length (now sizes) ≤ length (now out)) ⌝ }
-    ensures { λ _. ⌜ now (out .exit) ≡ put-at (now (out .entry)) at (spelled (entry-widths (length (now (sizes .entry)))) (unit-values (codings-from (now (sizes .entry)) (now (distortions .entry))))) ⌝ }
-{
-    let mut place = at;
-    for x in 0..sizes.len() {
-        let next = place + 2;
-        fields::put16(out, place, sizes[x]);
-        fields::put32(out, next, distortions[x]);
-        place += 6;
-    }
-}
-
-// A unit's record.
-fn put_unit(out: &mut [u8], at: usize, sizes: &[u16], distortions: &[u32])
-    requires { ⌜ (length (now sizes) ≡ length (now distortions)) × (length (now sizes) ≤ 1000) × (at + unit-size (length (now sizes)) ≤ length (now out)) ⌝ }
-    ensures { λ _. ⌜ now (out .exit) ≡ put-at (now (out .entry)) at (unit-bytes (length (now (sizes .entry))) (codings-from (now (sizes .entry)) (now (distortions .entry)))) ⌝ }
-{
-    let head = [2 + 6 * (sizes.len() as u16), Header::UNIT_KIND];
-    let body = at + Header::HEAD;
-    put_numbers(out, at, &head);
-    put_codings(out, body, sizes, distortions);
-}
-
-// The records of all units, so many codings each.
-fn put_units(out: &mut [u8], at: usize, header: Header, sizes: &[u16], distortions: &[u32])
-    requires { ⌜ AllKept (header-limits (plain header)) × (length (now sizes) ≡ header .units * header .choices) × (length (now distortions) ≡ header .units * header .choices) × (at + header .units * unit-size (header .choices) ≤ length (now out)) ⌝ }
-    ensures { λ _. ⌜ now (out .exit) ≡ put-at (now (out .entry)) at (all-bytes (unit-bytes (header .choices)) (parted (header .units) (header .choices) (codings-from (now (sizes .entry)) (now (distortions .entry))))) ⌝ }
-{
-    let choices = header.choices as usize;
-    let size = Header::HEAD + 6 * choices;
-    let mut from = 0;
-    let mut place = at;
-    for _ in 0..header.units {
-        let to = from + choices;
-        put_unit(out, place, &sizes[from..to], &distortions[from..to]);
-        from = to;
-        place += size;
-    }
-}
-
-// The head of a header's record, and the nine fields that either kind has.
-fn put_nine(out: &mut [u8], len: u16, kind: u16, header: Header)
-    requires { ⌜ 22 ≤ length (now out) ⌝ }
-    ensures { λ _. ⌜ now (out .exit) ≡ put-at (now (out .entry)) 0 (spelled (replicate 11 2) (len ∷ kind ∷ nine-values (plain header) (policed-of (header .first)) [])) ⌝ }
-{
-    let nine = [
-        len,
-        kind,
-        header.units,
-        header.delay,
-        header.decoder,
-        header.first.size,
-        header.first.drain,
-        header.level,
-        header.first.fill,
-        header.rates,
-        header.choices,
-    ];
-    put_numbers(out, 0, &nine);
-}
-
-// The header's record: of kind 1, or with two buckets of kind 8, where the second's fields stand behind the nine (document 02, E5).
-fn put_header(out: &mut [u8], header: Header)
-    requires { ⌜ header-size (plain header) ≤ length (now out) ⌝ }
-    ensures { λ _. ⌜ now (out .exit) ≡ put-at (now (out .entry)) 0 (header-bytes (plain header)) ⌝ }
-{
-    if !header.two {
-        put_nine(out, Header::LENGTH, Header::KIND, header);
-        return;
-    }
-    let second = [header.second.size, header.second.drain, header.second.fill];
-    put_nine(out, Header::TWO_LENGTH, Header::TWO_KIND, header);
-    put_numbers(out, Header::SIZE, &second);
-}
-
-// The rates' record.
-fn put_rates(out: &mut [u8], at: usize, rates: &[u16])
-    requires { ⌜ (length (now rates) ≤ 1000) × (at + rates-size (length (now rates)) ≤ length (now out)) ⌝ }
-    ensures { λ _. ⌜ now (out .exit) ≡ put-at (now (out .entry)) at (record-bytes (rates-form (length (now (rates .entry)))) (now (rates .entry))) ⌝ }
-{
-    let head = [2 + 2 * (rates.len() as u16), Header::RATES_KIND];
-    let body = at + Header::HEAD;
-    put_numbers(out, at, &head);
-    put_numbers(out, body, rates);
-}
-
-// How many bytes a job with this header takes.
-pub fn job_size(header: Header) -> usize
-    ensures { λ r. ⌜ r ≡ job-size (plain header) ⌝ }
-{
-    let front = header.record_size();
-    let unit = Header::HEAD + 6 * (header.choices as usize);
-    let units = header.units as usize * unit;
-    front + Header::HEAD + 2 * (header.rates as usize) + units
-}
-
-// What refuses a job to be written to so many bytes: 3, 16, 4 and 5, then 12.
-pub fn write_refusal(
-    header: Header,
-    rates: &[u16],
-    sizes: &[u16],
-    distortions: &[u32],
-    out: usize,
-) -> Verdict
-    ensures { λ r. ⌜ verdict r ≡ write-refusal (plain header) (now (rates .entry)) (now (sizes .entry)) (now (distortions .entry)) out ⌝ }
-{
-    if let Verdict::Refused(n) = lists_verdict(header, rates, sizes, distortions) {
-        return Verdict::Refused(n);
-    }
-    if out < job_size(header) {
-        return Verdict::Refused(header::refusal::LIST);
-    }
-    Verdict::Fits
 }
 
 // Writes the job of a header, its rates, and sizes and distortions by unit and choice, unit after unit. Bytes behind the job stay as they are.
@@ -225,14 +22,20 @@ pub fn write_job(
 ) -> Wrote
     ensures { λ r. ⌜ wrote r (now (out .exit)) ≡ write-call (plain header) (now (rates .entry)) (now (sizes .entry)) (now (distortions .entry)) (now (out .entry)) ⌝ }
 {
-    if let Verdict::Refused(n) = write_refusal(header, rates, sizes, distortions, out.len()) {
+    if let Verdict::Refused(n) = draft::write_refusal(
+        header,
+        rates,
+        sizes,
+        distortions,
+        out.len(),
+    ) {
         return Wrote::Refused(n);
     }
-    let size = job_size(header);
+    let size = draft::job_size(header);
     let front = header.record_size();
     let units = front + Header::HEAD + 2 * rates.len();
-    put_header(out, header);
-    put_rates(out, front, rates);
-    put_units(out, units, header, sizes, distortions);
+    records::put_header(out, header);
+    records::put_rates(out, front, rates);
+    records::put_units(out, units, header, sizes, distortions);
     Wrote::Done(size)
 }

@@ -92,7 +92,7 @@ pub fn write(
     }
     let two = fields.len() == TWO_FIELDS;
     let header = header_of(fields, two);
-    if let Verdict::Refused(n) = writer::write_refusal(
+    if let Verdict::Refused(n) = draft::write_refusal(
         header,
         rates,
         sizes,

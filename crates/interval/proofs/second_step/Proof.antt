@@ -1,6 +1,7 @@
 -- `interval::second_step` meets its contract: the second bucket's step, where line and levels have one.
 use mathlib.Core.Path.{refl}
-use Rattle.interval.specs.Answers.{drained, both, not-both}
+use Rattle.parts.specs.Answers.{drained}
+use Rattle.interval.specs.Answers.{both, not-both}
 use Rattle.interval.proofs.Steps.{true-both}
 use borrow.Author.Needs.{needs}
 use Rattle.interval.proofs.second_step.Statement.{statement}

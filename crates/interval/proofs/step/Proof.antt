@@ -2,7 +2,8 @@
 use mathlib.Core.Path.{sym, _∙_, ap}
 use borrow.Author.Tests.{not-true, not-false}
 use Rattle.model.specs.Step.{Drained}
-use Rattle.interval.specs.Answers.{violation, decoded, drained, levels-of, outcome-is}
+use Rattle.parts.specs.Answers.{violation, decoded, drained}
+use Rattle.interval.specs.Answers.{levels-of, outcome-is}
 use Rattle.interval.proofs.Steps.{outcome-decoder, outcome-bucket, outcome-second, outcome-pin, outcome-reaches}
 use borrow.Author.Needs.{needs}
 use Rattle.interval.proofs.step.Statement.{statement}

@@ -9,7 +9,8 @@ use Rattle.model.specs.Step.{Drained, bucket-step}
 use Rattle.model.proofs.Sums.{totals-same}
 use mathlib.Core.Path.{refl, ap₂}
 use mathlib.Core.List.{_∷_, zipWith}
-use Rattle.interval.specs.Answers.{totals-of, added, drained, line-of, levels-of}
+use Rattle.parts.specs.Answers.{drained}
+use Rattle.interval.specs.Answers.{totals-of, added, line-of, levels-of}
 use Rattle.interval.proofs.Steps.{second-unused, second-room}
 use borrow.Author.Needs.{needs}
 use Rattle.interval.proofs.with_interval.Statement.{statement}

@@ -1,5 +1,5 @@
 -- `values::violation_number` meets its contract.
-use Rattle.interval.specs.Answers.{violation}
+use Rattle.parts.specs.Answers.{violation}
 use Rattle.values.specs.Lists.{violation-number}
 use borrow.Author.Needs.{needs}
 use Rattle.values.proofs.violation_number.Statement.{statement}
