@@ -4,3 +4,4 @@ pub mod Sizes
 pub mod Rates
 pub mod Rows
 pub mod Column
+pub mod Swaps

@@ -1,3 +1,4 @@
 -- What the functions of the second pass say and ask.
 pub mod Answers
 pub mod Rates
+pub mod Swaps

@@ -9,6 +9,7 @@ ghost use Rattle.planning.specs.Passes.{least-below, arrived, word-if};
 ghost use Rattle.sender.specs.Answers.{line-is, LineFits};
 ghost use Rattle.block.specs.Blocks.{Lessened, Lowered, LeastOf, Made};
 ghost use Rattle.sender.specs.Rates.{BlocksMade, level-read, rate-read, column-read};
+ghost use Rattle.sender.specs.Swaps.{swapped, LevelsSwapped};
 use block::NONE;
 
 // A leaky bucket: its size, and what it drains in an interval.
@@ -189,13 +190,116 @@ fn send_column(part: &mut [u32], line: Line)
     block::put_words(part, start, &block, height);
 }
 
+// What is done once a block and a rate weighs less, the longer the blocks are. Both buckets follow one rule: so where the outer one has many more levels, the two change places for the pass, and the words of each decoder level with them.
+
+// How many words a decoder level has at most where they change places.
+const SWAPPED: usize = 4096;
+
+// The line with its buckets in each other's place.
+fn swapped_line(line: Line) -> Line
+    ensures { λ r. ⌜ r ≡ swapped line ⌝ }
+{
+    let outer = line.inner;
+    let inner = line.outer;
+    let rates = line.rates;
+    Line {
+        decoder: line.decoder,
+        outer,
+        inner,
+        count: line.count,
+        rates,
+    }
+}
+
+// Whether that pays: swapping takes as long for few rates as for many, and each rate saves something with each block; in a layer of a few words, clearing the array that they are kept in takes longer than all else. Measured: what the words are does not depend on it.
+fn swapping_pays(line: Line) -> bool {
+    let outer = line.outer.size as usize + 1;
+    let inner = line.inner.size as usize + 1;
+    4 * inner <= outer && 64 <= layer_words(line) && 4 <= line.count
+}
+
+// Copies words to the first places.
+fn keep_words(kept: &mut [u32; 4096], words: &[u32])
+    requires { ⌜ (length (now kept) ≡ 4096) × (length (now words) ≤ 4096) ⌝ }
+    ensures { λ _. ⌜ Made 0 (length (now (words .entry))) (λ i. getD (now (words .entry)) i 0) (now (kept .entry)) (now (kept .exit)) ⌝ }
+{
+    let count = words.len();
+    for i in 0..count {
+        kept[i] = words[i];
+    }
+}
+
+// Writes every `step`-th of the words that are kept, from `first` on.
+fn put_column(
+    part: &mut [u32],
+    start: usize,
+    kept: &[u32; 4096],
+    first: usize,
+    step: usize,
+    count: usize,
+)
+    requires { ⌜ (length (now kept) ≡ 4096) × (first < step) × (count * step ≤ 4096) × (start + count ≤ length (now part)) ⌝ }
+    ensures { λ _. ⌜ Made start (start + count) (λ i. getD (now (kept .entry)) (first + (i - start) * step) 0) (now (part .entry)) (now (part .exit)) ⌝ }
+{
+    for i in 0..count {
+        let at = start + i;
+        let from = first + i * step;
+        part[at] = kept[from];
+    }
+}
+
+// Swaps the words of one decoder level: `levels` blocks of `width` words become `width` blocks of `levels` words.
+fn swap_row(part: &mut [u32], kept: &mut [u32; 4096], start: usize, levels: usize, width: usize)
+    requires { ⌜ (length (now kept) ≡ 4096) × (levels * width ≤ 4096) × (start + levels * width ≤ length (now part)) ⌝ }
+    ensures { λ _. ⌜ (length (now (kept .exit)) ≡ 4096) × BlocksMade start 0 width levels (λ j k. getD (now (part .entry)) (start + (k * width + j)) 0) (now (part .entry)) (now (part .exit)) ⌝ }
+{
+    let end = start + levels * width;
+    keep_words(kept, &part[start..end]);
+    let mut level = width;
+    while 0 < level {
+        level -= 1;
+        let at = start + level * levels;
+        put_column(part, at, kept, level, width, levels);
+    }
+}
+
+// Swaps the words of all decoder levels.
+fn swap_rows(part: &mut [u32], kept: &mut [u32; 4096], line: Line)
+    requires { ⌜ (length (now kept) ≡ 4096) × LineFits line × (span (sizes (line-is line)) ≤ 4096) × (layerWords (line-is line) ≤ length (now part)) ⌝ }
+    ensures { λ _. ⌜ (length (now (kept .exit)) ≡ 4096) × LevelsSwapped (line .decoder + 1) (line .outer .size + 1) (line .inner .size + 1) (now (part .entry)) (now (part .exit)) ⌝ }
+{
+    let levels = line.outer.size as usize + 1;
+    let width = line.inner.size as usize + 1;
+    let height = line.decoder as usize + 1;
+    let size = levels * width;
+    for level in 0..height {
+        let start = level * size;
+        swap_row(part, kept, start, levels, width);
+    }
+}
+
+// The whole pass, with the buckets in each other's place.
+fn send_swapped(part: &mut [u32], line: Line)
+    requires { ⌜ LineFits line × (span (sizes (line-is line)) ≤ 4096) × (layerWords (line-is line) ≤ length (now part)) ⌝ }
+    ensures { λ _. ⌜ Made 0 (layerWords (line-is line)) (λ i. least-below (length (line-is line .rates)) (λ y. word-if (wordIn (line-is line) (take (layerWords (line-is line)) (now (part .entry)))) (arrived (line-is line) (stateAt (line-is line) i) (getD (line-is line .rates) y 0)))) (now (part .entry)) (now (part .exit)) ⌝ }
+{
+    let mut kept = [NONE; 4096];
+    let other = swapped_line(line);
+    swap_rows(part, &mut kept, line);
+    send_rows(part, other);
+    swap_rows(part, &mut kept, other);
+}
+
 // The whole pass, in the layer's place.
 pub fn send_layer(part: &mut [u32], line: Line)
     requires { ⌜ LineFits line × (layerWords (line-is line) ≤ length (now part)) ⌝ }
     ensures { λ _. ⌜ Made 0 (layerWords (line-is line)) (λ i. least-below (length (line-is line .rates)) (λ y. word-if (wordIn (line-is line) (take (layerWords (line-is line)) (now (part .entry)))) (arrived (line-is line) (stateAt (line-is line) i) (getD (line-is line .rates) y 0)))) (now (part .entry)) (now (part .exit)) ⌝ }
 {
-    if row_words(line) == 1 {
+    let width = row_words(line);
+    if width == 1 {
         send_column(part, line);
+    } else if width <= SWAPPED && swapping_pays(line) {
+        send_swapped(part, line);
     } else {
         send_rows(part, line);
     }
