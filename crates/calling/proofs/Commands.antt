@@ -16,7 +16,7 @@ use Rattle.base.proofs.Tests.{branch}
 use Rattle.format.specs.Parser as P
 use Rattle.format.specs.Parser.{took, done, on-took}
 use Rattle.format.specs.Records.{record-either}
-use Rattle.format.specs.JobBytes.{header-in, parse}
+use Rattle.format.specs.JobBytes.{header-in, parse, opening}
 use Rattle.format.proofs.Parsing.{bound, done-is}
 use Rattle.format.proofs.Either.{either-size}
 use Rattle.pinning.specs.PinSet.{PinSet, fresh}

@@ -1,4 +1,6 @@
 -- What is claimed of command records, of calls as numbers and of sessions of calls: each claim is a type, which a theorem of proofs/ inhabits.
+use Rattle.base.specs.If.{if_then_else_}
+use Rattle.format.specs.Limits.{each-kept}
 use Prim.Native.Nat.{ℕ, _+_, _*_, _/_, _%_, _<_, _≤_}
 use mathlib.Core.Path.{_≡_}
 use mathlib.Core.Logic.{_⊎_}
@@ -17,8 +19,8 @@ use Rattle.model.specs.Table.{words}
 use Rattle.format.specs.Fields.{Bytes}
 use Rattle.format.specs.Parser as P
 use Rattle.format.specs.Parser.{Looks}
-use Rattle.format.specs.JobBytes.{parse}
-use Rattle.format.specs.Claims.{u16-at, Due, HeadOrder, BodyOrder}
+use Rattle.format.specs.JobBytes.{parse, header-in, opening, archive, drain-limits}
+use Rattle.format.specs.Claims.{u16-at, Due, HeadOrder, BodyOrder, InLimits, Drains}
 use Rattle.pinning.specs.PinSet.{PinSet}
 use Rattle.pinning.specs.Calls as pinning
 use Rattle.pinning.specs.Calls.{Handed, open-call, call, run}
@@ -72,8 +74,8 @@ pub record CommandsClaim (b : List ℕ) (s : PinSet) (rest : List ℕ) (r : Hand
 
 -- the job, then the commands behind it
 pub record CommandsOrder (b : List ℕ) : Type 0 where
-  pub job-first : (n : ℕ) → parse b ≡ P.refused n → commands-call b ≡ pinning.refuse (open-call b .set) n
-  pub then-commands : (j : Job) (k : ℕ) → parse b ≡ P.took j k → CommandsClaim b (open-call b .set) (drop k b) (commands-call b)
+  pub job-first : (n : ℕ) → parse opening b ≡ P.refused n → commands-call b ≡ pinning.refuse (open-call opening b .set) n
+  pub then-commands : (j : Job) (k : ℕ) → parse opening b ≡ P.took j k → CommandsClaim b (open-call opening b .set) (drop k b) (commands-call b)
 
 -- Calls as numbers, three a call: the kind, the unit and the choice.
 
@@ -107,6 +109,15 @@ book-numbers j calls = map answer-number (book.answers (j .choices) (no-pins (le
 abbrev pub book-pins : Job → List ℕ → book.PinMap
 book-pins j calls = pins-after (j .choices) (no-pins (length (j .units))) (calls-of calls)
 
+-- the pins of a replay after calls: the book's lines; none where a bucket never drains, since then 17 refuses each call (document 02, E8)
+unfoldable pub archive-pins : Job → List ℕ → book.PinMap
+archive-pins j calls = if each-kept (drain-limits opening (header-in j .buckets)) then book-pins j calls else no-pins (length (j .units))
+
+-- in words
+pub record ArchivePins (j : Job) (calls : List ℕ) : Type 0 where
+  pub drained : InLimits j → Drains opening j → archive-pins j calls ≡ book-pins j calls
+  pub idle : InLimits j → (Drains opening j → ⊥) → archive-pins j calls ≡ no-pins (length (j .units))
+
 -- a session with planning, from lists that are long enough: with a plan, each call's number is written, as the book answers it, and the rest of the list is as before; with 13 the list is as it came
 pub record SessionClaim (j : Job) (calls : List ℕ) (aim order : ℕ) (answers table entries : List ℕ) (r : Session) : Type 0 where
   pub answered : (r .planned .answer ≡ refused 13 → ⊥) → r .answers ≡ over (book-numbers j calls) answers
@@ -120,7 +131,7 @@ pub record SessionKeeping (answers table entries : List ℕ) (r : Session) : Typ
 
 -- what the program plans, from lists that are long enough; no command is refused, so that nothing is left behind them
 pub record InputClaim (b : List ℕ) (j : Job) (k : ℕ) (table entries : List ℕ) : Type 0 where
-  pub commands : CommandsClaim b (open-call b .set) (drop k b) (commands-call b)
+  pub commands : CommandsClaim b (open-call opening b .set) (drop k b) (commands-call b)
   pub planning : PlanClaim j (pins-after (j .choices) (no-pins (length (j .units))) (commands .calls)) total late 0 (j .start) table entries (input-call b table entries)
 
 -- in which order the program looks at its input
@@ -154,25 +165,28 @@ Named = NamedClaim
 
 -- the calls alone: the job, 1 to 5, then the calls, 2 or 1, then room for their numbers; the answer has the totals of the book's lines
 abbrev pub CallSessions : Type 0
-CallSessions = (b calls answers : List ℕ) → Looks (calls-call b calls answers) (lent.refuse answers) (parse b) (λ j. condition 2 (AllKinds calls) ∷ condition 1 (Whole calls) ∷ condition 12 (length calls / 3 ≤ length answers) ∷ []) (λ j. calls-call b calls answers ≡ record { answer = gives (pin-totals j (book-pins j calls)); list = over (book-numbers j calls) answers })
+CallSessions = (b calls answers : List ℕ) → Looks (calls-call b calls answers) (lent.refuse answers) (parse opening b) (λ j. condition 2 (AllKinds calls) ∷ condition 1 (Whole calls) ∷ condition 12 (length calls / 3 ≤ length answers) ∷ []) (λ j. calls-call b calls answers ≡ record { answer = gives (pin-totals j (book-pins j calls)); list = over (book-numbers j calls) answers })
 
 -- demands 1 and 3 of a session with planning; no call is made before all of this is looked at
 abbrev pub Sessions : Type 0
-Sessions = (b calls : List ℕ) (aim order : ℕ) (answers table entries : List ℕ) → Looks (session-call b calls aim order answers table entries) (refuse answers table entries) (parse b) (λ j. condition 2 (Either aim) ∷ condition 2 (Either order) ∷ condition 2 (AllKinds calls) ∷ condition 1 (Whole calls) ∷ condition 11 (words j ≤ length table) ∷ condition 12 (length calls / 3 ≤ length answers) ∷ condition 12 (3 * intervals j ≤ length entries) ∷ []) (λ j. SessionClaim j calls aim order answers table entries (session-call b calls aim order answers table entries))
+Sessions = (b calls : List ℕ) (aim order : ℕ) (answers table entries : List ℕ) → Looks (session-call b calls aim order answers table entries) (refuse answers table entries) (parse opening b) (λ j. condition 2 (Either aim) ∷ condition 2 (Either order) ∷ condition 2 (AllKinds calls) ∷ condition 1 (Whole calls) ∷ condition 11 (words j ≤ length table) ∷ condition 12 (length calls / 3 ≤ length answers) ∷ condition 12 (3 * intervals j ≤ length entries) ∷ []) (λ j. SessionClaim j calls aim order answers table entries (session-call b calls aim order answers table entries))
 
 abbrev pub SessionKeeps : Type 0
 SessionKeeps = (b calls : List ℕ) (aim order : ℕ) (answers table entries : List ℕ) → SessionKeeping answers table entries (session-call b calls aim order answers table entries)
 
--- demands 1 and 2 of a replay after calls; the set that the calls leave is never refused
+abbrev pub ReplayPins : Type 0
+ReplayPins = (j : Job) (calls : List ℕ) → ArchivePins j calls
+
+-- demands 1 and 2 of a replay after calls; the set that the calls leave is never refused. Where a bucket never drains no call is taken, and the replay is with no pins
 abbrev pub ReplaySessions : Type 0
-ReplaySessions = (b calls entries levels : List ℕ) → Looks (replay-session b calls entries levels) (lent.refuse levels) (parse b) (λ j. condition 2 (AllKinds calls) ∷ condition 1 (Whole calls) ∷ condition 14 (InShape j entries) ∷ condition 12 ((1 + length (j .line .buckets)) * intervals j ≤ length levels) ∷ []) (λ j. DemandTwo j (book-pins j calls) (plan-of j entries) levels (replay-session b calls entries levels))
+ReplaySessions = (b calls entries levels : List ℕ) → Looks (replay-session b calls entries levels) (lent.refuse levels) (parse archive b) (λ j. condition 2 (AllKinds calls) ∷ condition 1 (Whole calls) ∷ condition 14 (InShape j entries) ∷ condition 12 ((1 + length (j .line .buckets)) * intervals j ≤ length levels) ∷ []) (λ j. DemandTwo j (archive-pins j calls) (plan-of j entries) levels (replay-session b calls entries levels))
 
 abbrev pub ReplaySessionKeeps : Type 0
 ReplaySessionKeeps = (b calls entries levels : List ℕ) → lent.Keeping levels (replay-session b calls entries levels)
 
 -- what the program reads
 abbrev pub Inputs : Type 0
-Inputs = (b : List ℕ) (j : Job) (k : ℕ) (table entries : List ℕ) → parse b ≡ P.took j k → length b ≤ 32768 → commands-call b .refused ≡ none → words j ≤ length table → 3 * intervals j ≤ length entries → InputClaim b j k table entries
+Inputs = (b : List ℕ) (j : Job) (k : ℕ) (table entries : List ℕ) → parse opening b ≡ P.took j k → length b ≤ 32768 → commands-call b .refused ≡ none → words j ≤ length table → 3 * intervals j ≤ length entries → InputClaim b j k table entries
 
 abbrev pub InputRefusals : Type 0
 InputRefusals = (b table entries : List ℕ) → InputOrder b table entries × Keeping table entries (input-call b table entries)

@@ -10,7 +10,7 @@ use Rattle.base.specs.Refusals.{Test, test, unless}
 use Rattle.model.specs.Pins.{Call, pin, lift}
 use Rattle.format.specs.Parser.{Parser, done, _>>=_, on-took}
 use Rattle.format.specs.Records.{Form, Filled, plain-form, record-either, filled-bytes}
-use Rattle.format.specs.JobBytes.{header-in, parse}
+use Rattle.format.specs.JobBytes.{header-in, parse, opening}
 use Rattle.pinning.specs.PinSet.{PinSet, fresh}
 use Rattle.pinning.specs.Calls.{Handed, refuse, take-in, call}
 use Rattle.format.specs.JobBytes.{no-header}
@@ -55,7 +55,7 @@ follow (suc n) b s rest =
 
 -- a job, then commands to the end of the bytes; where no job opens, the set beside the refusal is that of no job
 unfoldable pub commands-call : List ℕ → Handed
-commands-call b = on-took (refuse (fresh no-header)) (parse b) (λ j k. follow (length b) b (fresh (header-in j)) (drop k b))
+commands-call b = on-took (refuse (fresh no-header)) (parse opening b) (λ j k. follow (length b) b (fresh (header-in j)) (drop k b))
 
 -- calls as three numbers each: the kind, the unit and the choice, which a lift does not look at
 unfoldable pub kind-of : List ℕ → ℕ → ℕ

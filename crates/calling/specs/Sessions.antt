@@ -14,7 +14,7 @@ use Rattle.model.specs.Pins.{PinTotals}
 use Rattle.model.specs.Best.{Order, late, early, Aim, total, even}
 use Rattle.model.specs.Table.{words}
 use Rattle.format.specs.Parser.{on-read, refusal-in}
-use Rattle.format.specs.JobBytes.{parse}
+use Rattle.format.specs.JobBytes.{parse, Door, opening, archive}
 use Rattle.pinning.specs.PinSet.{PinSet}
 use Rattle.pinning.specs.Calls.{CallsMade, open-call, run}
 use Rattle.replaying.specs.Entries.{entry-size}
@@ -23,9 +23,9 @@ use Rattle.planning.specs.Calls.{Planned, plan-call}
 use Rattle.planning.specs.Calls as plan
 use Rattle.calling.specs.Commands.{commands-call, calls-of, calls-tests}
 
--- the calls, made in turn
-unfoldable pub made : List ℕ → List ℕ → CallsMade
-made b calls = run b (open-call b .set) (calls-of calls)
+-- the calls, made in turn on the set that a door answers
+unfoldable pub made : Door → List ℕ → List ℕ → CallsMade
+made d b calls = run b (open-call d b .set) (calls-of calls)
 
 -- 0 for a call that was taken, else the number that refused it
 unfoldable pub answer-number : Option ℕ → ℕ
@@ -33,17 +33,17 @@ answer-number none = 0
 answer-number (some n) = n
 
 unfoldable pub numbers : List ℕ → List ℕ → List ℕ
-numbers b calls = map answer-number (made b calls .answers)
+numbers b calls = map answer-number (made opening b calls .answers)
 
 -- The calls alone: each one's number goes to a list, and the answer has the totals of the set that they leave.
 unfoldable pub answers-tests : List ℕ → ℕ → List Test
 answers-tests calls answers = calls-tests calls ++ (test 12 (leb (length calls / 3) answers) ∷ [])
 
 unfoldable pub calls-refusal : List ℕ → List ℕ → ℕ → Option ℕ
-calls-refusal b calls answers = refusal-in (parse b) (λ j. answers-tests calls answers)
+calls-refusal b calls answers = refusal-in (parse opening b) (λ j. answers-tests calls answers)
 
 unfoldable pub calls-call : List ℕ → List ℕ → List ℕ → Ended PinTotals
-calls-call b calls answers = on-read (lent.refuse answers) (parse b) (λ j. guarded (lent.refuse answers) (answers-tests calls (length answers)) (record { answer = gives (made b calls .set .totals); list = over (numbers b calls) answers }))
+calls-call b calls answers = on-read (lent.refuse answers) (parse opening b) (λ j. guarded (lent.refuse answers) (answers-tests calls (length answers)) (record { answer = gives (made opening b calls .set .totals); list = over (numbers b calls) answers }))
 
 -- Aim and order as numbers: 0 names the total and 1 even pictures (document 02, E7), 0 early and 1 late (E10); no other number names one.
 unfoldable pub aim-named : ℕ → Aim
@@ -70,25 +70,25 @@ unfoldable pub session-tests : Job → List ℕ → ℕ → ℕ → ℕ → ℕ 
 session-tests j calls aim order answers table entries = asked-tests calls aim order ++ (test 11 (leb (words j) table) ∷ test 12 (leb (length calls / 3) answers) ∷ test 12 (leb (entry-size * intervals j) entries) ∷ [])
 
 unfoldable pub plan-refusal : List ℕ → List ℕ → ℕ → ℕ → ℕ → ℕ → ℕ → Option ℕ
-plan-refusal b calls aim order answers table entries = refusal-in (parse b) (λ j. session-tests j calls aim order answers table entries)
+plan-refusal b calls aim order answers table entries = refusal-in (parse opening b) (λ j. session-tests j calls aim order answers table entries)
 
 -- the numbers are written where there is a plan: "no plan" writes the table alone
 unfoldable pub planned-after : List ℕ → List ℕ → ℕ → ℕ → List ℕ → List ℕ → List ℕ → Session
 planned-after b calls aim order answers table entries = record {
-  answers = put (plan-call b (made b calls .set) (aim-named aim) (order-named order) table entries .answer) (λ t. numbers b calls) answers;
-  planned = plan-call b (made b calls .set) (aim-named aim) (order-named order) table entries;
+  answers = put (plan-call b (made opening b calls .set) (aim-named aim) (order-named order) table entries .answer) (λ t. numbers b calls) answers;
+  planned = plan-call b (made opening b calls .set) (aim-named aim) (order-named order) table entries;
 }
 
 unfoldable pub session-call : List ℕ → List ℕ → ℕ → ℕ → List ℕ → List ℕ → List ℕ → Session
-session-call b calls aim order answers table entries = on-read (refuse answers table entries) (parse b) (λ j. guarded (refuse answers table entries) (session-tests j calls aim order (length answers) (length table) (length entries)) (planned-after b calls aim order answers table entries))
+session-call b calls aim order answers table entries = on-read (refuse answers table entries) (parse opening b) (λ j. guarded (refuse answers table entries) (session-tests j calls aim order (length answers) (length table) (length entries)) (planned-after b calls aim order answers table entries))
 
 -- a replay after calls is refused by the calls, 2 or 1, then by what replay is tested for
 unfoldable pub replay-refusal : List ℕ → List ℕ → List ℕ → ℕ → Option ℕ
-replay-refusal b calls entries levels = refusal-in (parse b) (λ j. calls-tests calls ++ replay-tests j entries levels)
+replay-refusal b calls entries levels = refusal-in (parse archive b) (λ j. calls-tests calls ++ replay-tests j entries levels)
 
--- The calls and a replay after them: the job, 1 to 5, then the calls, 2 or 1, then as replay does.
+-- The calls and a replay after them, of any job that the archive takes: the job, 1 to 5, then the calls, 2 or 1, then as replay does.
 unfoldable pub replay-session : List ℕ → List ℕ → List ℕ → List ℕ → Ended Replayed
-replay-session b calls entries levels = on-read (lent.refuse levels) (parse b) (λ j. guarded (lent.refuse levels) (calls-tests calls) (replay-call b (made b calls .set) entries levels))
+replay-session b calls entries levels = on-read (lent.refuse levels) (parse archive b) (λ j. guarded (lent.refuse levels) (calls-tests calls) (replay-call b (made archive b calls .set) entries levels))
 
 -- how many bytes the program takes
 abbrev pub input-size : ℕ

@@ -9,7 +9,7 @@ use borrow.Author.Tests.{leb-true, le-leb}
 use lib.Dec.{leb}
 use Rattle.base.specs.If.{if_then_else_}
 use Rattle.base.proofs.Tests.{both-true}
-use Rattle.format.specs.Limits.{Limit, kept, both-kept, broken, AllKept}
+use Rattle.format.specs.Limits.{Limit, kept, both-kept, each-kept, broken, AllKept}
 
 abbrev pub Kept : Limit → Type 0
 Kept l = (l .low ≤ l .value) × (l .value ≤ l .high)
@@ -119,3 +119,21 @@ broken-first (k ∷ ks) ls n e = go (kept k) refl (λ f. broken-first ks ls n f)
 pub broken-later : (ks ls : List Limit) → AllKept ks → broken (ks ++ ls) ≡ broken ls
 broken-later [] ls h = refl
 broken-later (k ∷ ks) ls h = broken-step k (ks ++ ls) (is-kept k (h .0)) ∙ broken-later ks ls (h .1)
+
+-- the test for all limits of a list says that all are kept
+pub all-fit : (ls : List Limit) → each-kept ls ≡ true → AllKept ls
+unfolding each-kept
+all-fit [] e = tt
+all-fit (l ∷ ls) e = let t = both-true (kept l) (each-kept ls) e in (of-kept l (t .0), all-fit ls (t .1))
+
+pub fit-all : (ls : List Limit) → AllKept ls → true ≡ each-kept ls
+unfolding each-kept if_then_else_
+fit-all [] h = refl
+fit-all (l ∷ ls) h = rw (is-kept l (h .0)) (fit-all ls (h .1))
+
+pub not-all : (ls : List Limit) → (AllKept ls → ⊥) → false ≡ each-kept ls
+not-all ls g = go (each-kept ls) refl
+  where
+    go : (t : Bool) → each-kept ls ≡ t → false ≡ each-kept ls
+    go true e = absurd (g (all-fit ls e))
+    go false e = sym e

@@ -8,11 +8,10 @@ use borrow.Author.Tests.{leb-true, leb-false}
 use lib.Dec.{leb}
 use lib.ListN.{length}
 use Rattle.base.specs.If.{if_then_else_, one-if}
-use Rattle.base.proofs.Tests.{both-true}
 use Rattle.format.specs.Limits.{Limit, limit, kept, both-kept, each-kept, broken, AllKept}
 use Rattle.format.specs.JobBytes.{Policed, Header, largest-sizes, bucket-limits, header-limits}
 use Rattle.format.proofs.Opening.{header-number}
-use Rattle.format.proofs.Limits.{Kept, AllOf, not-true, is-kept, of-kept, not-kept, none-broken, broken-one}
+use Rattle.format.proofs.Limits.{Kept, AllOf, not-true, is-kept, of-kept, not-kept, none-broken, broken-one, all-fit, fit-all, not-all}
 use Rattle.header.specs.declared.Verdict.the-variants.{Fits, Refused}
 use Rattle.header.specs.declared.Header as code
 use Rattle.header.specs.Answers.{policed-of, plain, verdict}
@@ -79,24 +78,6 @@ not-first l m g = rw (not-kept l g)
 pub not-second : (l m : Limit) → Kept l → (Kept m → ⊥) → false ≡ both-kept l m
 unfolding both-kept if_then_else_
 not-second l m h g = rw (is-kept l h) (sym (not-kept m g))
-
--- the test for all limits of a list says that all are kept
-pub all-fit : (ls : List Limit) → each-kept ls ≡ true → AllKept ls
-unfolding each-kept
-all-fit [] e = tt
-all-fit (l ∷ ls) e = let t = both-true (kept l) (each-kept ls) e in (of-kept l (t .0), all-fit ls (t .1))
-
-pub fit-all : (ls : List Limit) → AllKept ls → true ≡ each-kept ls
-unfolding each-kept if_then_else_
-fit-all [] h = refl
-fit-all (l ∷ ls) h = rw (is-kept l (h .0)) (fit-all ls (h .1))
-
-pub not-all : (ls : List Limit) → (AllKept ls → ⊥) → false ≡ each-kept ls
-not-all ls g = go (each-kept ls) refl
-  where
-    go : (t : Bool) → each-kept ls ≡ t → false ≡ each-kept ls
-    go true e = absurd (g (all-fit ls e))
-    go false e = sym e
 
 -- the limits of a header's buckets: the first's, then those of the second where there is one
 module _ (k l : Policed) (two : Bool) where

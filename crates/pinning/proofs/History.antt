@@ -159,6 +159,9 @@ module _ (j : Job) (limits : InLimits j) where
     totals = sym (totals-none (codingAt j) (length (j .units)) (length (j .units)) (omega arith));
   }
 
+  pub fresh-pins : lines (length (j .units)) (fresh (header-in j) .pins) ≡ no-pins (length (j .units))
+  fresh-pins = fresh-holds .pins
+
   pub fresh-matches : Matches j (fresh (header-in j))
   fresh-matches = holds-matches j limits _ _ fresh-holds
 

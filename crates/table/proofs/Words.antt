@@ -13,7 +13,7 @@ use Rattle.format.proofs.Opened.{header-kept, intervals-are, decoder-is, bucket
 use Rattle.interval.specs.Answers.{line-of, OfHeader}
 use Rattle.header.specs.declared.Header as job
 use Rattle.header.specs.Answers.{plain}
-use Rattle.header.proofs.Verdicts.{fit-all, all-fit}
+use Rattle.format.proofs.Limits.{fit-all, all-fit}
 use Rattle.interval.specs.declared.Buffers.{Buffers}
 use Rattle.table.proofs.Jobs.{told-fit}
 use Rattle.format.specs.Limits.{AllKept, each-kept, broken}

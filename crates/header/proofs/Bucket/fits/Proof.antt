@@ -1,7 +1,8 @@
 -- `header::Bucket::fits` meets its contract: three limits, one of them by a range.
 use native.Mathlib.Omega.{arith}
 use Rattle.header.specs.Answers.{policed-of}
-use Rattle.header.proofs.Verdicts.{three-fit, not-all}
+use Rattle.header.proofs.Verdicts.{three-fit}
+use Rattle.format.proofs.Limits.{not-all}
 use Rattle.header.proofs.Bucket.fits.Statement.{statement}
 use Rattle.header.proofs.Bucket.fits.Tie as tie
 
