@@ -1,3 +1,4 @@
 -- Laws that belong to no one function.
 pub mod Verdicts
 pub mod Fields
+pub mod Drains

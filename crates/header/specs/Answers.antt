@@ -9,6 +9,8 @@ use Rattle.format.specs.JobBytes as format
 use Rattle.header.specs.declared.Bucket.{Bucket}
 use Rattle.header.specs.declared.Header.{Header}
 use Rattle.header.specs.declared.Coding.{Coding}
+use Rattle.header.specs.declared.Door.{Door}
+use Rattle.header.specs.declared.Door.the-variants as d
 use Rattle.header.specs.declared.Verdict.{Verdict}
 use Rattle.header.specs.declared.Verdict.the-variants as v
 
@@ -33,6 +35,10 @@ plain h = record {
 
 unfoldable pub coding-of : Coding → model.Coding
 coding-of c = record { size = c .size; distortion = c .distortion }
+
+unfoldable pub door-of : Door → format.Door
+door-of d.Opening = format.opening
+door-of d.Archive = format.archive
 
 -- the refusal's number, if there is one
 unfoldable pub verdict : Verdict → Option ℕ

@@ -7,10 +7,10 @@ ghost use Prim.Native.Nat.{_+_, _*_, _-_, _≤_};
 ghost use lib.ListN.{length, drop};
 ghost use Rattle.format.specs.Fields.{fields};
 ghost use Rattle.base.specs.If.{one-if};
-ghost use Rattle.format.specs.Limits.{kept, both-kept, each-kept, broken};
-ghost use Rattle.format.specs.JobBytes.{policed-by, header-of, no-bucket, bucket-widths, header-form, same-buckets, same-header, largest-sizes, bucket-limits, header-limits, rate-limit, size-limit, distortion-limit};
+ghost use Rattle.format.specs.Limits.{limit, kept, both-kept, each-kept, broken};
+ghost use Rattle.format.specs.JobBytes.{policed-by, header-of, no-bucket, bucket-widths, header-form, same-buckets, same-header, largest-sizes, bucket-limits, header-limits, drain-limits, rate-limit, size-limit, distortion-limit};
 ghost use Rattle.format.specs.Places.{header-size, unit-size, rate-at, coding-at};
-ghost use Rattle.header.specs.Answers.{extra, policed-of, plain, verdict, coding-of};
+ghost use Rattle.header.specs.Answers.{extra, policed-of, plain, door-of, verdict, coding-of};
 
 // A leaky bucket as a header tells it: its size, what it drains in an interval, its level at the start. Sizes and levels are counted in grains, document 01's fixed count of bits.
 pub struct Bucket {
@@ -43,6 +43,12 @@ pub struct Coding {
 pub type Choice = u16;
 
 pub const NO_CHOICE: Choice = 65535;
+
+// Which jobs a reader takes (document 02, E8): opening none that has a bucket which never drains, the archive these too.
+pub enum Door {
+    Opening,
+    Archive,
+}
 
 // Whether a record is taken, or the refusal's number.
 pub enum Verdict {
@@ -178,6 +184,25 @@ impl Header {
         Verdict::Fits
     }
 
+    // 17 where a bucket never drains, and the door asks for one that does.
+    pub fn drains_verdict(self, door: Door) -> Verdict
+        ensures { λ r. ⌜ verdict r ≡ broken (drain-limits (door-of door) (plain self .buckets)) ⌝ }
+    {
+        if let Door::Archive = door {
+            return Verdict::Fits;
+        }
+        if !self.first.drains() {
+            return Verdict::Refused(refusal::NEVER_DRAINS);
+        }
+        if !self.two {
+            return Verdict::Fits;
+        }
+        if !self.second.drains() {
+            return Verdict::Refused(refusal::NEVER_DRAINS);
+        }
+        Verdict::Fits
+    }
+
     // Whether the two headers have the same further buckets.
     fn same_second(self, other: Header) -> bool
         ensures { λ r. ⌜ r ≡ same-buckets (one-if (self .two) (policed-of (self .second))) (one-if (other .two) (policed-of (other .second))) ⌝ }
@@ -244,6 +269,17 @@ impl Bucket {
         let drain = self.drain;
         match drain {
             0..=Header::MAX_DRAIN => (size <= largest) & (fill <= size),
+            _ => false,
+        }
+    }
+
+    // Whether it drains something, and at most 4,095.
+    fn drains(self) -> bool
+        ensures { λ r. ⌜ r ≡ kept (limit 17 1 4095 (self .drain)) ⌝ }
+    {
+        let drain = self.drain;
+        match drain {
+            1..=Header::MAX_DRAIN => true,
             _ => false,
         }
     }

@@ -15,5 +15,8 @@ pub const RATES: u8 = 4;
 // A size or a distortion is over its limit.
 pub const CODINGS: u8 = 5;
 
+// A bucket never drains (document 02, E8).
+pub const NEVER_DRAINS: u8 = 17;
+
 // A list to be filled is too short.
 pub const LIST: u8 = 12;

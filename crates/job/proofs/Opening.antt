@@ -1,8 +1,12 @@
 -- Laws of opening: the three stages of `parse`, from the verdict on each record.
+use Rattle.base.proofs.Refusals.{first-none}
+use Rattle.base.specs.Refusals.{unless}
+use Rattle.format.proofs.Doors.{by-header}
+use Rattle.format.proofs.Limits.{all-kept}
 use Prim.Native.Nat.{ℕ, zero, suc, _+_, _*_, _-_, _≤_, _<_}
 use mathlib.Core.Path.{_≡_, refl, sym, ap, _∙_}
 use mathlib.Core.Bool.{Bool, true, false}
-use mathlib.Core.Option.{none, some}
+use mathlib.Core.Option.{none, some, Option}
 use mathlib.Core.List.{List, _∷_}
 use lib.Dec.{eqb}
 use native.Mathlib.Omega.{arith}
@@ -11,16 +15,16 @@ use lib.ListN.{length, take, drop, replicate, length-drop, length-replicate}
 use lib.Seq.{drop-drop}
 use Rattle.model.specs.Job.{Coding, Job}
 use Rattle.format.specs.Fields.{total, fields}
-use Rattle.format.specs.Limits.{AllKept}
-use Rattle.format.specs.Parser.{Result, refused, took, Parser, done, further, onward, _>>=_, many, refusal-of, with-value}
+use Rattle.format.specs.Limits.{AllKept, broken}
+use Rattle.format.specs.Parser.{Result, refused, took, Parser, done, further, onward, _>>=_, many, refusal-of, with-value, unless-refused}
 use Rattle.format.specs.Records.{record-due, form-for, record-either}
-use Rattle.format.specs.JobBytes.{Header, header-of, header-limits, codings, header-kind, header-form, rates-form, unit-form, job-of, header-in, header-parser, unit-parser, parse}
+use Rattle.format.specs.JobBytes.{Header, header-of, header-limits, codings, header-kind, header-form, rates-form, unit-form, job-of, header-in, header-parser, unit-parser, parse, Door, drain-limits, header-read, draining}
 use Rattle.base.specs.If.{if_then_else_}
 use Rattle.format.specs.Places.{field-at, header-size}
 use Rattle.format.proofs.RoundTrip.{header-total}
 use Rattle.format.proofs.Places.{header-count}
 use Rattle.format.proofs.Records.{total-same, total-entries}
-use Rattle.format.proofs.Parsing.{RecordTook, has-refused, bind-refused, bind-on, record-is, record-took, fields-length, many-refused, many-length}
+use Rattle.format.proofs.Parsing.{RecordTook, has-refused, bind-refused, bind-on, record-is, record-took, fields-length, many-refused, many-length, bind-later}
 use Rattle.format.proofs.Header.{header-back}
 use Rattle.header.specs.declared.Verdict.{Verdict}
 use Rattle.header.specs.declared.Verdict.the-variants as v
@@ -28,7 +32,7 @@ use Rattle.job.specs.declared.Due.{Due}
 use Rattle.job.specs.declared.Due.the-variants as d
 use Rattle.job.specs.declared.Reading.the-variants as r
 use Rattle.header.specs.Answers.{extra, verdict}
-use Rattle.job.specs.Answers.{form-of, reading, answering}
+use Rattle.job.specs.Answers.{form-of, reading, answering, header-refusal}
 use Rattle.job.proofs.Records.{rest-of}
 use Rattle.job.proofs.Told.{told-refused, told-took}
 
@@ -134,56 +138,89 @@ module _ (w : ℕ) (h : Header) (rs : List ℕ) (k : ℕ) (l : length rs ≡ h .
       let e : w + (k + (m + 0)) ≡ w + k + m = omega arith in
       rw (e, header-back h rs us l (g us m refl))
 
-module _ (b : List ℕ) where
-  -- a refusal of the header's record is that of opening
-  open-refused : (n : ℕ) → header-parser b ≡ refused n → reading (r.Refused n) ≡ with-value header-in (parse b)
+-- by a door
+module _ (door : Door) (b : List ℕ) where
+  -- a refusal of the header is that of the reading
+  open-refused : (n : ℕ) → header-parser door b ≡ refused n → reading (r.Refused n) ≡ with-value header-in (parse door b)
   unfolding parse reading with-value
-  open-refused n e = sym (ap (with-value header-in) (bind-refused header-parser _ b n e))
+  open-refused n e = sym (ap (with-value header-in) (bind-refused (header-parser door) _ b n e))
 
-  module _ (w : ℕ) (h : Header) (e : header-parser b ≡ took h w) where
+  module _ (w : ℕ) (h : Header) (e : header-parser door b ≡ took h w) where
     -- then all that follows it
-    parse-on : parse b ≡ further w (after-header h (drop w b))
+    parse-on : parse door b ≡ further w (after-header h (drop w b))
     unfolding parse after-header
-    parse-on = bind-on header-parser _ b h w e
+    parse-on = bind-on (header-parser door) _ b h w e
 
     -- a refusal of the rates' record is that of opening
-    rates-refused : (n : ℕ) → record-due (rates-form (h .rates)) (drop w b) ≡ refused n → reading (r.Refused n) ≡ with-value header-in (parse b)
+    rates-refused : (n : ℕ) → record-due (rates-form (h .rates)) (drop w b) ≡ refused n → reading (r.Refused n) ≡ with-value header-in (parse door b)
     unfolding after-header reading with-value further
     rates-refused n g = sym (ap (with-value header-in) (parse-on ∙ ap (further w) (bind-refused (record-due (rates-form (h .rates))) _ (drop w b) n g)))
 
     -- after the rates the units decide
-    opened : (rs : List ℕ) (k : ℕ) → record-due (rates-form (h .rates)) (drop w b) ≡ took rs k → length rs ≡ h .rates → with-value header-in (parse b) ≡ answering h (further (w + k) (many (h .units) (unit-parser (h .choices)) (drop (w + k) b)))
+    opened : (rs : List ℕ) (k : ℕ) → record-due (rates-form (h .rates)) (drop w b) ≡ took rs k → length rs ≡ h .rates → with-value header-in (parse door b) ≡ answering h (further (w + k) (many (h .units) (unit-parser (h .choices)) (drop (w + k) b)))
     unfolding after-header _>>=_
     opened rs k g l =
         ap (with-value header-in) (parse-on ∙ ap (further w) (bind-on (record-due (rates-form (h .rates))) _ (drop w b) rs k g))
         ∙ whole w h rs k l (drop k (drop w b)) (many (h .units) (unit-parser (h .choices)) (drop k (drop w b))) (λ us m z. many-length (unit-parser (h .choices)) (h .units) (drop k (drop w b)) us m z)
         ∙ rw drop-drop
 
+-- the verdict on a header's record, and then on its drains
+module _ (door : Door) (b : List ℕ) (two : Bool) (r₀ : Verdict) (e₀ : verdict r₀ ≡ refusal-of (record-due (header-form (extra two)) b)) where
+  pub record-refused : (n : ℕ) → r₀ ≡ v.Refused n → some n ≡ header-refusal door two b
+  unfolding verdict header-refusal unless
+  record-refused n q =
+      let k : refusal-of (record-due (header-form (extra two)) b) ≡ some n = sym e₀ ∙ rw q in
+      rw k refl
+
+  module _ (q₀ : r₀ ≡ v.Fits) where
+    fits-none : refusal-of (record-due (header-form (extra two)) b) ≡ none
+    unfolding verdict
+    fits-none = sym e₀ ∙ rw q₀
+
+    pub body-room : 22 + 6 * extra two ≤ length b
+    body-room = omega (arith, record-is (header-form (extra two)) b _ _ (record-took (header-form (extra two)) b fits-none) .there, header-total (extra two))
+
+    pub body-fields : 18 + 6 * extra two ≤ length (take (length b - 4) (drop 4 b))
+    body-fields = rw (rest-of, length-drop) (omega (arith, body-room))
+
+    pub then-drains : (h : Header) → h ≡ header-of (fields (header-form (extra two) .widths) (take (length b - 4) (drop 4 b))) → (x : Verdict) → verdict x ≡ broken (drain-limits door (h .buckets)) → verdict x ≡ header-refusal door two b
+    unfolding header-refusal unless
+    then-drains h s x g =
+        let here : h ≡ header-of (fields (header-form (extra two) .widths) (drop 4 b)) = rw (rest-of 4 b) at s in
+        g ∙ rw (fits-none, here)
+
 -- the header's record, of the form that its kind tells
-module _ (b : List ℕ) (two : Bool) (t : two ≡ eqb (field-at 2 b 2) 8) where
+module _ (door : Door) (b : List ℕ) (two : Bool) (t : two ≡ eqb (field-at 2 b 2) 8) where
   -- what is read as a header where the record of that form is
-  header-refused : (n : ℕ) → refusal-of (record-due (header-form (extra two)) b) ≡ some n → header-parser b ≡ refused n
-  unfolding header-parser header-form header-kind
+  header-refused : (n : ℕ) → refusal-of (record-due (header-form (extra two)) b) ≡ some n → header-read b ≡ refused n
+  unfolding header-read header-form header-kind
   header-refused n e = bind-refused (record-either (header-form 0) (header-form 1)) _ b n (told-refused (header-form 0) (header-form 1) b two t (header-form (extra two)) (form-told two) n e)
 
-  header-taken : refusal-of (record-due (header-form (extra two)) b) ≡ none → header-parser b ≡ took (header-of (fields (header-form (extra two) .widths) (drop 4 b))) (22 + 6 * extra two)
-  unfolding header-parser done further
+  header-taken : refusal-of (record-due (header-form (extra two)) b) ≡ none → header-read b ≡ took (header-of (fields (header-form (extra two) .widths) (drop 4 b))) (22 + 6 * extra two)
+  unfolding header-read done further
   header-taken e =
       let c : 4 + total (header-form (extra two) .widths) + 0 ≡ 22 + 6 * extra two = omega (arith, header-total (extra two)) in
       bind-on (record-either (header-form 0) (header-form 1)) _ b _ _ (told-took (header-form 0) (header-form 1) b two (unfold header-form header-kind in t) (header-form (extra two)) (form-told two) e) ∙ rw c
 
   -- r₁ is the verdict on it, as the code has it
-  module _ (r₁ : Verdict) (e₁ : verdict r₁ ≡ refusal-of (record-due (header-form (extra two)) b)) where
+  module _ (r₁ : Verdict) (e₁ : verdict r₁ ≡ header-refusal door two b) where
     -- its refusal is that of opening
-    pub first-refused : (n : ℕ) → r₁ ≡ v.Refused n → reading (r.Refused n) ≡ with-value header-in (parse b)
+    pub first-refused : (n : ℕ) → r₁ ≡ v.Refused n → reading (r.Refused n) ≡ with-value header-in (parse door b)
     unfolding verdict
-    first-refused n q = open-refused b n (header-refused n (sym e₁ ∙ rw q))
+    first-refused n q = open-refused door b n (by-either (refusal-of (record-due (header-form (extra two)) b)) refl (sym e₁ ∙ rw q))
+      where
+        by-either : (o : Option ℕ) → refusal-of (record-due (header-form (extra two)) b) ≡ o → header-refusal door two b ≡ some n → header-parser door b ≡ refused n
+        by-either (some m) k g = unfold header-refusal unless header-parser in bind-refused header-read _ b n (header-refused n (k ∙ (rw k at g)))
+        by-either none k g = unfold header-refusal unless header-parser in bind-later header-read _ b _ _ n (header-taken k) (unfold draining unless-refused in rw (rw k at g))
 
     module _ (q₁ : r₁ ≡ v.Fits) where
       -- without one the header's fields are read
+      no-refusals : (refusal-of (record-due (header-form (extra two)) b) ≡ none) × (broken (drain-limits door (header-of (fields (header-form (extra two) .widths) (drop 4 b)) .buckets)) ≡ none)
+      unfolding verdict header-refusal
+      no-refusals = first-none (refusal-of (record-due (header-form (extra two)) b)) _ (sym e₁ ∙ rw q₁)
+
       no-refusal : refusal-of (record-due (header-form (extra two)) b) ≡ none
-      unfolding verdict
-      no-refusal = sym e₁ ∙ rw q₁
+      no-refusal = no-refusals .0
 
       -- and what a record that was read says holds of them
       header-took : RecordTook (header-form (extra two)) b (fields (header-form (extra two) .widths) (drop 4 b)) (4 + total (header-form (extra two) .widths))
@@ -206,8 +243,11 @@ module _ (b : List ℕ) (two : Bool) (t : two ≡ eqb (field-at 2 b 2) 8) where
         size-here : w ≡ 22 + 6 * extra two
         size-here = z ∙ ap (λ (i : Header). header-size i) header-here ∙ ap (λ (i : ℕ). 22 + 6 * i) (header-count (extra two) (drop 4 b))
 
-        header-read : header-parser b ≡ took h w
-        header-read = header-taken no-refusal ∙ rw (← header-here, ← size-here)
+        header-there : header-parser door b ≡ took h w
+        header-there = by-header door b h w (record {
+          read = header-taken no-refusal ∙ rw (← header-here, ← size-here);
+          drains = rw header-here (all-kept _ (no-refusals .1));
+        })
 
         pub front-room : w ≤ length b
         front-room = omega (arith, size-here, header-room)
@@ -220,9 +260,9 @@ module _ (b : List ℕ) (two : Bool) (t : two ≡ eqb (field-at 2 b 2) 8) where
         -- r₂ is the verdict on the rates' record
         module _ (r₂ : Verdict) (e₂ : verdict r₂ ≡ refusal-of (record-due (form-of (d.Rates (h .rates))) (take (length b - w) (drop w b)))) where
           -- its refusal is that of opening
-          pub second-refused : (n : ℕ) → r₂ ≡ v.Refused n → reading (r.Refused n) ≡ with-value header-in (parse b)
+          pub second-refused : (n : ℕ) → r₂ ≡ v.Refused n → reading (r.Refused n) ≡ with-value header-in (parse door b)
           unfolding form-of
-          second-refused n q = rates-refused b w h header-read n (stage-refused (d.Rates (h .rates)) b w r₂ e₂ n q)
+          second-refused n q = rates-refused door b w h header-there n (stage-refused (d.Rates (h .rates)) b w r₂ e₂ n q)
 
           -- without one the rates lie within the bytes
           pub rates-room : r₂ ≡ v.Fits → w + 4 + 2 * h .rates ≤ length b
@@ -230,8 +270,8 @@ module _ (b : List ℕ) (two : Bool) (t : two ≡ eqb (field-at 2 b 2) 8) where
           rates-room q = omega (arith, rw total-same at (stage-room (d.Rates (h .rates)) b w r₂ e₂ q front-room))
 
           -- and the units decide
-          pub then-units : r₂ ≡ v.Fits → with-value header-in (parse b) ≡ answering h (further (w + 4 + 2 * h .rates) (many (h .units) (unit-parser (h .choices)) (drop (w + 4 + 2 * h .rates) b)))
+          pub then-units : r₂ ≡ v.Fits → with-value header-in (parse door b) ≡ answering h (further (w + 4 + 2 * h .rates) (many (h .units) (unit-parser (h .choices)) (drop (w + 4 + 2 * h .rates) b)))
           unfolding form-of rates-form
           then-units q =
               let k : w + (4 + total (replicate (h .rates) 2)) ≡ w + 4 + 2 * h .rates = omega (arith, total-same (h .rates) 2) in
-              opened b w h header-read _ _ (stage-took (d.Rates (h .rates)) b w r₂ e₂ q) (fields-length _ _ ∙ length-replicate (h .rates) 2) ∙ rw k
+              opened door b w h header-there _ _ (stage-took (d.Rates (h .rates)) b w r₂ e₂ q) (fields-length _ _ ∙ length-replicate (h .rates) 2) ∙ rw k

@@ -1,16 +1,19 @@
 -- What the reader's structs and answers mean in the terms of the crates below, case by case.
+use mathlib.Core.Bool.{Bool}
+use Rattle.base.specs.Refusals.{first}
+use Rattle.format.specs.Limits.{broken}
 use Prim.Native.Nat.{ℕ, _≤_}
 use mathlib.Core.Option.{Option, none, some}
 use mathlib.Core.List.{List}
 use lib.Dec.{ltb}
 use lib.ListN.{length, drop}
 use Rattle.base.specs.If.{if_then_else_}
-use Rattle.format.specs.Fields.{total}
+use Rattle.format.specs.Fields.{total, fields}
 use Rattle.format.specs.Parser.{Result, refused, took, refusal-of}
-use Rattle.format.specs.Records.{Form, head-widths, head-limits, block, plain-form}
+use Rattle.format.specs.Records.{Form, head-widths, head-limits, block, plain-form, record-due}
 use Rattle.format.specs.JobBytes as format
-use Rattle.format.specs.JobBytes.{header-form, rates-form, unit-form}
-use Rattle.header.specs.Answers.{plain}
+use Rattle.format.specs.JobBytes.{header-form, rates-form, unit-form, Door, header-of, drain-limits}
+use Rattle.header.specs.Answers.{plain, extra}
 use Rattle.job.specs.declared.Due.{Due}
 use Rattle.job.specs.declared.Due.the-variants as d
 use Rattle.job.specs.declared.Reading.{Reading}
@@ -50,3 +53,7 @@ shape f b = first-of (refusal-of (block head-widths (head-limits f) b)) (if ltb 
 unfoldable pub answering : {A : Type 0} → format.Header → Result A → Result format.Header
 answering h (refused n) = refused n
 answering h (took a k) = took h k
+
+-- what refuses a header of one bucket or of two: its record, then its drains by the door
+unfoldable pub header-refusal : Door → Bool → List ℕ → Option ℕ
+header-refusal d two b = first (refusal-of (record-due (header-form (extra two)) b)) (broken (drain-limits d (header-of (fields (header-form (extra two) .widths) (drop 4 b)) .buckets)))

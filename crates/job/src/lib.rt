@@ -10,8 +10,9 @@ ghost use Rattle.format.specs.Parser.{further, many, refusal-of, with-value};
 ghost use Rattle.format.specs.Records.{head-limits, record-due, plain-form};
 ghost use Rattle.format.specs.JobBytes.{header-form, header-limits, rate-limits, coding-limits, codings, entry-widths, header-in, unit-parser, parse};
 ghost use Rattle.format.specs.Places.{field-at};
-ghost use Rattle.header.specs.Answers.{extra, plain, verdict};
-ghost use Rattle.job.specs.Answers.{form-of, Small, reading, shape, answering};
+ghost use Rattle.header.specs.Answers.{extra, plain, door-of, verdict};
+ghost use Rattle.job.specs.Answers.{header-refusal, form-of, Small, reading, shape, answering};
+use header::Door;
 use header::Header;
 use header::Verdict;
 
@@ -181,7 +182,7 @@ fn tells_two(job: &[u8]) -> bool
 }
 
 // The header's record, with one bucket or with two.
-fn header_verdict(job: &[u8], two: bool) -> Verdict
+fn header_record(job: &[u8], two: bool) -> Verdict
     ensures { λ r. ⌜ verdict r ≡ refusal-of (record-due (header-form (extra two)) (now (job .entry))) ⌝ }
 {
     if two {
@@ -191,12 +192,23 @@ fn header_verdict(job: &[u8], two: bool) -> Verdict
     }
 }
 
-// Opening: the header and how many bytes the job took, or the first refusal. Bytes behind the job are not looked at.
-pub fn read(job: &[u8]) -> Reading
-    ensures { λ r. ⌜ reading r ≡ with-value header-in (parse (now (job .entry))) ⌝ }
+// And its drains, by the door: before the next record is looked at.
+fn header_verdict(job: &[u8], two: bool, door: Door) -> Verdict
+    ensures { λ r. ⌜ verdict r ≡ header-refusal (door-of door) two (now (job .entry)) ⌝ }
+{
+    if let Verdict::Refused(n) = header_record(job, two) {
+        return Verdict::Refused(n);
+    }
+    let body = Header::HEAD;
+    Header::of(&job[body..], two).drains_verdict(door)
+}
+
+// Reading a job by either door: the header and how many bytes the job took, or the first refusal. Bytes behind the job are not looked at.
+pub fn read(job: &[u8], door: Door) -> Reading
+    ensures { λ r. ⌜ reading r ≡ with-value header-in (parse (door-of door) (now (job .entry))) ⌝ }
 {
     let two = tells_two(job);
-    if let Verdict::Refused(n) = header_verdict(job, two) {
+    if let Verdict::Refused(n) = header_verdict(job, two, door) {
         return Reading::Refused(n);
     }
     let body = Header::HEAD;

@@ -4,7 +4,8 @@ use Rattle.header.proofs.Verdicts.{never}
 use native.Mathlib.Omega.{arith}
 use mathlib.Core.Path.{sym, _∙_}
 use borrow.Author.Tests.{not-true, not-false}
-use Rattle.header.proofs.Verdicts.{field-out, all-in, all-fit, fit-all}
+use Rattle.header.proofs.Verdicts.{field-out, all-in}
+use Rattle.format.proofs.Limits.{all-fit, fit-all}
 use Rattle.header.proofs.Header.verdict.Statement.{statement}
 use Rattle.header.proofs.Header.verdict.Tie as tie
 
