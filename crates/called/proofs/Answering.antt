@@ -8,7 +8,7 @@ use borrow.Author.Tests.{lt-leb, le-leb}
 use Rattle.base.specs.Lent.{over, put}
 use Rattle.base.proofs.Refusals.{guarded-here, guarded-last}
 use Rattle.format.specs.Parser.{on-took}
-use Rattle.format.specs.JobBytes.{header-in, parse}
+use Rattle.format.specs.JobBytes.{header-in, Door, parse}
 use Rattle.header.specs.Answers.{plain}
 use Rattle.pinning.specs.PinSet.{PinSet, fresh}
 use Rattle.pinning.specs.Calls.{open-call}
@@ -28,26 +28,26 @@ use Rattle.exporting.specs.Exports.{number-of, opened, open-export, called, aft
 use Rattle.exporting.proofs.Rooms.{before, few, behind}
 
 -- opening
-module _ (job values : List ℕ) (r : Opened) (i : opening r ≡ open-call job) where
-  pub open-refused : (n : ℕ) → r .answer ≡ opens.Refused n → opened n values ≡ open-export job values
+module _ (d : Door) (job values : List ℕ) (r : Opened) (i : opening r ≡ open-call d job) where
+  pub open-refused : (n : ℕ) → r .answer ≡ opens.Refused n → opened n values ≡ open-export d job values
   unfolding open-export on-took opening-answer
-  open-refused n e = rw (not-open _ n (answer-is job r i ∙ ap opening-answer e) .0)
+  open-refused n e = rw (not-open _ n (answer-is d job r i ∙ ap opening-answer e) .0)
 
   module _ (k : ℕ) (e : r .answer ≡ opens.Took k) where
-    here : Open (parse job) k
+    here : Open (parse d job) k
     unfolding opening-answer
-    here = is-open (parse job) k (answer-is job r i ∙ ap opening-answer e)
+    here = is-open (parse d job) k (answer-is d job r i ∙ ap opening-answer e)
 
     -- the header that is handed back is the job's
     header-here : plain (r .set .header) ≡ header-in (here .job)
     unfolding set-of fresh
-    header-here = ap (λ (s : PinSet). s .header) (state-is job r i ∙ here .fresh-is)
+    header-here = ap (λ (s : PinSet). s .header) (state-is d job r i ∙ here .fresh-is)
 
-    pub open-12 : length values < 4 → opened 12 values ≡ open-export job values
+    pub open-12 : length values < 4 → opened 12 values ≡ open-export d job values
     unfolding open-export on-took
     open-12 l = rw (here .is) (sym (guarded-here (λ n. opened n values) _ _ _ (lt-leb 4 (length values) l)))
 
-    pub open-took : 4 ≤ length values → (new : List ℕ) → new ≡ over (opened-values k (plain (r .set .header))) values → opened 0 new ≡ open-export job values
+    pub open-took : 4 ≤ length values → (new : List ℕ) → new ≡ over (opened-values k (plain (r .set .header))) values → opened 0 new ≡ open-export d job values
     unfolding open-export on-took
     open-took l new w = rw (here .is, w, header-here) (sym (guarded-last (λ n. opened n values) _ _ (le-leb 4 (length values) l)))
 

@@ -1,7 +1,9 @@
 // Opening a job, and calls as numbers: what they come to as values in a list that is lent.
 ghost use mathlib.Core.Path.{_≡_};
+ghost use Rattle.header.specs.Answers.{door-of};
 ghost use Rattle.exporting.specs.Exports.{opened, open-export, called, calls-export};
 use calls::Called;
+use header::Door;
 use header::Verdict;
 use pins::Opening;
 use values::DONE;
@@ -12,11 +14,11 @@ const OPEN_VALUES: usize = 4;
 
 const CALLS_VALUES: usize = 3;
 
-// Opens a job. Values: how many bytes it took, N, T, and how many words its table has.
-pub fn open(job: &[u8], values: &mut [u64]) -> u32
-    ensures { λ r. ⌜ opened r (now (values .exit)) ≡ open-export (now (job .entry)) (now (values .entry)) ⌝ }
+// Opens a job by a door. Values: how many bytes it took, N, T, and how many words its table has.
+pub fn open(job: &[u8], door: Door, values: &mut [u64]) -> u32
+    ensures { λ r. ⌜ opened r (now (values .exit)) ≡ open-export (door-of door) (now (job .entry)) (now (values .entry)) ⌝ }
 {
-    let open = pins::open(job);
+    let open = pins::open(job, door);
     let answer = open.answer;
     let set = open.set;
     match answer {

@@ -13,8 +13,9 @@ use Rattle.base.proofs.Refusals.{refusal-here, refusal-last, refusal-none, refu
 use Rattle.model.specs.Job.{Job}
 use Rattle.format.specs.Parser.{refusal-in}
 use Rattle.format.specs.Parser as P
-use Rattle.format.specs.JobBytes.{Header, job-in, parse, Opens}
+use Rattle.format.specs.JobBytes.{Header, Door, opening, job-in, parse}
 use Rattle.format.proofs.Parsing.{passed}
+use Rattle.job.proofs.Answers.{Passes}
 use Rattle.pinset.specs.declared.PinSet as code-set
 use Rattle.pinset.specs.Answers.{set-of}
 use Rattle.calling.specs.Commands.{calls-tests}
@@ -23,18 +24,18 @@ use Rattle.calling.proofs.Sessions.{calls-by}
 use Rattle.calls.specs.Answers.{Made}
 
 -- tests of what is asked, as of the calls, and others behind them, which know the job
-module _ (b : List ℕ) (asked : List Test) (more : Job → List Test) where
+module _ (d : Door) (b : List ℕ) (asked : List Test) (more : Job → List Test) where
   abbrev whole : Option ℕ
-  whole = refusal-in (parse b) (λ j. asked ++ more j)
+  whole = refusal-in (parse d b) (λ j. asked ++ more j)
 
-  pub not-read : (n : ℕ) → parse b ≡ P.refused n → some n ≡ whole
+  pub not-read : (n : ℕ) → parse d b ≡ P.refused n → some n ≡ whole
   unfolding refusal-in
   not-read n e = rw e
 
-  module _ (h : Header) (o : Opens b h) where
+  module _ (k : ℕ) (took : parse d b ≡ P.took (job-in b) k) where
     looked : whole ≡ first (refusal asked) (refusal (more (job-in b)))
     unfolding refusal-in
-    looked = rw (o .parsed) (refusal-join asked (more (job-in b)))
+    looked = rw took (refusal-join asked (more (job-in b)))
 
     pub by-asked : (n : ℕ) → some n ≡ refusal asked → some n ≡ whole
     by-asked n e = sym (looked ∙ unless-some some (refusal asked) n _ (sym e))
@@ -47,19 +48,19 @@ module _ (b calls : List ℕ) (answers : ℕ) where
   abbrev few : Test
   few = test 12 (leb (length calls / 3) answers)
 
-  pub calls-not-read : (n : ℕ) → parse b ≡ P.refused n → some n ≡ calls-refusal b calls answers
+  pub calls-not-read : (n : ℕ) → parse opening b ≡ P.refused n → some n ≡ calls-refusal b calls answers
   unfolding calls-refusal answers-tests
-  calls-not-read = not-read b (calls-tests calls) (λ j. few ∷ [])
+  calls-not-read = not-read opening b (calls-tests calls) (λ j. few ∷ [])
 
-  module _ (h : Header) (o : Opens b h) where
+  module _ (h : Header) (p : Passes opening b h) where
     pub calls-not-due : (n : ℕ) → some n ≡ refusal (calls-tests calls) → some n ≡ calls-refusal b calls answers
     unfolding calls-refusal answers-tests
-    calls-not-due = by-asked b (calls-tests calls) (λ j. few ∷ []) h o
+    calls-not-due = by-asked opening b (calls-tests calls) (λ j. few ∷ []) (p .taken) (p .took)
 
     module _ (f : none ≡ refusal (calls-tests calls)) where
       on : calls-refusal b calls answers ≡ refusal (few ∷ [])
       unfolding calls-refusal answers-tests
-      on = behind-asked b (calls-tests calls) (λ j. few ∷ []) h o f
+      on = behind-asked opening b (calls-tests calls) (λ j. few ∷ []) (p .taken) (p .took) f
 
       pub calls-12 : answers < length calls / 3 → some 12 ≡ calls-refusal b calls answers
       calls-12 l = sym (on ∙ refusal-here few [] (lt-leb (length calls / 3) answers l))
@@ -72,7 +73,7 @@ module _ (b calls : List ℕ) (answers : ℕ) where
 pub calls-room : (b calls : List ℕ) (answers : ℕ) → none ≡ calls-refusal b calls answers → length calls / 3 ≤ answers
 unfolding calls-refusal answers-tests
 calls-room b calls answers e =
-    let p = passed (parse b) (λ j. calls-tests calls ++ (few b calls answers ∷ [])) (sym e) in
+    let p = passed (parse opening b) (λ j. calls-tests calls ++ (few b calls answers ∷ [])) (sym e) in
     leb-true (length calls / 3) answers (refusal-none _ [] (first-none (refusal (calls-tests calls)) _ (sym (refusal-join (calls-tests calls) (few b calls answers ∷ [])) ∙ p .none-refuses) .1) .0)
 
 module _ (b calls answers : List ℕ) where

@@ -8,6 +8,7 @@ use native.Mathlib.Omega.{arith}
 use lib.ListN.{length, getD, drop, set, length-append, length-set, length-map}
 use lib.Seq.{drop-cons, set-at}
 use Rattle.model.specs.Pins.{Call}
+use Rattle.format.specs.JobBytes.{Door, opening}
 use Rattle.pinning.specs.PinSet.{PinSet}
 use Rattle.pinning.specs.Calls.{Handed, call, open-call, CallsMade, after, run}
 use Rattle.pinset.specs.declared.PinSet as code-set
@@ -37,17 +38,17 @@ module _ (calls : List ℕ) where
   unfolding calls-from
   left-more i h = let e : length calls / 3 - i ≡ suc (length calls / 3 - suc i) = omega arith in rw e
 
--- i calls are made, with the set s after them and the answers done
-module _ (b calls : List ℕ) where
+-- i calls are made from a set on, with the set s after them and the answers done
+module _ (b calls : List ℕ) (from : PinSet) where
   pub record Ran (i : ℕ) (s : PinSet) (done : List (Option ℕ)) : Type 0 where
     pub count : length done ≡ i
-    pub rest : run b (open-call b .set) (calls-of calls) ≡ behind done (run b s (left calls i))
+    pub rest : run b from (calls-of calls) ≡ behind done (run b s (left calls i))
 
-  pub ran-start : (s : PinSet) → s ≡ open-call b .set → Ran 0 s []
+  pub ran-start : Ran 0 from []
   unfolding behind calls-of
-  ran-start s e =
+  ran-start =
       let n : length calls / 3 - 0 ≡ length calls / 3 = omega arith in
-      record { count = refl; rest = rw (e, n) }
+      record { count = refl; rest = rw n }
 
   -- one call more, taken or refused
   pub ran-on : (i : ℕ) (s : PinSet) (done : List (Option ℕ)) → Ran i s done → i < length calls / 3 → (r : Handed) → r ≡ call b s (call-at calls i) → Ran (i + 1) (r .set) (done ++ (r .refused ∷ []))
@@ -58,23 +59,24 @@ module _ (b calls : List ℕ) where
         rest = g .rest ∙ rw (left-more calls i h, ← e) (ap (λ (os : List (Option ℕ)). record { answers = os; set = run b (r .set) (left calls (suc i)) .set }) (sym (append-assoc done (r .refused ∷ []) (run b (r .set) (left calls (suc i)) .answers))));
       })
 
-  -- all calls are made
-  pub ran-end : (i : ℕ) (s : PinSet) (done : List (Option ℕ)) → Ran i s done → i ≡ length calls / 3 → run b (open-call b .set) (calls-of calls) ≡ record { answers = done; set = s }
-  unfolding run behind calls-from
-  ran-end i s done g q = let n : length calls / 3 - i ≡ 0 = omega arith in rw append-nil at (rw n at (g .rest))
+  -- all calls are made, and the set that they were made from is a door's
+  module _ (d : Door) (is : from ≡ open-call d b .set) where
+    pub ran-end : (i : ℕ) (s : PinSet) (done : List (Option ℕ)) → Ran i s done → i ≡ length calls / 3 → made d b calls ≡ record { answers = done; set = s }
+    unfolding made run behind calls-from
+    ran-end i s done g q = let n : length calls / 3 - i ≡ 0 = omega arith in rw (← is) (rw append-nil at (rw n at (g .rest)))
 
 -- and their numbers are written
-module _ (b calls answers₀ : List ℕ) where
+module _ (b calls answers₀ : List ℕ) (from : PinSet) where
   pub record Going (i : ℕ) (s : PinSet) (answers : List ℕ) : Type 0 where
     pub done : List (Option ℕ)
-    pub ran : Ran b calls i s done
+    pub ran : Ran b calls from i s done
     pub list : answers ≡ map answer-number done ++ drop i answers₀
     pub size : length answers ≡ length answers₀
 
-  pub going-start : (s : PinSet) → Ran b calls 0 s [] → Going 0 s answers₀
-  going-start s r = record { done = []; ran = r; list = refl; size = refl }
+  pub going-start : Going 0 from answers₀
+  going-start = record { done = []; ran = ran-start b calls from; list = refl; size = refl }
 
-  pub going-on : (i : ℕ) (s : PinSet) (answers : List ℕ) (g : Going i s answers) → i < length answers₀ → (r : Handed) → Ran b calls (i + 1) (r .set) (g .done ++ (r .refused ∷ [])) → (x : ℕ) → x ≡ answer-number (r .refused) → Going (i + 1) (r .set) (set answers i x)
+  pub going-on : (i : ℕ) (s : PinSet) (answers : List ℕ) (g : Going i s answers) → i < length answers₀ → (r : Handed) → Ran b calls from (i + 1) (r .set) (g .done ++ (r .refused ∷ [])) → (x : ℕ) → x ≡ answer-number (r .refused) → Going (i + 1) (r .set) (set answers i x)
   going-on i s answers g room r n x q = record {
     done = g .done ++ (r .refused ∷ []);
     ran = n;
@@ -82,10 +84,10 @@ module _ (b calls answers₀ : List ℕ) where
     size = simp length-set (g .size);
   }
 
-  pub going-end : (i : ℕ) (s : code-set.PinSet) (answers : List ℕ) → Going i (set-of s) answers → i ≡ length calls / 3 → Made b calls answers₀ s answers
-  unfolding over made numbers
-  going-end i s answers g q =
-      let e = ran-end b calls i (set-of s) (g .done) (g .ran) q in
+  pub going-end : from ≡ open-call opening b .set → (i : ℕ) (s : code-set.PinSet) (answers : List ℕ) → Going i (set-of s) answers → i ≡ length calls / 3 → Made b calls answers₀ s answers
+  unfolding over numbers
+  going-end is i s answers g q =
+      let e = ran-end b calls from opening is i (set-of s) (g .done) (g .ran) q in
       record {
         set-is = sym (ap (λ (r : CallsMade). r .set) e);
         written = rw (e, length-map (g .done) answer-number, g .ran .count) (g .list);

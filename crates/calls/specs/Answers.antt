@@ -5,6 +5,7 @@ use mathlib.Core.List.{List}
 use Rattle.base.specs.Answer.{Answer, refused, gives}
 use Rattle.base.specs.Lent.{Ended, over}
 use Rattle.model.specs.Pins.{PinTotals}
+use Rattle.format.specs.JobBytes.{opening}
 use Rattle.pinset.specs.declared.PinSet as code-set
 use Rattle.pinset.specs.Answers.{set-of}
 use Rattle.calling.specs.Sessions.{made, numbers}
@@ -21,5 +22,5 @@ called x answers = record { answer = called-answer x; list = answers }
 
 -- the calls' numbers are written over the first of the answers, and the set is the last that was handed back
 pub record Made (b calls old : List ℕ) (s : code-set.PinSet) (new : List ℕ) : Type 0 where
-  pub set-is : set-of s ≡ made b calls .set
+  pub set-is : set-of s ≡ made opening b calls .set
   pub written : new ≡ over (numbers b calls) old

@@ -6,10 +6,11 @@ ghost use Rattle.base.specs.Refusals.{refusal};
 ghost use Rattle.pinning.specs.Calls.{call};
 ghost use Rattle.pinset.specs.Answers.{set-of};
 ghost use Rattle.pins.specs.Answers.{number, handed};
-ghost use Rattle.header.specs.Answers.{verdict};
+ghost use Rattle.header.specs.Answers.{verdict, door-of};
 ghost use Rattle.calling.specs.Commands.{kind-fits, call-at, calls-tests};
 ghost use Rattle.calling.specs.Sessions.{made, answer-number, calls-refusal, calls-call};
 ghost use Rattle.calls.specs.Answers.{called, Made};
+use header::Door;
 use header::Verdict;
 use job::Reading;
 use pins::Answer;
@@ -92,7 +93,7 @@ pub fn put_numbers(job: &[u8], calls: &[u16], answers: &mut [u8]) -> PinSet
     ensures { λ r. ⌜ Made (now (job .entry)) (now (calls .entry)) (now (answers .entry)) r (now (answers .exit)) ⌝ }
 {
     let count = calls.len() / NUMBERS;
-    let opened = pins::open(job);
+    let opened = pins::open(job, Door::Opening);
     let mut set = opened.set;
     for place in 0..count {
         let made = make_call(job, set, calls, place);
@@ -103,12 +104,12 @@ pub fn put_numbers(job: &[u8], calls: &[u16], answers: &mut [u8]) -> PinSet
     set
 }
 
-// The set after calls as numbers, refused ones included.
-pub fn set_after(job: &[u8], calls: &[u16]) -> PinSet
-    ensures { λ r. ⌜ set-of r ≡ made (now (job .entry)) (now (calls .entry)) .set ⌝ }
+// The set after calls as numbers, refused ones included, from the set that opening by the door answers.
+pub fn set_after(job: &[u8], calls: &[u16], door: Door) -> PinSet
+    ensures { λ r. ⌜ set-of r ≡ made (door-of door) (now (job .entry)) (now (calls .entry)) .set ⌝ }
 {
     let count = calls.len() / NUMBERS;
-    let opened = pins::open(job);
+    let opened = pins::open(job, door);
     let mut set = opened.set;
     for place in 0..count {
         let handed = make_call(job, set, calls, place);
@@ -117,11 +118,11 @@ pub fn set_after(job: &[u8], calls: &[u16]) -> PinSet
     set
 }
 
-// What refuses calls alone, before one is made, where there is room for so many numbers: the job, 1 to 5, the calls, 2 or 1, then 12.
+// What refuses calls alone, before one is made, where there is room for so many numbers: the job, 1 to 5 and 17, the calls, 2 or 1, then 12.
 pub fn calls_refusal(job: &[u8], calls: &[u16], answers: usize) -> Verdict
     ensures { λ r. ⌜ verdict r ≡ calls-refusal (now (job .entry)) (now (calls .entry)) answers ⌝ }
 {
-    match job::read(job) {
+    match job::read(job, Door::Opening) {
         Reading::Refused(n) => Verdict::Refused(n),
         Reading::Read {
             header: _,

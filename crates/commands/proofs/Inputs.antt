@@ -7,7 +7,7 @@ use lib.ListN.{length, drop}
 use Rattle.base.specs.Refusals.{unless}
 use Rattle.base.proofs.Refusals.{guarded-here, guarded-last, unless-some, unless-none}
 use Rattle.format.specs.Parser.{on-took}
-use Rattle.format.specs.JobBytes.{parse}
+use Rattle.format.specs.JobBytes.{opening, parse}
 use Rattle.format.proofs.Places.{read-within}
 use Rattle.pinning.specs.Calls.{open-call, refuse}
 use Rattle.pins.specs.declared.Opened.{Opened}
@@ -15,7 +15,8 @@ use Rattle.pins.specs.declared.Opening.the-variants as o
 use Rattle.pins.specs.declared.Handed as pins
 use Rattle.pins.specs.declared.Answer.the-variants as a
 use Rattle.pinset.specs.Answers.{set-of}
-use Rattle.pins.specs.Answers.{opening-answer, opening, number, handed}
+use Rattle.pins.specs.Answers as told
+use Rattle.pins.specs.Answers.{opening-answer, number, handed}
 use Rattle.pins.proofs.Opens.{Open, is-open, not-open, answer-is, state-is}
 use Rattle.model.specs.Best.{late, total}
 use Rattle.planning.specs.Calls.{Planned, plan-call}
@@ -24,24 +25,24 @@ use Rattle.calling.specs.Commands.{follow, commands-call}
 use Rattle.calling.specs.Sessions.{input-size, input-call}
 
 -- x is the answer of opening
-module _ (b : List ℕ) (x : Opened) (e : opening x ≡ open-call b) where
+module _ (b : List ℕ) (x : Opened) (e : told.opening x ≡ open-call opening b) where
   pub no-job : (n : ℕ) → x .answer ≡ o.Refused n → handed (record { answer = a.Refused n; set = x .set }) ≡ commands-call b
   unfolding opening-answer handed number commands-call on-took refuse
   no-job n q =
-      let r = not-open (parse b) n (answer-is b x e ∙ ap opening-answer q) in
-      rw (state-is b x e ∙ r .1, r .0)
+      let r = not-open (parse opening b) n (answer-is opening b x e ∙ ap opening-answer q) in
+      rw (state-is opening b x e ∙ r .1, r .0)
 
   module _ (k : ℕ) (q : x .answer ≡ o.Took k) where
-    open-at : Open (parse b) k
+    open-at : Open (parse opening b) k
     unfolding opening-answer
-    open-at = is-open (parse b) k (answer-is b x e ∙ ap opening-answer q)
+    open-at = is-open (parse opening b) k (answer-is opening b x e ∙ ap opening-answer q)
 
     pub job-within : k ≤ length b
-    job-within = read-within b (open-at .job) k (open-at .is)
+    job-within = read-within opening b (open-at .job) k (open-at .is)
 
     pub then-commands : follow (length b) b (set-of (x .set)) (drop k b) ≡ commands-call b
     unfolding commands-call on-took
-    then-commands = rw (state-is b x e ∙ open-at .fresh-is, open-at .is)
+    then-commands = rw (state-is opening b x e ∙ open-at .fresh-is, open-at .is)
 
 module _ (b table entries : List ℕ) where
   abbrev work : Planned

@@ -11,6 +11,7 @@ ghost use Rattle.calling.specs.Commands.{command, follow, commands-call};
 ghost use Rattle.calling.specs.Sessions.{input-call};
 ghost use Rattle.commands.specs.Answers.{command-is, step-is, carries-out};
 use best::Order;
+use header::Door;
 use header::Verdict;
 use pins::Answer;
 use pins::Handed;
@@ -136,7 +137,7 @@ fn follow(job: &[u8], fresh: PinSet, from: usize) -> Handed
 pub fn take_commands(input: &[u8]) -> Handed
     ensures { λ r. ⌜ handed r ≡ commands-call (now (input .entry)) ⌝ }
 {
-    let opened = pins::open(input);
+    let opened = pins::open(input, Door::Opening);
     let answer = opened.answer;
     let set = opened.set;
     match answer {

@@ -9,6 +9,7 @@ ghost use Rattle.format.specs.Places.{job-size};
 ghost use Rattle.header.specs.Answers.{plain, verdict};
 ghost use Rattle.writing.specs.Lists.{codings-from};
 ghost use Rattle.writing.specs.Calls.{length-limits, write-limits, write-refusal};
+use header::Door;
 use header::Header;
 use header::Verdict;
 
@@ -57,11 +58,14 @@ fn codings_verdict(sizes: &[u16], distortions: &[u32]) -> Verdict
     Verdict::Fits
 }
 
-// All limits in document 02's order: 3, 16, 4, 5.
+// All limits in document 02's order: 3, 17, 16, 4, 5.
 fn lists_verdict(header: Header, rates: &[u16], sizes: &[u16], distortions: &[u32]) -> Verdict
     ensures { λ r. ⌜ verdict r ≡ broken (write-limits (plain header) (now (rates .entry)) (now (sizes .entry)) (now (distortions .entry))) ⌝ }
 {
     if let Verdict::Refused(n) = header.verdict() {
+        return Verdict::Refused(n);
+    }
+    if let Verdict::Refused(n) = header.drains_verdict(Door::Opening) {
         return Verdict::Refused(n);
     }
     if let Verdict::Refused(n) = lengths_verdict(header, rates, sizes, distortions) {
@@ -83,7 +87,7 @@ pub fn job_size(header: Header) -> usize
     front + Header::HEAD + 2 * (header.rates as usize) + units
 }
 
-// What refuses a job to be written to so many bytes: 3, 16, 4 and 5, then 12.
+// What refuses a job to be written to so many bytes: 3, 17, 16, 4 and 5, then 12.
 pub fn write_refusal(
     header: Header,
     rates: &[u16],

@@ -19,7 +19,7 @@ use Rattle.model.specs.Replay.{Totals, totals, Result, clean, stopped, replay}
 use Rattle.model.specs.Best.{Order, least-total, Aim, open-for}
 use Rattle.format.specs.Parser as P
 use Rattle.format.specs.Parser.{on-read}
-use Rattle.format.specs.JobBytes.{parse}
+use Rattle.format.specs.JobBytes.{Door, opening, archive, parse}
 use Rattle.format.proofs.Places.{well-read}
 use Rattle.format.proofs.Opened.{held-job}
 use Rattle.pinning.specs.PinSet.{PinSet, lines}
@@ -45,10 +45,10 @@ no-count : (n m : ℕ) → Counts n (refused m)
 no-count n m t e = absurd (not-refused (sym e))
 
 -- a job that the set matches was read
-was-read : (b : List ℕ) (s : PinSet) (q : P.Result Job) (j : Job) (k : ℕ) → parse b ≡ q → accept s q ≡ P.took j k → parse b ≡ P.took j k
+was-read : (d : Door) (b : List ℕ) (s : PinSet) (q : P.Result Job) (j : Job) (k : ℕ) → parse d b ≡ q → accept s q ≡ P.took j k → parse d b ≡ P.took j k
 unfolding accept
-was-read b s (P.refused n) j k e a = absurd (let z : _≡_ {A = ℕ} 0 1 = cc in omega arith)
-was-read b s (P.took i m) j k e a = e ∙ go (fits _ _ s) a
+was-read d b s (P.refused n) j k e a = absurd (let z : _≡_ {A = ℕ} 0 1 = cc in omega arith)
+was-read d b s (P.took i m) j k e a = e ∙ go (fits _ _ s) a
   where
     go : (t : Bool) → (if t then P.took i m else P.refused 6) ≡ P.took j k → P.took i m ≡ P.took j k
     go true a = unfold if_then_else_ in a
@@ -67,8 +67,8 @@ unfolding on-read
 read-all Q refuse (P.refused n) f h g = h n
 read-all Q refuse (P.took a k) f h g = g a k refl
 
-of-job : (b : List ℕ) (j : Job) (k : ℕ) → parse b ≡ P.took j k → length (j .line .buckets) ≡ buckets-in b
-of-job b j k e = sym (ap (λ (i : Job). length (i .line .buckets)) (held-job b j k e))
+of-job : (d : Door) (b : List ℕ) (j : Job) (k : ℕ) → parse d b ≡ P.took j k → length (j .line .buckets) ≡ buckets-in b
+of-job d b j k e = sym (ap (λ (i : Job). length (i .line .buckets)) (held-job d b j k e))
 
 -- of planning
 search-counts : (j : Job) (m : PinMap) (a : Aim) (o : Order) (table entries : List ℕ) → length (j .start .buckets) ≡ length (j .line .buckets) → Counts (length (j .line .buckets)) (search-in j m a o 0 (j .start) table entries .answer)
@@ -83,17 +83,17 @@ module _ (b : List ℕ) where
   plan-counts : (set : PinSet) (a : Aim) (o : Order) (table entries : List ℕ) → Counts (buckets-in b) (plan-call b set a o table entries .answer)
   unfolding plan-call plan-in p.refuse checked
   plan-counts set a o table entries =
-      read-all (λ (x : p.Planned). Counts (buckets-in b) (x .answer)) (p.refuse table entries) (checked b set) _ (λ n. no-count _ n)
+      read-all (λ (x : p.Planned). Counts (buckets-in b) (x .answer)) (p.refuse table entries) (checked opening b set) _ (λ n. no-count _ n)
       (λ j k e.
-      let q : parse b ≡ P.took j k = was-read b set (parse b) j k refl e in
+      let q : parse opening b ≡ P.took j k = was-read opening b set (parse opening b) j k refl e in
       guarded-all (λ (x : p.Planned). Counts (buckets-in b) (x .answer)) (p.refuse table entries) _ _ (λ n. no-count _ n)
-      (subst (λ (n : ℕ). Counts n (search-in j (lines (length (j .units)) (set .pins)) a o 0 (j .start) table entries .answer)) (of-job b j k q) (search-counts j _ a o table entries (well-read b j k q .fills))))
+      (subst (λ (n : ℕ). Counts n (search-in j (lines (length (j .units)) (set .pins)) a o 0 (j .start) table entries .answer)) (of-job opening b j k q) (search-counts j _ a o table entries (well-read opening b j k q .well-formed .fills))))
 
   pub session-counts : (calls : List ℕ) (aim order : ℕ) (answers table entries : List ℕ) → Counts (buckets-in b) (session-call b calls aim order answers table entries .planned .answer)
   unfolding session-call planned-after s.refuse p.refuse
   session-counts calls aim order answers table entries =
-      read-all (λ (x : s.Session). Counts (buckets-in b) (x .planned .answer)) (s.refuse answers table entries) (parse b) _ (λ n. no-count _ n)
-      (λ j k e. guarded-all (λ (x : s.Session). Counts (buckets-in b) (x .planned .answer)) (s.refuse answers table entries) _ _ (λ n. no-count _ n) (plan-counts (made b calls .set) (aim-named aim) (order-named order) table entries))
+      read-all (λ (x : s.Session). Counts (buckets-in b) (x .planned .answer)) (s.refuse answers table entries) (parse opening b) _ (λ n. no-count _ n)
+      (λ j k e. guarded-all (λ (x : s.Session). Counts (buckets-in b) (x .planned .answer)) (s.refuse answers table entries) _ _ (λ n. no-count _ n) (plan-counts (made opening b calls .set) (aim-named aim) (order-named order) table entries))
 
   -- of a replay
   abbrev pub ReplayCounts : Answer Replayed → Type 0
@@ -116,9 +116,9 @@ module _ (b : List ℕ) where
   pub replay-counts : (calls entries levels : List ℕ) → ReplayCounts (replay-session b calls entries levels .answer)
   unfolding replay-session replay-call lent.refuse checked
   replay-counts calls entries levels =
-      read-all (λ (x : lent.Ended Replayed). ReplayCounts (x .answer)) (lent.refuse levels) (parse b) _ no-replay
+      read-all (λ (x : lent.Ended Replayed). ReplayCounts (x .answer)) (lent.refuse levels) (parse archive b) _ no-replay
       (λ j k e. guarded-all (λ (x : lent.Ended Replayed). ReplayCounts (x .answer)) (lent.refuse levels) _ _ no-replay
-      (read-all (λ (x : lent.Ended Replayed). ReplayCounts (x .answer)) (lent.refuse levels) (checked b (made b calls .set)) _ no-replay
+      (read-all (λ (x : lent.Ended Replayed). ReplayCounts (x .answer)) (lent.refuse levels) (checked archive b (made archive b calls .set)) _ no-replay
       (λ i m f.
-      let q : parse b ≡ P.took i m = was-read b (made b calls .set) (parse b) i m refl f in
-      guarded-all (λ (x : lent.Ended Replayed). ReplayCounts (x .answer)) (lent.refuse levels) _ _ no-replay (played-counts i _ entries levels (of-job b i m q) (well-read b i m q .fills)))))
+      let q : parse archive b ≡ P.took i m = was-read archive b (made archive b calls .set) (parse archive b) i m refl f in
+      guarded-all (λ (x : lent.Ended Replayed). ReplayCounts (x .answer)) (lent.refuse levels) _ _ no-replay (played-counts i _ entries levels (of-job archive b i m q) (well-read archive b i m q .well-formed .fills)))))

@@ -19,12 +19,13 @@ use Rattle.model.specs.Replay.{Totals}
 use Rattle.model.specs.Table.{words}
 use Rattle.format.specs.Parser.{Looks, on-read, on-took, refusal-in}
 use Rattle.format.specs.Parser as P
-use Rattle.format.specs.JobBytes.{Header, header-of, header-in, parse}
+use Rattle.format.specs.JobBytes as format
+use Rattle.format.specs.JobBytes.{Header, header-of, header-in, Door, archive, parse}
 use Rattle.format.proofs.Parsing.{looks-read, read-refusal, refusal-in-join}
 use Rattle.format.proofs.Opened.{opens-by, held-job}
 use Rattle.table.specs.Answers.{table-words}
 use Rattle.table.proofs.Words.{words-are}
-use Rattle.replaying.specs.Calls.{report-call, replay-tests}
+use Rattle.replaying.specs.Calls.{Replayed, totals-are, violated, report-call, replay-tests}
 use Rattle.replaying.proofs.Reports.{replay-decides, reports}
 use Rattle.replaying.specs.Former.{turn-call}
 use Rattle.replaying.proofs.Former.{turns}
@@ -35,15 +36,15 @@ use Rattle.writing.proofs.Refusals.{refusal-order, done-first}
 use Rattle.writing.proofs.Writes.{writes}
 use Rattle.calling.specs.Commands.{calls-tests}
 use Rattle.calling.specs.Sessions.{answers-tests, calls-refusal, calls-call, Session, session-tests, plan-refusal, session-call, replay-refusal, replay-session}
-use Rattle.calling.specs.Claims.{book-numbers, book-pins, SessionClaim}
+use Rattle.calling.specs.Claims.{book-numbers, book-pins, archive-pins, SessionClaim}
 use Rattle.calling.proofs.Numbers.{calls-decide}
 use Rattle.calling.proofs.Sessions.{call-sessions, session-decides, sessions, replay-sessions}
-use Rattle.values.specs.Lists.{buckets-in, opened-values, pins-list, totals-list}
+use Rattle.values.specs.Lists.{buckets-in, opened-values, pins-list, totals-list, replayed-list}
 use Rattle.exporting.proofs.Fields.{is-header, no-header}
 use Rattle.exporting.specs.Exports as x
 use Rattle.exporting.specs.Exports.{number-of, room-for, opened, open-export, called, after-calls, calls-export, planned, after-session, plan-export, replayed, after-replay, replay-export, filled, done-export, report-export, turn-export, written, after-write, write-export}
 use Rattle.exporting.specs.Claims.{CallConditions, Opening, Calling, Planning, PlanConditions, Plans, Replaying, ReplayConditions, Replays, Reporting, Reports, Turning, Turns, Writing, Writes}
-use Rattle.replaying.specs.Claims.{InShape, Reported, WasPlan, Turned}
+use Rattle.replaying.specs.Claims.{InShape, DemandTwo, Reported, WasPlan, Turned}
 use Rattle.replaying.specs.Entries.{plan-of}
 
 -- room for so many values
@@ -51,28 +52,28 @@ room-decides : (least : ℕ) (values : List ℕ) → Decides (room-for least val
 room-decides least values = one-more refl (leb-true least (length values), le-leb least (length values)) no-more
 
 -- a call whose refusal is found first, then room for its values
-module _ {R : Type 0} (refuse : ℕ → R) (b : List ℕ) (tests : Job → List Test) (least : ℕ) (values : List ℕ) (work : R) where
+module _ {R : Type 0} (refuse : ℕ → R) (d : Door) (b : List ℕ) (tests : Job → List Test) (least : ℕ) (values : List ℕ) (work : R) where
   abbrev whole : R
-  whole = unless refuse (first (refusal-in (parse b) tests) (refusal (room-for least values))) work
+  whole = unless refuse (first (refusal-in (parse d b) tests) (refusal (room-for least values))) work
 
-  all-tests : whole ≡ on-read refuse (parse b) (λ j. guarded refuse (tests j ++ room-for least values) work)
-  all-tests = ap (λ (o : Option ℕ). unless refuse o work) (refusal-in-join (parse b) tests (room-for least values)) ∙ read-refusal refuse (parse b) (λ j. tests j ++ room-for least values) work
+  all-tests : whole ≡ on-read refuse (parse d b) (λ j. guarded refuse (tests j ++ room-for least values) work)
+  all-tests = ap (λ (o : Option ℕ). unless refuse o work) (refusal-in-join (parse d b) tests (room-for least values)) ∙ read-refusal refuse (parse d b) (λ j. tests j ++ room-for least values) work
 
-  looks : (conditions : Job → List Condition) (Else : Job → R → Type 0) → ((j : Job) (k : ℕ) → parse b ≡ P.took j k → Decides (tests j) (conditions j) × (AllHold (conditions j ++ (condition 12 (least ≤ length values) ∷ [])) → Else j work)) → Looks whole refuse (parse b) (λ j. conditions j ++ (condition 12 (least ≤ length values) ∷ [])) (λ j. Else j whole)
+  looks : (conditions : Job → List Condition) (Else : Job → R → Type 0) → ((j : Job) (k : ℕ) → parse d b ≡ P.took j k → Decides (tests j) (conditions j) × (AllHold (conditions j ++ (condition 12 (least ≤ length values) ∷ [])) → Else j work)) → Looks whole refuse (parse d b) (λ j. conditions j ++ (condition 12 (least ≤ length values) ∷ [])) (λ j. Else j whole)
   looks conditions Else f =
       rw all-tests
-      (looks-read refuse (parse b) (λ j. tests j ++ room-for least values) (λ j. conditions j ++ (condition 12 (least ≤ length values) ∷ [])) (λ j. work) Else
+      (looks-read refuse (parse d b) (λ j. tests j ++ room-for least values) (λ j. conditions j ++ (condition 12 (least ≤ length values) ∷ [])) (λ j. work) Else
       (λ j k e. let h = f j k e in (decides-join (h .0) (room-decides least values), h .1)))
 
 -- the same with the room said of the job that was read
-of-job : {R : Type 0} (r : R) (refuse : ℕ → R) (b : List ℕ) (conditions : Job → List Condition) (values : List ℕ) (Else : Job → Type 0) (least : ℕ) (most : Job → ℕ) → ((j : Job) (k : ℕ) → parse b ≡ P.took j k → least ≡ most j) → Looks r refuse (parse b) (λ j. conditions j ++ (condition 12 (least ≤ length values) ∷ [])) Else → Looks r refuse (parse b) (λ j. conditions j ++ (condition 12 (most j ≤ length values) ∷ [])) Else
-of-job r refuse b conditions values Else least most q l = (
+of-job : {R : Type 0} (r : R) (refuse : ℕ → R) (d : Door) (b : List ℕ) (conditions : Job → List Condition) (values : List ℕ) (Else : Job → Type 0) (least : ℕ) (most : Job → ℕ) → ((j : Job) (k : ℕ) → parse d b ≡ P.took j k → least ≡ most j) → Looks r refuse (parse d b) (λ j. conditions j ++ (condition 12 (least ≤ length values) ∷ [])) Else → Looks r refuse (parse d b) (λ j. conditions j ++ (condition 12 (most j ≤ length values) ∷ [])) Else
+of-job r refuse d b conditions values Else least most q l = (
   l .0,
   λ j k e. subst (λ (n : ℕ). InOrder r refuse (conditions j ++ (condition 12 (n ≤ length values) ∷ [])) (Else j)) (q j k e) (l .1 j k e),
 )
 
-counted : (b : List ℕ) (j : Job) (k : ℕ) → parse b ≡ P.took j k → buckets-in b ≡ length (j .line .buckets)
-counted b j k e = ap (λ (i : Job). length (i .line .buckets)) (held-job b j k e)
+counted : (d : Door) (b : List ℕ) (j : Job) (k : ℕ) → parse d b ≡ P.took j k → buckets-in b ≡ length (j .line .buckets)
+counted d b j k e = ap (λ (i : Job). length (i .line .buckets)) (held-job d b j k e)
 
 -- a number that is no refusal's
 number-none : {A : Type 0} (a : Answer A) (n : ℕ) → number-of a ≡ n → (n ≡ 0 → ⊥) → a ≡ refused n
@@ -81,23 +82,23 @@ number-none (refused m) n e f = rw e
 number-none (gives a) n e f = absurd (f (sym e))
 
 -- the values of a job that opens
-values-of : (b : List ℕ) (j : Job) (k : ℕ) → parse b ≡ P.took j k → opened-values k (header-in j) ≡ k ∷ length (j .units) ∷ intervals j ∷ words j ∷ []
+values-of : (d : Door) (b : List ℕ) (j : Job) (k : ℕ) → parse d b ≡ P.took j k → opened-values k (header-in j) ≡ k ∷ length (j .units) ∷ intervals j ∷ words j ∷ []
 unfolding opened-values header-in intervals
-values-of b j k e =
-    let w : words j ≡ table-words (header-in j) = ap words (sym (held-job b j k e)) ∙ words-are b (header-in j) (opens-by b (header-in j) j k e refl) in
+values-of d b j k e =
+    let w : words j ≡ table-words (header-in j) = ap words (sym (held-job d b j k e)) ∙ words-are b (header-in j) (opens-by d b (header-in j) j k e refl) in
     rw w
 
 pub opening : Opening
 unfolding open-export on-took
-opening b values = (
+opening d b values = (
   λ n e. rw e,
-  λ j k e. rw e (in-order (λ n. opened n values) (room-decides 4 values) (λ r. r ≡ opened 0 (over (k ∷ length (j .units) ∷ intervals j ∷ words j ∷ []) values)) (opened 0 (over (opened-values k (header-in j)) values)) _ refl (λ h. ap (λ (vs : List ℕ). opened 0 (over vs values)) (values-of b j k e))),
+  λ j k e. rw e (in-order (λ n. opened n values) (room-decides 4 values) (λ r. r ≡ opened 0 (over (k ∷ length (j .units) ∷ intervals j ∷ words j ∷ []) values)) (opened 0 (over (opened-values k (header-in j)) values)) _ refl (λ h. ap (λ (vs : List ℕ). opened 0 (over vs values)) (values-of d b j k e))),
 )
 
 pub calling : Calling
 unfolding calls-export calls-refusal
 calling b calls answers values =
-    looks (λ n. called n answers values) b (λ j. answers-tests calls (length answers)) 3 values (after-calls (calls-call b calls answers) values) (λ j. CallConditions calls ++ (condition 12 (length calls / 3 ≤ length answers) ∷ [])) (λ j r. r ≡ called 0 (over (book-numbers j calls) answers) (over (pins-list (pin-totals j (book-pins j calls))) values))
+    looks (λ n. called n answers values) format.opening b (λ j. answers-tests calls (length answers)) 3 values (after-calls (calls-call b calls answers) values) (λ j. CallConditions calls ++ (condition 12 (length calls / 3 ≤ length answers) ∷ [])) (λ j r. r ≡ called 0 (over (book-numbers j calls) answers) (over (pins-list (pin-totals j (book-pins j calls))) values))
     (λ j k e. (
       unfold answers-tests in (decides-join (calls-decide calls) (one-more refl (leb-true (length calls / 3) (length answers), le-leb (length calls / 3) (length answers)) no-more)),
       λ h. done j (call-sessions b calls answers .1 j k e .1 (h .0) .1 (h .1 .0) .1 (h .1 .1 .0)),
@@ -121,6 +122,8 @@ module _ (j : Job) (calls : List ℕ) (aim order : ℕ) (answers table entries v
     session = s;
     claim = c;
     is = unfold after-session in refl;
+    lists = (refl, refl, refl);
+    values-are = λ t e. unfold totals-list in (put-given (s .planned .answer) t totals-list values e);
     none-iff = (λ e. c .planning .none-iff .0 (thirteen e), λ f. is-thirteen (c .planning .none-iff .1 f));
     none-kept = λ e. (c .none-kept (thirteen e), c .planning .none-kept (thirteen e), put-refused (s .planned .answer) 13 totals-list values (thirteen e));
     else-done = λ f. zero (c .planning .else-best (λ e. f (is-thirteen e)) .totals-are);
@@ -132,21 +135,33 @@ module _ (j : Job) (calls : List ℕ) (aim order : ℕ) (answers table entries v
 pub plans : Plans
 unfolding plan-export plan-refusal
 plans b calls aim order answers table entries values =
-    of-job _ (λ n. planned n answers table entries values) b (λ j. PlanConditions j calls aim order answers table entries) values _ (3 + buckets-in b) (λ j. 3 + length (j .line .buckets)) (λ j k e. ap (λ (n : ℕ). 3 + n) (counted b j k e))
-    (looks (λ n. planned n answers table entries values) b (λ j. session-tests j calls aim order (length answers) (length table) (length entries)) (3 + buckets-in b) values (after-session (session-call b calls aim order answers table entries) values) (λ j. PlanConditions j calls aim order answers table entries) (λ j r. Planning j calls aim order answers table entries values r)
+    of-job _ (λ n. planned n answers table entries values) format.opening b (λ j. PlanConditions j calls aim order answers table entries) values _ (3 + buckets-in b) (λ j. 3 + length (j .line .buckets)) (λ j k e. ap (λ (n : ℕ). 3 + n) (counted format.opening b j k e))
+    (looks (λ n. planned n answers table entries values) format.opening b (λ j. session-tests j calls aim order (length answers) (length table) (length entries)) (3 + buckets-in b) values (after-session (session-call b calls aim order answers table entries) values) (λ j. PlanConditions j calls aim order answers table entries) (λ j r. Planning j calls aim order answers table entries values r)
     (λ j k e. (
       session-decides b calls aim order answers table entries j,
       λ h. exported j calls aim order answers table entries values (session-call b calls aim order answers table entries) (sessions b calls aim order answers table entries .1 j k e .1 (h .0) .1 (h .1 .0) .1 (h .1 .1 .0) .1 (h .1 .1 .1 .0) .1 (h .1 .1 .1 .1 .0) .1 (h .1 .1 .1 .1 .1 .0) .1 (h .1 .1 .1 .1 .1 .1 .0)),
     )))
 
+-- and of a replay of which demand 2 holds, over so many buckets
+exported-replay : (j : Job) (calls entries levels values : List ℕ) (n : ℕ) → n ≡ length (j .line .buckets) → (r : lent.Ended Replayed) → DemandTwo j (archive-pins j calls) (plan-of j entries) levels r → Replaying j calls entries levels values (after-replay n r values)
+unfolding after-replay
+exported-replay j calls entries levels values n q r c = record {
+  replay = r;
+  claim = c;
+  is = unfold after-replay in (rw q);
+  levels-are = refl;
+  clean-values = λ t e. unfold replayed-list totals-list in (put-given (r .answer) (totals-are t) (replayed-list n) values e);
+  violated-values = λ i v e. rw (← q) (unfold replayed-list in (put-given (r .answer) (violated i v) (replayed-list n) values e));
+}
+
 pub replays : Replays
 unfolding replay-export replay-refusal
 replays b calls entries levels values =
-    of-job _ (λ n. replayed n levels values) b (λ j. ReplayConditions j calls entries levels) values _ (5 + buckets-in b) (λ j. 5 + length (j .line .buckets)) (λ j k e. ap (λ (n : ℕ). 5 + n) (counted b j k e))
-    (looks (λ n. replayed n levels values) b (λ j. calls-tests calls ++ replay-tests j entries (length levels)) (5 + buckets-in b) values (after-replay (buckets-in b) (replay-session b calls entries levels) values) (λ j. ReplayConditions j calls entries levels) (λ j r. Replaying j calls entries levels values r)
+    of-job _ (λ n. replayed n levels values) archive b (λ j. ReplayConditions j calls entries levels) values _ (5 + buckets-in b) (λ j. 5 + length (j .line .buckets)) (λ j k e. ap (λ (n : ℕ). 5 + n) (counted archive b j k e))
+    (looks (λ n. replayed n levels values) archive b (λ j. calls-tests calls ++ replay-tests j entries (length levels)) (5 + buckets-in b) values (after-replay (buckets-in b) (replay-session b calls entries levels) values) (λ j. ReplayConditions j calls entries levels) (λ j r. Replaying j calls entries levels values r)
     (λ j k e. (
       decides-join (calls-decide calls) (replay-decides b j k e entries levels),
-      λ h. record { replay = replay-session b calls entries levels; claim = replay-sessions b calls entries levels .1 j k e .1 (h .0) .1 (h .1 .0) .1 (h .1 .1 .0) .1 (h .1 .1 .1 .0); is = ap (λ (n : ℕ). after-replay n (replay-session b calls entries levels) values) (counted b j k e) },
+      λ h. exported-replay j calls entries levels values (buckets-in b) (counted archive b j k e) (replay-session b calls entries levels) (replay-sessions b calls entries levels .1 j k e .1 (h .0) .1 (h .1 .0) .1 (h .1 .1 .0) .1 (h .1 .1 .1 .0)),
     )))
 
 -- an order of refusals, seen through what is exported of a call
@@ -166,10 +181,10 @@ unfolding done-export number-of
 done-shown e q = rw q
 
 pub reports-exported : Reports
-reports-exported b entries sums = looks-through done-export _ (lent.refuse sums) (λ n. filled n sums) (parse b) (λ j. condition 14 (InShape j entries) ∷ condition 12 (length (j .units) + 1 ≤ length sums) ∷ []) (λ j. Reported j (plan-of j entries) sums (report-call b entries sums)) (λ j. Reporting j entries sums (report-export b entries sums)) (refusal-shown sums) (λ j c. record { report = report-call b entries sums; claim = c; is = done-shown (report-call b entries sums) (c .given) }) (reports b entries sums)
+reports-exported b entries sums = looks-through done-export _ (lent.refuse sums) (λ n. filled n sums) (parse archive b) (λ j. condition 14 (InShape j entries) ∷ condition 12 (length (j .units) + 1 ≤ length sums) ∷ []) (λ j. Reported j (plan-of j entries) sums (report-call b entries sums)) (λ j. Reporting j entries sums (report-export b entries sums)) (refusal-shown sums) (λ j c. record { report = report-call b entries sums; claim = c; is = done-shown (report-call b entries sums) (c .given) }) (reports b entries sums)
 
 pub turns-exported : Turns
-turns-exported b old entries = looks-through done-export _ (lent.refuse entries) (λ n. filled n entries) (parse b) (λ j. condition 14 (WasPlan j old) ∷ condition 12 (3 * intervals j ≤ length entries) ∷ []) (λ j. Turned j old entries (turn-call b old entries)) (λ j. Turning j old entries (turn-export b old entries)) (refusal-shown entries) (λ j c. record { turn = turn-call b old entries; claim = c; is = done-shown (turn-call b old entries) (c .given) }) (turns b old entries)
+turns-exported b old entries = looks-through done-export _ (lent.refuse entries) (λ n. filled n entries) (parse archive b) (λ j. condition 14 (WasPlan j old) ∷ condition 12 (3 * intervals j ≤ length entries) ∷ []) (λ j. Turned j old entries (turn-call b old entries)) (λ j. Turning j old entries (turn-export b old entries)) (refusal-shown entries) (λ j c. record { turn = turn-call b old entries; claim = c; is = done-shown (turn-call b old entries) (c .given) }) (turns b old entries)
 
 -- an order that is known of the refusal found first
 in-front : {R : Type 0} (refuse : ℕ → R) (o : Option ℕ) (r : R) (cs ds : List Condition) (Else : Type 0) → InOrder o some cs (o ≡ none) → ((n : ℕ) → o ≡ some n → r ≡ refuse n) → (o ≡ none → InOrder r refuse ds Else) → InOrder r refuse (cs ++ ds) Else

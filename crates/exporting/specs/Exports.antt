@@ -10,7 +10,7 @@ use Rattle.base.specs.Refusals.{Test, test, refusal, unless, first, guarded}
 use Rattle.base.specs.Lent.{Ended, over, put}
 use Rattle.model.specs.Pins.{PinTotals}
 use Rattle.format.specs.Parser.{on-took}
-use Rattle.format.specs.JobBytes.{header-of, header-in, parse}
+use Rattle.format.specs.JobBytes.{header-of, header-in, Door, parse}
 use Rattle.replaying.specs.Calls.{Replayed, report-call}
 use Rattle.replaying.specs.Former.{turn-call}
 use Rattle.writing.specs.Calls.{write-refusal, write-call}
@@ -33,9 +33,9 @@ pub record Opened : Type 0 where
 abbrev pub opened : ℕ → List ℕ → Opened
 opened n values = record { number = n; values = values }
 
--- the job, 1 to 5, then 12
-unfoldable pub open-export : List ℕ → List ℕ → Opened
-open-export b values = on-took (λ n. opened n values) (parse b) (λ j k. guarded (λ n. opened n values) (room-for 4 values) (opened 0 (over (opened-values k (header-in j)) values)))
+-- the job by its door, 1 to 5 and 17, then 12
+unfoldable pub open-export : Door → List ℕ → List ℕ → Opened
+open-export d b values = on-took (λ n. opened n values) (parse d b) (λ j k. guarded (λ n. opened n values) (room-for 4 values) (opened 0 (over (opened-values k (header-in j)) values)))
 
 pub record Called : Type 0 where
   pub number : ℕ

@@ -18,7 +18,7 @@ use Rattle.base.proofs.Refusals.{guarded-here, guarded-past, guarded-last}
 use Rattle.base.specs.Refusals.{guarded}
 use Rattle.model.specs.Job.{intervals}
 use Rattle.format.specs.Choices.{no-choice, choice-under, choice-number}
-use Rattle.format.specs.JobBytes.{Header, job-in, parse, Opens}
+use Rattle.format.specs.JobBytes.{Header, job-in, archive, parse, Opens}
 use Rattle.format.specs.Parser.{on-read}
 use Rattle.format.specs.Parser as P
 use Rattle.format.proofs.Choices.{under-mark, under-choice}
@@ -131,6 +131,6 @@ module _ (b : List ℕ) (h : Header) (o : Opens b h) (old entries : List ℕ) wh
     unfolding turned former-plan
     turn-done new l q = sym (turn-on ∙ guarded-past (refuse entries) _ _ _ e ∙ guarded-last (refuse entries) _ _ (le-leb (entry-size * intervals (job-in b)) (length entries) (omega (arith, intervals-are b h o))) ∙ rw (q, intervals-are b h o))
 
-pub turn-refused : (b old entries : List ℕ) (n : ℕ) → parse b ≡ P.refused n → record { answer = refused n; list = entries } ≡ turn-call b old entries
+pub turn-refused : (b old entries : List ℕ) (n : ℕ) → parse archive b ≡ P.refused n → record { answer = refused n; list = entries } ≡ turn-call b old entries
 unfolding turn-call on-read refuse
 turn-refused b old entries n e = rw e

@@ -11,6 +11,7 @@ ghost use Rattle.replaying.specs.Former.{former-mark, former-size, former-entry
 ghost use Rattle.header.specs.Answers.{plain};
 ghost use Rattle.former.specs.Answers.{turned, FormerRead};
 use header::Choice;
+use header::Door;
 use header::Header;
 use job::Reading;
 
@@ -108,7 +109,7 @@ fn turn_read(job: &[u8], header: Header, old: &[u8], entries: &mut [u8]) -> Turn
 pub fn turn(job: &[u8], old: &[u8], entries: &mut [u8]) -> Turned
     ensures { λ r. ⌜ turned r (now (entries .exit)) ≡ turn-call (now (job .entry)) (now (old .entry)) (now (entries .entry)) ⌝ }
 {
-    match job::read(job) {
+    match job::read(job, Door::Archive) {
         Reading::Refused(n) => Turned::Refused(n),
         Reading::Read { header, taken: _ } => turn_read(job, header, old, entries),
     }

@@ -4,7 +4,9 @@ use mathlib.Core.Path.{_≡_, refl, sym, _∙_, ap}
 use native.Mathlib.Omega.{arith}
 use Rattle.model.specs.Job.{Job}
 use Rattle.format.specs.Parser.{Result, refused, took, with-value}
-use Rattle.format.specs.JobBytes.{Header, header-in}
+use mathlib.Core.List.{List}
+use Rattle.format.specs.JobBytes.{Header, header-in, Door, parse, job-in, Opens}
+use Rattle.format.proofs.Opened.{held-job, opens-by}
 use Rattle.header.specs.declared.Header as code
 use Rattle.job.specs.declared.Reading.{Reading}
 use Rattle.job.specs.declared.Reading.the-variants as r
@@ -16,6 +18,19 @@ pub record Held (p : Result Job) (h : Header) (k : ℕ) : Type 0 where
   pub job : Job
   pub is : p ≡ took job k
   pub header-is : header-in job ≡ h
+
+-- the bytes hold a job with this header, and the door takes it
+pub record Passes (d : Door) (b : List ℕ) (h : Header) : Type 0 where
+  pub opens : Opens b h
+  pub taken : ℕ
+  pub took : parse d b ≡ took (job-in b) taken
+
+pub passes : (d : Door) (b : List ℕ) (h : Header) (k : ℕ) → Held (parse d b) h k → Passes d b h
+passes d b h k r = record {
+  opens = opens-by d b h (r .job) k (r .is) (r .header-is);
+  taken = k;
+  took = r .is ∙ ap (λ (i : Job). took i k) (sym (held-job d b (r .job) k (r .is)));
+}
 
 held : (p q : Result Job) (h : Header) (k : ℕ) → p ≡ q → with-value header-in q ≡ took h k → Held p h k
 unfolding with-value

@@ -12,17 +12,15 @@ use Rattle.base.specs.Refusals.{test, guarded}
 use Rattle.base.proofs.Refusals.{guarded-past, guarded-here, guarded-last}
 use Rattle.base.specs.If.{if_then_else_}
 use Rattle.model.specs.Job.{Job, codingAt}
-use Rattle.model.specs.Pins.{Call, pin, lift, outside}
+use Rattle.model.specs.Pins.{pin, lift, outside}
 use Rattle.format.specs.JobBytes.{Header, job-in}
 use Rattle.format.specs.Places.{coding-at}
 use Rattle.format.proofs.Opened.{job-limits, looked-up, units-are, choices-are}
 use Rattle.pinning.specs.Check.{Ready}
 use Rattle.format.specs.Choices.{no-choice}
-use Rattle.format.specs.Parser.{on-read}
 use Rattle.pinning.specs.PinSet.{PinSet}
-use Rattle.pinning.specs.Calls.{refuse, take-in, with-pin, without-pin, pin-of, call-tests, called, call-in, call}
+use Rattle.pinning.specs.Calls.{refuse, take-in, with-pin, without-pin, pin-of, call-tests, called, call-in}
 use Rattle.pinning.proofs.Inside.{inside}
-use Rattle.pinning.proofs.Agree.{matched}
 
 -- a unit that is not in 1 to N
 pub outside-low : (units u : ℕ) → u < 1 → true ≡ outside units u
@@ -43,44 +41,39 @@ module _ (b : List ℕ) (h : Header) (s : PinSet) (r : Ready b h s) where
   abbrev M : J .choices ≡ h .choices
   M = choices-are b h (r .opens)
 
-  -- the call goes on to the job
-  call-ready : (k : Call) → call b s k ≡ call-in J s k
-  unfolding call on-read
-  call-ready k = rw (matched b J (r .opens .taken) (r .opens .parsed) s (r .matches))
-
   module _ (u : ℕ) where
     -- the first test, of either call
     outside-is : (t : Bool) → outside (h .units) u ≡ t → not (outside (length (J .units)) u) ≡ not t
     outside-is t e = rw (N, e)
 
-    pub pin-seven : (x : ℕ) → outside (h .units) u ≡ true → refuse s 7 ≡ call b s (pin u x)
+    pub pin-seven : (x : ℕ) → outside (h .units) u ≡ true → refuse s 7 ≡ call-in J s (pin u x)
     unfolding call-in call-tests
-    pin-seven x e = sym (call-ready (pin u x) ∙ guarded-here (refuse s) _ _ _ (outside-is true e))
+    pin-seven x e = sym (guarded-here (refuse s) _ _ _ (outside-is true e))
 
-    pub lift-seven : outside (h .units) u ≡ true → refuse s 7 ≡ call b s (lift u)
+    pub lift-seven : outside (h .units) u ≡ true → refuse s 7 ≡ call-in J s (lift u)
     unfolding call-in call-tests
-    lift-seven e = sym (call-ready (lift u) ∙ guarded-here (refuse s) _ _ _ (outside-is true e))
+    lift-seven e = sym (guarded-here (refuse s) _ _ _ (outside-is true e))
 
     module _ (within : outside (h .units) u ≡ false) where
       pub place-below : (1 ≤ u) × (u - 1 < 512)
       place-below = let k = inside (h .units) u within in (k .0, omega (arith, N, job-limits b h (r .opens) .units))
 
-      pub pin-eight : (x : ℕ) → h .choices ≤ x → refuse s 8 ≡ call b s (pin u x)
+      pub pin-eight : (x : ℕ) → h .choices ≤ x → refuse s 8 ≡ call-in J s (pin u x)
       unfolding call-in call-tests
-      pin-eight x c = sym (call-ready (pin u x) ∙ guarded-past (refuse s) _ _ _ (outside-is false within) ∙ guarded-here (refuse s) _ _ _ (le-ltb x (J .choices) (omega (arith, M))))
+      pin-eight x c = sym (guarded-past (refuse s) _ _ _ (outside-is false within) ∙ guarded-here (refuse s) _ _ _ (le-ltb x (J .choices) (omega (arith, M))))
 
-      pin-on : (x : ℕ) → x < h .choices → call b s (pin u x) ≡ guarded (refuse s) (test 9 (eqb (pin-of s u) no-choice) ∷ []) (take-in (called J s (pin u x)))
+      pin-on : (x : ℕ) → x < h .choices → call-in J s (pin u x) ≡ guarded (refuse s) (test 9 (eqb (pin-of s u) no-choice) ∷ []) (take-in (called J s (pin u x)))
       unfolding call-in call-tests
-      pin-on x c = call-ready (pin u x) ∙ guarded-past (refuse s) _ _ _ (outside-is false within) ∙ guarded-past (refuse s) _ _ _ (lt-ltb x (J .choices) (omega (arith, M)))
+      pin-on x c = guarded-past (refuse s) _ _ _ (outside-is false within) ∙ guarded-past (refuse s) _ _ _ (lt-ltb x (J .choices) (omega (arith, M)))
 
-      lift-on : call b s (lift u) ≡ guarded (refuse s) (test 10 (not (eqb (pin-of s u) no-choice)) ∷ []) (take-in (called J s (lift u)))
+      lift-on : call-in J s (lift u) ≡ guarded (refuse s) (test 10 (not (eqb (pin-of s u) no-choice)) ∷ []) (take-in (called J s (lift u)))
       unfolding call-in call-tests
-      lift-on = call-ready (lift u) ∙ guarded-past (refuse s) _ _ _ (outside-is false within)
+      lift-on = guarded-past (refuse s) _ _ _ (outside-is false within)
 
-      pub pin-nine : (x : ℕ) → x < h .choices → (getD (s .pins) (u - 1) 0 ≡ no-choice → ⊥) → refuse s 9 ≡ call b s (pin u x)
+      pub pin-nine : (x : ℕ) → x < h .choices → (getD (s .pins) (u - 1) 0 ≡ no-choice → ⊥) → refuse s 9 ≡ call-in J s (pin u x)
       pin-nine x c e = sym (pin-on x c ∙ guarded-here (refuse s) _ _ _ (ne-eqb (pin-of s u) no-choice e))
 
-      pub lift-ten : getD (s .pins) (u - 1) 0 ≡ no-choice → refuse s 10 ≡ call b s (lift u)
+      pub lift-ten : getD (s .pins) (u - 1) 0 ≡ no-choice → refuse s 10 ≡ call-in J s (lift u)
       lift-ten e = sym (lift-on ∙ guarded-here (refuse s) _ _ _ (rw (eq-eqb (pin-of s u) no-choice e)))
 
       -- the coding that the code reads
@@ -90,7 +83,7 @@ module _ (b : List ℕ) (h : Header) (s : PinSet) (r : Ready b h s) where
           ap (λ (i : Header). coding-at b i u x) (sym (r .opens .header-is))
           ∙ looked-up b h (r .opens) .coding u x (k .0) (omega (arith, N)) (omega (arith, M))
 
-      pub pin-taken : (x : ℕ) → x < h .choices → getD (s .pins) (u - 1) 0 ≡ no-choice → take-in (with-pin s (u - 1) x (coding-at b h u x)) ≡ call b s (pin u x)
+      pub pin-taken : (x : ℕ) → x < h .choices → getD (s .pins) (u - 1) 0 ≡ no-choice → take-in (with-pin s (u - 1) x (coding-at b h u x)) ≡ call-in J s (pin u x)
       unfolding called
       pin-taken x c e = sym (pin-on x c ∙ guarded-last (refuse s) _ _ (eq-eqb (pin-of s u) no-choice e) ∙ rw (coding-read x c))
 
@@ -103,6 +96,6 @@ module _ (b : List ℕ) (h : Header) (s : PinSet) (r : Ready b h s) where
             go (inl q) = absurd (e q)
             go (inr q) = omega (arith, M)
 
-        pub lift-taken : take-in (without-pin s (u - 1) (coding-at b h u (getD (s .pins) (u - 1) 0))) ≡ call b s (lift u)
+        pub lift-taken : take-in (without-pin s (u - 1) (coding-at b h u (getD (s .pins) (u - 1) 0))) ≡ call-in J s (lift u)
         unfolding called
         lift-taken = sym (lift-on ∙ guarded-last (refuse s) _ _ (rw (ne-eqb (pin-of s u) no-choice e)) ∙ rw (coding-read (getD (s .pins) (u - 1) 0) pinned-below))

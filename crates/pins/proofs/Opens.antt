@@ -6,7 +6,7 @@ use native.Mathlib.Omega.{arith}
 use Rattle.base.specs.Answer.{refused, gives}
 use Rattle.model.specs.Job.{Job}
 use Rattle.format.specs.Parser as P
-use Rattle.format.specs.JobBytes.{header-in, no-header, parse}
+use Rattle.format.specs.JobBytes.{header-in, no-header, Door, parse}
 use Rattle.pinning.specs.PinSet.{fresh}
 use Rattle.pinning.specs.Calls.{Opening, opened, open-call}
 use Rattle.pins.specs.declared.Opened.{Opened}
@@ -31,11 +31,11 @@ is-open (P.refused m) k e = let z : _≡_ {A = ℕ} 0 1 = cc in absurd (omega ar
 is-open (P.took j m) k e = let q : m ≡ k = cc in record { job = j; is = rw q; fresh-is = refl }
 
 -- x is the answer of opening
-module _ (b : List ℕ) (x : Opened) (e : opening x ≡ open-call b) where
-  pub answer-is : opened (parse b) .answer ≡ opening-answer (x .answer)
+module _ (d : Door) (b : List ℕ) (x : Opened) (e : opening x ≡ open-call d b) where
+  pub answer-is : opened (parse d b) .answer ≡ opening-answer (x .answer)
   unfolding opening open-call
   answer-is = ap (λ (t : Opening). t .answer) (sym e)
 
-  pub state-is : set-of (x .set) ≡ opened (parse b) .set
+  pub state-is : set-of (x .set) ≡ opened (parse d b) .set
   unfolding opening open-call
   state-is = ap (λ (t : Opening). t .set) e

@@ -4,13 +4,14 @@ pub mod refusal;
 
 ghost use mathlib.Core.Path.{_≡_};
 ghost use Rattle.model.specs.Pins.{pin, lift, outside};
-ghost use Rattle.format.specs.JobBytes.{no-header};
-ghost use Rattle.header.specs.Answers.{plain};
+ghost use Rattle.format.specs.JobBytes.{no-header, job-in};
+ghost use Rattle.header.specs.Answers.{plain, door-of};
 ghost use Rattle.pinning.specs.Check.{Ready};
-ghost use Rattle.pinning.specs.Calls.{open-call, refuse, call};
+ghost use Rattle.pinning.specs.Calls.{open-call, refuse, call-in, call};
 ghost use Rattle.pinset.specs.Answers.{set-of};
 ghost use Rattle.pins.specs.Answers.{opening, handed};
 use header::Bucket;
+use header::Door;
 use header::Header;
 use job::Reading;
 use pinset::PinSet;
@@ -61,11 +62,11 @@ fn no_header() -> Header
     }
 }
 
-// The fresh set of a job and how many bytes the job took; bytes behind the job are not looked at.
-pub fn open(job: &[u8]) -> Opened
-    ensures { λ r. ⌜ opening r ≡ open-call (now (job .entry)) ⌝ }
+// The fresh set of a job that the door takes and how many bytes the job took; bytes behind the job are not looked at.
+pub fn open(job: &[u8], door: Door) -> Opened
+    ensures { λ r. ⌜ opening r ≡ open-call (door-of door) (now (job .entry)) ⌝ }
 {
-    match job::read(job) {
+    match job::read(job, door) {
         Reading::Refused(n) => Opened {
             answer: Opening::Refused(n),
             set: PinSet::fresh(no_header()),
@@ -100,7 +101,7 @@ fn outside(units: u16, unit: u16) -> bool
 // A pin, for a job that the set matches: 7, then 8, then 9.
 fn pin_line(job: &[u8], header: Header, set: PinSet, unit: u16, choice: u16) -> Handed
     requires { ⌜ Ready (now job) (plain header) (set-of set) ⌝ }
-    ensures { λ r. ⌜ handed r ≡ call (now (job .entry)) (set-of set) (pin unit choice) ⌝ }
+    ensures { λ r. ⌜ handed r ≡ call-in (job-in (now (job .entry))) (set-of set) (pin unit choice) ⌝ }
 {
     let units = header.units;
     let choices = header.choices;
@@ -125,7 +126,7 @@ fn pin_line(job: &[u8], header: Header, set: PinSet, unit: u16, choice: u16) -> 
 // A lift, for a job that the set matches: 7, then 10.
 fn lift_line(job: &[u8], header: Header, set: PinSet, unit: u16) -> Handed
     requires { ⌜ Ready (now job) (plain header) (set-of set) ⌝ }
-    ensures { λ r. ⌜ handed r ≡ call (now (job .entry)) (set-of set) (lift unit) ⌝ }
+    ensures { λ r. ⌜ handed r ≡ call-in (job-in (now (job .entry))) (set-of set) (lift unit) ⌝ }
 {
     let units = header.units;
     if outside(units, unit) {
@@ -147,7 +148,7 @@ fn lift_line(job: &[u8], header: Header, set: PinSet, unit: u16) -> Handed
 pub fn pin(job: &[u8], set: PinSet, unit: u16, choice: u16) -> Handed
     ensures { λ r. ⌜ handed r ≡ call (now (job .entry)) (set-of set) (pin unit choice) ⌝ }
 {
-    match pinset::check(job, set) {
+    match pinset::check(job, set, Door::Opening) {
         Reading::Refused(n) => refused(set, n),
         Reading::Read { header, taken: _ } => pin_line(job, header, set, unit, choice),
     }
@@ -157,7 +158,7 @@ pub fn pin(job: &[u8], set: PinSet, unit: u16, choice: u16) -> Handed
 pub fn lift(job: &[u8], set: PinSet, unit: u16) -> Handed
     ensures { λ r. ⌜ handed r ≡ call (now (job .entry)) (set-of set) (lift unit) ⌝ }
 {
-    match pinset::check(job, set) {
+    match pinset::check(job, set, Door::Opening) {
         Reading::Refused(n) => refused(set, n),
         Reading::Read { header, taken: _ } => lift_line(job, header, set, unit),
     }

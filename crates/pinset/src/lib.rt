@@ -7,7 +7,7 @@ ghost use lib.ListN.{length};
 ghost use Rattle.model.specs.Pins.{totals-to};
 ghost use Rattle.format.specs.JobBytes.{header-in};
 ghost use Rattle.format.specs.Parser.{with-value};
-ghost use Rattle.header.specs.Answers.{plain, coding-of};
+ghost use Rattle.header.specs.Answers.{plain, coding-of, door-of};
 ghost use Rattle.job.specs.Answers.{reading};
 ghost use Rattle.pinning.specs.PinSet.{lines, fresh};
 ghost use Rattle.pinning.specs.Check.{pin-fits, pins-fit, same-totals, fits, codings-in, checked};
@@ -15,6 +15,7 @@ ghost use Rattle.pinning.specs.Calls.{with-pin, without-pin};
 ghost use Rattle.pinset.specs.Answers.{set-of, tallied, Added, Room, Pinned};
 use header::Choice;
 use header::Coding;
+use header::Door;
 use header::Header;
 use job::Reading;
 
@@ -163,13 +164,13 @@ fn fits(job: &[u8], header: Header, set: PinSet) -> bool
     same_totals(set, sum_lines(job, header, &pins))
 }
 
-// What every call that takes a job and a set tests first: the job, refusals 1 to 5, then the set against it, refusal 6.
+// What every call that takes a job and a set tests first: the job by its door, refusals 1 to 5 and 17, then the set against it, refusal 6.
 // That a set has 512 pins is handed on to the callers' proofs.
-pub fn check(job: &[u8], set: PinSet) -> Reading
+pub fn check(job: &[u8], set: PinSet, door: Door) -> Reading
     ensures sized { λ _. ⌜ length (set .pins) ≡ 512 ⌝ }
-    ensures answer { λ r. ⌜ reading r ≡ with-value header-in (checked (now (job .entry)) (set-of set)) ⌝ }
+    ensures answer { λ r. ⌜ reading r ≡ with-value header-in (checked (door-of door) (now (job .entry)) (set-of set)) ⌝ }
 {
-    match job::read(job) {
+    match job::read(job, door) {
         Reading::Refused(n) => Reading::Refused(n),
         Reading::Read { header, taken } => {
             if fits(job, header, set) {

@@ -6,6 +6,7 @@ ghost use Prim.Native.Nat.{_+_, _*_, _≤_};
 ghost use lib.ListN.{length};
 ghost use Rattle.replaying.specs.Entries.{entry-size};
 use header::Choice;
+use header::Door;
 use header::Header;
 use interval::Totals;
 use job::Reading;
@@ -46,7 +47,7 @@ fn print_intervals(job: &[u8], header: Header, entries: &[u8])
     let start = 0;
     let end = entry::SIZE * total;
     // levels do not depend on pins, and the set that opening answers has none
-    let opened = pins::open(job);
+    let opened = pins::open(job, Door::Opening);
     let set = opened.set;
     let each = replay::levels_each(header);
     let mut levels = [0u16; MOST_LEVELS * MOST_INTERVALS];
@@ -64,7 +65,7 @@ fn print_intervals(job: &[u8], header: Header, entries: &[u8])
 fn print_plan(job: &[u8], entries: &[u8], totals: Totals)
     requires { ⌜ length (now entries) ≡ entry-size * 576 ⌝ }
 {
-    match job::read(job) {
+    match job::read(job, Door::Opening) {
         Reading::Refused(n) => print::refused(n),
         Reading::Read { header, taken: _ } => {
             print::head(header);

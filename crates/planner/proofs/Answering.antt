@@ -22,12 +22,11 @@ use Rattle.model.proofs.Tables.{distortions-small}
 use Rattle.model.proofs.Lines.{own-line, intervals-on, bounded-on}
 use Rattle.format.specs.Parser as P
 use Rattle.format.specs.Parser.{on-read}
-use Rattle.format.specs.JobBytes.{Header, job-in, Opens}
+use Rattle.format.specs.JobBytes.{Header, opening, job-in, Opens}
 use Rattle.format.proofs.Bounds.{bounded}
 use Rattle.format.proofs.Opened.{job-formed, job-limits, units-are, intervals-are, few-intervals, start-is}
 use Rattle.pinning.specs.PinSet.{PinSet, lines}
 use Rattle.pinning.specs.Check.{checked, Ready}
-use Rattle.pinning.proofs.Agree.{matched}
 use Rattle.interval.specs.declared.Totals as replay
 use Rattle.interval.specs.Answers.{totals-of, line-of, start-of}
 use Rattle.line.proofs.Sizes.{layer-size, each-small}
@@ -41,7 +40,7 @@ use Rattle.table.specs.declared.Limit.{Limit}
 use Rattle.table.specs.declared.Limit.the-variants as limit
 use Rattle.table.specs.Answers.{job-on, limit-of, open-of, words-over, LineOf}
 use Rattle.best.specs.Answers.{Tabled, Standing, PlanRead}
-use Rattle.planner.specs.Answers.{PlansFrom, Searches, table-for, LimitFor}
+use Rattle.planner.specs.Answers.{plan-all, PlansFrom, Searches, table-for, LimitFor}
 
 module _ (b : List ℕ) (h : Header) (o : Opens b h) where
   -- the starting levels are in the layer
@@ -181,9 +180,13 @@ module _ (b : List ℕ) (h : Header) (l : Line) (pins : List ℕ) (first : ℕ) 
                 let read : PlanRead J K o first s entries t written = rw (found .is) at p in
                 rw (filled, stands word w f .least-is, read .totals-are, read .written)
 
-pub plan-refused : (b : List ℕ) (s : PinSet) (a : Aim) (o : Order) (table entries : List ℕ) (n : ℕ) → checked b s ≡ P.refused n → record { answer = refused n; table = table; entries = entries } ≡ plan-call b s a o table entries
+pub plan-refused : (b : List ℕ) (s : PinSet) (a : Aim) (o : Order) (table entries : List ℕ) (n : ℕ) → checked opening b s ≡ P.refused n → record { answer = refused n; table = table; entries = entries } ≡ plan-call b s a o table entries
 unfolding plan-call on-read refuse
 plan-refused b s a o table entries n e = rw e
+
+pub plan-took : (b : List ℕ) (s : PinSet) (a : Aim) (o : Order) (table entries : List ℕ) (j : Job) (n : ℕ) → checked opening b s ≡ P.took j n → plan-all j s a o table entries ≡ plan-call b s a o table entries
+unfolding plan-call plan-all on-read
+plan-took b s a o table entries j n e = rw e
 
 -- the tests in front of a search, in their order
 module _ (b : List ℕ) (h : Header) (l : Line) (pins : List ℕ) (first : ℕ) (s : Levels) (table entries : List ℕ) (m : PinMap) (a : Aim) (o : Order) (asks : PlansFrom b h l pins first s) where
@@ -234,8 +237,8 @@ module _ (b : List ℕ) (h : Header) (s : PinSet) (r : Ready b h s) (l : Line) (
     inside = rw (is .is, begins) (start-inside b h (r .opens));
   }
 
-  pub plan-from-start : (a : Aim) (o : Order) (table entries : List ℕ) → plan-in (job-on b l) (lines (h .units) (s .pins)) a o 0 start table entries ≡ plan-call b s a o table entries
-  unfolding plan-call on-read
+  pub plan-from-start : (a : Aim) (o : Order) (table entries : List ℕ) → plan-in (job-on b l) (lines (h .units) (s .pins)) a o 0 start table entries ≡ plan-all (job-in b) s a o table entries
+  unfolding plan-all
   plan-from-start a o table entries =
       let own : job-on b l ≡ job-in b = ap (on-line (job-in b)) (is .is) ∙ own-line (job-in b) in
-      rw (own, begins, matched b (job-in b) (r .opens .taken) (r .opens .parsed) s (r .matches), units-are b h (r .opens))
+      rw (own, begins, units-are b h (r .opens))

@@ -11,6 +11,7 @@ use Rattle.model.specs.Best as model-best
 use Rattle.model.specs.Best.{unlimited, total, even, open-for}
 use Rattle.model.specs.Table.{InLayer, words}
 use Rattle.format.specs.JobBytes as format
+use Rattle.pinning.specs.PinSet.{PinSet, lines}
 use Rattle.interval.specs.Answers.{totals-of}
 use Rattle.replaying.specs.Entries.{entry-size}
 use Rattle.planning.specs.Words.{table-from}
@@ -37,6 +38,10 @@ aim-is aim.Total = total
 aim-is aim.Even = even
 
 -- What the private functions say and ask.
+
+-- all of a job with the pins of a set, from its starting levels
+unfoldable pub plan-all : model.Job → PinSet → model-best.Aim → model-best.Order → List ℕ → List ℕ → calls.Planned
+plan-all j s a o table entries = calls.plan-in j (lines (length (j .units)) (s .pins)) a o 0 (j .start) table entries
 
 -- a first place and its levels
 pub record PlansFrom (b : List ℕ) (h : format.Header) (l : Line) (pins : List ℕ) (first : ℕ) (s : model.Levels) : Type 0 where

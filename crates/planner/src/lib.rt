@@ -4,6 +4,7 @@ pub mod refusal;
 
 ghost use mathlib.Core.Path.{_≡_};
 ghost use Rattle.model.specs.Best.{even};
+ghost use Rattle.format.specs.JobBytes.{job-in};
 ghost use Rattle.header.specs.Answers.{plain};
 ghost use Rattle.pinning.specs.PinSet.{lines};
 ghost use Rattle.pinning.specs.Check.{Ready};
@@ -12,10 +13,11 @@ ghost use Rattle.interval.specs.Answers.{levels-of};
 ghost use Rattle.planning.specs.Calls.{search-in, plan-in, plan-call};
 ghost use Rattle.table.specs.Answers.{job-on};
 ghost use Rattle.best.specs.Answers.{order-is};
-ghost use Rattle.planner.specs.Answers.{planned, aim-is, Limits, LimitFor, PlansFrom, Searches};
+ghost use Rattle.planner.specs.Answers.{planned, aim-is, plan-all, Limits, LimitFor, PlansFrom, Searches};
 use best::Order;
 use decoder::Measure;
 use header::Choice;
+use header::Door;
 use header::Header;
 use interval::Levels;
 use interval::Totals;
@@ -168,7 +170,7 @@ fn plan_checked(
     entries: &mut [u8],
 ) -> Planned
     requires { ⌜ Ready (now job) (plain header) (set-of set) ⌝ }
-    ensures { λ r. ⌜ planned r (now (table .exit)) (now (entries .exit)) ≡ plan-call (now (job .entry)) (set-of set) (aim-is aim) (order-is order) (now (table .entry)) (now (entries .entry)) ⌝ }
+    ensures { λ r. ⌜ planned r (now (table .exit)) (now (entries .exit)) ≡ plan-all (job-in (now (job .entry))) (set-of set) (aim-is aim) (order-is order) (now (table .entry)) (now (entries .entry)) ⌝ }
 {
     let pins = set.pins;
     let line = table::line_in(job, header);
@@ -199,7 +201,7 @@ pub fn plan(
 ) -> Planned
     ensures { λ r. ⌜ planned r (now (table .exit)) (now (entries .exit)) ≡ plan-call (now (job .entry)) (set-of set) (aim-is aim) (order-is order) (now (table .entry)) (now (entries .entry)) ⌝ }
 {
-    match pinset::check(job, set) {
+    match pinset::check(job, set, Door::Opening) {
         Reading::Refused(n) => Planned::Refused(n),
         Reading::Read { header, taken: _ } => plan_checked(
             job,

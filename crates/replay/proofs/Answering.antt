@@ -13,7 +13,7 @@ use Rattle.base.specs.Answer.{refused}
 use Rattle.model.specs.Job.{Job}
 use Rattle.format.specs.Parser.{on-read}
 use Rattle.format.specs.Parser as P
-use Rattle.format.specs.JobBytes.{Header, job-in, Opens}
+use Rattle.format.specs.JobBytes.{Header, archive, job-in, Opens}
 use Rattle.format.proofs.Opened.{units-are, intervals-are}
 use Rattle.pinning.specs.PinSet.{PinSet, lines}
 use Rattle.pinning.specs.Check.{checked, Ready}
@@ -30,7 +30,7 @@ module _ (b : List ℕ) (h : Header) (o : Opens b h) where
   unfolding level-count
   levels-are = rw (bucket-count b h o, intervals-are b h o)
 
-pub replay-refused : (b : List ℕ) (s : PinSet) (entries levels : List ℕ) (n : ℕ) → checked b s ≡ P.refused n → record { answer = refused n; list = levels } ≡ replay-call b s entries levels
+pub replay-refused : (b : List ℕ) (s : PinSet) (entries levels : List ℕ) (n : ℕ) → checked archive b s ≡ P.refused n → record { answer = refused n; list = levels } ≡ replay-call b s entries levels
 unfolding replay-call on-read refuse
 replay-refused b s entries levels n e = rw e
 
@@ -44,7 +44,7 @@ module _ (b : List ℕ) (h : Header) (s : PinSet) (r : Ready b h s) (entries lev
 
   replay-on : replay-call b s entries levels ≡ guarded (refuse levels) (test 14 (shaped h entries) ∷ test 12 (leb (level-count J) (length levels)) ∷ []) work
   unfolding replay-call on-read replay-tests
-  replay-on = rw (matched b J (r .opens .taken) (r .opens .parsed) s (r .matches), r .opens .header-is)
+  replay-on = rw (matched archive b J (r .opens .taken) (r .opens .parsed) s (r .matches), r .opens .header-is)
 
   pub replay-14 : shaped h entries ≡ false → record { answer = refused 14; list = levels } ≡ replay-call b s entries levels
   unfolding refuse

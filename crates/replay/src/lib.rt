@@ -13,6 +13,7 @@ ghost use Rattle.replaying.specs.Calls.{played, replay-call};
 ghost use Rattle.interval.specs.Answers.{levels-of};
 ghost use Rattle.replay.specs.Answers.{ended, Plays};
 use header::Choice;
+use header::Door;
 use header::Header;
 use interval::Buffers;
 use interval::Levels;
@@ -109,11 +110,11 @@ fn replay_checked(
     play(job, header, &pins, entries, levels)
 }
 
-// Replays a plan with the pins of a set. The decoder's and the buckets' levels of each interval go to `levels`, up to the first interval with a violation.
+// Replays a plan of a job that the archive takes, with the pins of a set. The decoder's and the buckets' levels of each interval go to `levels`, up to the first interval with a violation.
 pub fn replay(job: &[u8], set: PinSet, entries: &[u8], levels: &mut [u16]) -> Replayed
     ensures { λ r. ⌜ ended r (now (levels .exit)) ≡ replay-call (now (job .entry)) (set-of set) (now (entries .entry)) (now (levels .entry)) ⌝ }
 {
-    match pinset::check(job, set) {
+    match pinset::check(job, set, Door::Archive) {
         Reading::Refused(n) => Replayed::Refused(n),
         Reading::Read { header, taken: _ } => replay_checked(job, header, set, entries, levels),
     }

@@ -13,7 +13,7 @@ use Rattle.base.specs.Answer.{refused, gives}
 use Rattle.model.specs.Levels.{effectiveBuffers}
 use Rattle.format.specs.Parser.{on-read}
 use Rattle.format.specs.Parser as P
-use Rattle.format.specs.JobBytes.{Header, parse, job-in, Opens}
+use Rattle.format.specs.JobBytes.{Header, archive, parse, job-in, Opens}
 use Rattle.format.proofs.Opened.{units-are}
 use Rattle.replaying.specs.Entries.{plan-of, shaped}
 use Rattle.base.specs.Lent.{over, refuse}
@@ -40,6 +40,6 @@ module _ (b : List ℕ) (h : Header) (o : Opens b h) where
       unfolding reported
       report-done sums l q = sym (report-on ∙ guarded-past (refuse list) _ _ _ e ∙ guarded-last (refuse list) _ _ (le-leb (suc (length (job-in b .units))) (length list) (omega (arith, units-are b h o))) ∙ rw q)
 
-pub report-refused : (b entries list : List ℕ) (n : ℕ) → parse b ≡ P.refused n → record { answer = refused n; list = list } ≡ report-call b entries list
+pub report-refused : (b entries list : List ℕ) (n : ℕ) → parse archive b ≡ P.refused n → record { answer = refused n; list = list } ≡ report-call b entries list
 unfolding report-call on-read refuse
 report-refused b entries list n e = rw e

@@ -8,6 +8,7 @@ ghost use Rattle.base.specs.Lent.{over};
 ghost use Rattle.replaying.specs.Calls.{report-call};
 ghost use Rattle.course.specs.Answers.{Shaped};
 ghost use Rattle.report.specs.Answers.{reported, Sums};
+use header::Door;
 use header::Header;
 use job::Reading;
 
@@ -68,7 +69,7 @@ fn report_read(job: &[u8], header: Header, entries: &[u8], sums: &mut [u32]) -> 
 pub fn effective_buffers(job: &[u8], entries: &[u8], sums: &mut [u32]) -> Reported
     ensures { λ r. ⌜ reported r (now (sums .exit)) ≡ report-call (now (job .entry)) (now (entries .entry)) (now (sums .entry)) ⌝ }
 {
-    match job::read(job) {
+    match job::read(job, Door::Archive) {
         Reading::Refused(n) => Reported::Refused(n),
         Reading::Read { header, taken: _ } => report_read(job, header, entries, sums),
     }

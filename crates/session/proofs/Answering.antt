@@ -17,9 +17,10 @@ use Rattle.model.specs.Replay.{Totals}
 use Rattle.model.specs.Best.{Order, Aim}
 use Rattle.model.specs.Table.{words}
 use Rattle.format.specs.Parser as P
-use Rattle.format.specs.JobBytes.{Header, job-in, parse, Opens}
+use Rattle.format.specs.JobBytes.{Header, opening, archive, job-in, parse, Opens}
 use Rattle.format.proofs.Parsing.{passed}
 use Rattle.format.proofs.Opened.{job-formed, intervals-are}
+use Rattle.job.proofs.Answers.{Passes}
 use Rattle.pinning.specs.PinSet.{PinSet}
 use Rattle.pinset.specs.declared.PinSet as code-set
 use Rattle.pinset.specs.Answers.{set-of}
@@ -40,26 +41,26 @@ module _ (b calls : List ℕ) (aim order answers table entries : ℕ) where
   abbrev more : Job → List Test
   more j = test 11 (leb (words j) table) ∷ test 12 (leb (length calls / 3) answers) ∷ test 12 (leb (entry-size * intervals j) entries) ∷ []
 
-  pub plan-not-read : (n : ℕ) → parse b ≡ P.refused n → some n ≡ plan-refusal b calls aim order answers table entries
+  pub plan-not-read : (n : ℕ) → parse opening b ≡ P.refused n → some n ≡ plan-refusal b calls aim order answers table entries
   unfolding plan-refusal session-tests
-  plan-not-read = not-read b (asked-tests calls aim order) more
+  plan-not-read = not-read opening b (asked-tests calls aim order) more
 
-  module _ (h : Header) (o : Opens b h) where
+  module _ (h : Header) (p : Passes opening b h) where
     pub plan-not-due : (n : ℕ) → some n ≡ refusal (asked-tests calls aim order) → some n ≡ plan-refusal b calls aim order answers table entries
     unfolding plan-refusal session-tests
-    plan-not-due = by-asked b (asked-tests calls aim order) more h o
+    plan-not-due = by-asked opening b (asked-tests calls aim order) more (p .taken) (p .took)
 
     module _ (f : none ≡ refusal (asked-tests calls aim order)) where
       plan-on : plan-refusal b calls aim order answers table entries ≡ refusal (more (job-in b))
       unfolding plan-refusal session-tests
-      plan-on = behind-asked b (asked-tests calls aim order) more h o f
+      plan-on = behind-asked opening b (asked-tests calls aim order) more (p .taken) (p .took) f
 
       pub plan-11 : table < table-words h → some 11 ≡ plan-refusal b calls aim order answers table entries
-      plan-11 l = sym (plan-on ∙ refusal-here _ _ (lt-leb (words (job-in b)) table (omega (arith, words-are b h o))))
+      plan-11 l = sym (plan-on ∙ refusal-here _ _ (lt-leb (words (job-in b)) table (omega (arith, words-are b h (p .opens)))))
 
       module _ (room : table-words h ≤ table) where
         past-11 : plan-refusal b calls aim order answers table entries ≡ refusal (test 12 (leb (length calls / 3) answers) ∷ test 12 (leb (entry-size * intervals (job-in b)) entries) ∷ [])
-        past-11 = plan-on ∙ refusal-past _ _ (le-leb (words (job-in b)) table (omega (arith, words-are b h o)))
+        past-11 = plan-on ∙ refusal-past _ _ (le-leb (words (job-in b)) table (omega (arith, words-are b h (p .opens))))
 
         pub plan-12-answers : answers < length calls / 3 → some 12 ≡ plan-refusal b calls aim order answers table entries
         plan-12-answers l = sym (past-11 ∙ refusal-here _ _ (lt-leb (length calls / 3) answers l))
@@ -69,26 +70,26 @@ module _ (b calls : List ℕ) (aim order answers table entries : ℕ) where
           past-12 = past-11 ∙ refusal-past _ _ (le-leb (length calls / 3) answers each)
 
           pub plan-12-entries : entries < entry-size * (h .units + h .delay) → some 12 ≡ plan-refusal b calls aim order answers table entries
-          plan-12-entries l = sym (past-12 ∙ refusal-here _ _ (lt-leb (entry-size * intervals (job-in b)) entries (omega (arith, intervals-are b h o))))
+          plan-12-entries l = sym (past-12 ∙ refusal-here _ _ (lt-leb (entry-size * intervals (job-in b)) entries (omega (arith, intervals-are b h (p .opens)))))
 
           pub plan-fits : entry-size * (h .units + h .delay) ≤ entries → none ≡ plan-refusal b calls aim order answers table entries
-          plan-fits l = sym (past-12 ∙ refusal-last _ (le-leb (entry-size * intervals (job-in b)) entries (omega (arith, intervals-are b h o))))
+          plan-fits l = sym (past-12 ∙ refusal-last _ (le-leb (entry-size * intervals (job-in b)) entries (omega (arith, intervals-are b h (p .opens)))))
 
 -- with a replay
 module _ (b calls entries : List ℕ) (levels : ℕ) where
-  pub replay-not-read : (n : ℕ) → parse b ≡ P.refused n → some n ≡ replay-refusal b calls entries levels
+  pub replay-not-read : (n : ℕ) → parse archive b ≡ P.refused n → some n ≡ replay-refusal b calls entries levels
   unfolding replay-refusal
-  replay-not-read = not-read b (calls-tests calls) (λ j. replay-tests j entries levels)
+  replay-not-read = not-read archive b (calls-tests calls) (λ j. replay-tests j entries levels)
 
   module _ (h : Header) (o : Opens b h) where
     pub replay-not-due : (n : ℕ) → some n ≡ refusal (calls-tests calls) → some n ≡ replay-refusal b calls entries levels
     unfolding replay-refusal
-    replay-not-due = by-asked b (calls-tests calls) (λ j. replay-tests j entries levels) h o
+    replay-not-due = by-asked archive b (calls-tests calls) (λ j. replay-tests j entries levels) (o .taken) (o .parsed)
 
     module _ (f : none ≡ refusal (calls-tests calls)) where
       replay-on : replay-refusal b calls entries levels ≡ refusal (test 14 (shaped h entries) ∷ test 12 (leb (level-count (job-in b)) levels) ∷ [])
       unfolding replay-refusal replay-tests
-      replay-on = behind-asked b (calls-tests calls) (λ j. replay-tests j entries levels) h o f ∙ rw (o .header-is)
+      replay-on = behind-asked archive b (calls-tests calls) (λ j. replay-tests j entries levels) (o .taken) (o .parsed) f ∙ rw (o .header-is)
 
       pub replay-14 : shaped h entries ≡ false → some 14 ≡ replay-refusal b calls entries levels
       replay-14 e = sym (replay-on ∙ refusal-here _ _ e)
@@ -109,7 +110,7 @@ module _ (b calls entries : List ℕ) (levels : ℕ) where
 pub session-room : (b calls : List ℕ) (aim order answers table entries : ℕ) → none ≡ plan-refusal b calls aim order answers table entries → length calls / 3 ≤ answers
 unfolding plan-refusal session-tests
 session-room b calls aim order answers table entries e =
-    let p = passed (parse b) (λ j. asked-tests calls aim order ++ more b calls aim order answers table entries j) (sym e) in
+    let p = passed (parse opening b) (λ j. asked-tests calls aim order ++ more b calls aim order answers table entries j) (sym e) in
     let behind = first-none (refusal (asked-tests calls aim order)) _ (sym (refusal-join (asked-tests calls aim order) (more b calls aim order answers table entries (p .value))) ∙ p .none-refuses) .1 in
     leb-true (length calls / 3) answers (refusal-none _ _ (refusal-none _ _ behind .1) .0)
 
@@ -120,8 +121,8 @@ module _ (b calls : List ℕ) (aim order : ℕ) (answers table entries : List �
     on-planning = session-by b calls aim order answers table entries ∙ unless-none (refuse answers table entries) _ _ (sym e)
 
     -- the set that the calls left, and what planning with it came to
-    module _ (s : code-set.PinSet) (is : set-of s ≡ made b calls .set) (a : Aim) (a-is : a ≡ aim-named aim) (o : Order) (o-is : o ≡ order-named order) (p : Planned) (i : p ≡ plan-call b (set-of s) a o table entries) where
-      planned-is : plan-call b (made b calls .set) (aim-named aim) (order-named order) table entries ≡ p
+    module _ (s : code-set.PinSet) (is : set-of s ≡ made opening b calls .set) (a : Aim) (a-is : a ≡ aim-named aim) (o : Order) (o-is : o ≡ order-named order) (p : Planned) (i : p ≡ plan-call b (set-of s) a o table entries) where
+      planned-is : plan-call b (made opening b calls .set) (aim-named aim) (order-named order) table entries ≡ p
       planned-is = rw (← is, ← a-is, ← o-is) (sym i)
 
       pub session-none : (n : ℕ) → p .answer ≡ refused n → record { answers = answers; planned = record { answer = refused n; table = p .table; entries = p .entries } } ≡ session-call b calls aim order answers table entries
@@ -135,5 +136,5 @@ module _ (b calls : List ℕ) (aim order : ℕ) (answers table entries : List �
   pub session-refused : (n : ℕ) → some n ≡ plan-refusal b calls aim order (length answers) (length table) (length entries) → refuse answers table entries n ≡ session-call b calls aim order answers table entries
   session-refused n e = sym (session-by b calls aim order answers table entries ∙ unless-some (refuse answers table entries) _ n _ (sym e))
 
-pub replay-done : (b calls entries levels : List ℕ) → none ≡ replay-refusal b calls entries (length levels) → (s : PinSet) → s ≡ made b calls .set → replay-call b s entries levels ≡ replay-session b calls entries levels
+pub replay-done : (b calls entries levels : List ℕ) → none ≡ replay-refusal b calls entries (length levels) → (s : PinSet) → s ≡ made archive b calls .set → replay-call b s entries levels ≡ replay-session b calls entries levels
 replay-done b calls entries levels e s is = rw is (sym (replay-passed b calls entries levels (sym e)))

@@ -8,6 +8,7 @@ ghost use Rattle.best.specs.Answers.{order-is};
 ghost use Rattle.calling.specs.Sessions.{aim-named, order-named, asked-tests, plan-refusal, session-call, replay-refusal, replay-session};
 ghost use Rattle.session.specs.Answers.{session-is};
 use best::Order;
+use header::Door;
 use header::Verdict;
 use job::Reading;
 use planner::Aim;
@@ -50,7 +51,7 @@ fn asked_verdict(calls: &[u16], aim: u32, order: u32) -> Verdict
     calls::calls_verdict(calls)
 }
 
-// What refuses calls and planning, before one is made, with lists of these lengths: the job, 1 to 5, aim, order and calls, 2 or 1, the table, 11, then 12 for the numbers and the entries.
+// What refuses calls and planning, before one is made, with lists of these lengths: the job, 1 to 5 and 17, aim, order and calls, 2 or 1, the table, 11, then 12 for the numbers and the entries.
 pub fn plan_refusal(
     job: &[u8],
     calls: &[u16],
@@ -62,7 +63,7 @@ pub fn plan_refusal(
 ) -> Verdict
     ensures { λ r. ⌜ verdict r ≡ plan-refusal (now (job .entry)) (now (calls .entry)) aim order answers table entries ⌝ }
 {
-    match job::read(job) {
+    match job::read(job, Door::Opening) {
         Reading::Refused(n) => Verdict::Refused(n),
         Reading::Read { header, taken: _ } => {
             if let Verdict::Refused(n) = asked_verdict(calls, aim, order) {
@@ -105,7 +106,7 @@ pub fn plan_after(
     ) {
         return Planned::Refused(n);
     }
-    let set = calls::set_after(job, calls);
+    let set = calls::set_after(job, calls, Door::Opening);
     match planner::plan(job, set, aim_named(aim), order_named(order), table, entries) {
         Planned::Refused(n) => Planned::Refused(n),
         Planned::Best(totals) => {
@@ -116,11 +117,11 @@ pub fn plan_after(
     }
 }
 
-// What refuses calls and a replay, with room for so many levels: the job, 1 to 5, the calls, 2 or 1, the plan, 14, then 12.
+// What refuses calls and a replay of a job that the archive takes, with room for so many levels: the job, 1 to 5, the calls, 2 or 1, the plan, 14, then 12.
 pub fn replay_refusal(job: &[u8], calls: &[u16], entries: &[u8], levels: usize) -> Verdict
     ensures { λ r. ⌜ verdict r ≡ replay-refusal (now (job .entry)) (now (calls .entry)) (now (entries .entry)) levels ⌝ }
 {
-    match job::read(job) {
+    match job::read(job, Door::Archive) {
         Reading::Refused(n) => Verdict::Refused(n),
         Reading::Read { header, taken: _ } => {
             if let Verdict::Refused(n) = calls::calls_verdict(calls) {
@@ -137,13 +138,13 @@ pub fn replay_refusal(job: &[u8], calls: &[u16], entries: &[u8], levels: usize) 
     }
 }
 
-// Replays a plan with the pins that calls as numbers leave, refused ones included.
+// Replays a plan with the pins that calls as numbers leave, refused ones included; for a job that never drains every call is refused, and the plan is replayed without pins.
 pub fn replay_after(job: &[u8], calls: &[u16], entries: &[u8], levels: &mut [u16]) -> Replayed
     ensures { λ r. ⌜ ended r (now (levels .exit)) ≡ replay-session (now (job .entry)) (now (calls .entry)) (now (entries .entry)) (now (levels .entry)) ⌝ }
 {
     if let Verdict::Refused(n) = replay_refusal(job, calls, entries, levels.len()) {
         return Replayed::Refused(n);
     }
-    let set = calls::set_after(job, calls);
+    let set = calls::set_after(job, calls, Door::Archive);
     replay::replay(job, set, entries, levels)
 }

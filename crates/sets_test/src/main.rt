@@ -4,6 +4,7 @@ ghost use Prim.Native.Nat.{_≤_};
 ghost use lib.ListN.{length};
 use best::Order;
 use header::Bucket;
+use header::Door;
 use header::Header;
 use job::Reading;
 use libc::STDIN_FILENO;
@@ -107,7 +108,7 @@ fn print_planned(planned: Planned) {
 }
 
 fn try_set(job: &[u8], set: PinSet) {
-    print_reading(pinset::check(job, set));
+    print_reading(pinset::check(job, set, Door::Opening));
     let pinned = pins::pin(job, set, 2, 0);
     let answer = pinned.answer;
     print_answer(answer);

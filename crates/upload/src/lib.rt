@@ -1,7 +1,10 @@
 // The planner for programs in other languages: numbers and lists alone. Each function answers 0, or the number of document 01's refusal; its values go to a list that is lent.
 // The job's refusals come first. A list for values that is too short is refused with 12, behind the other lists.
 ghost use mathlib.Core.Path.{_≡_};
+ghost use Rattle.format.specs.JobBytes.{opening, archive};
 ghost use Rattle.exporting.specs.Exports.{opened, open-export, called, calls-export, planned, plan-export, replayed, replay-export, filled, report-export, turn-export, written, write-export};
+
+use header::Door;
 
 // The order of plans that are as good: document 01's, the smaller rate index first.
 const LATE: u32 = 1;
@@ -9,9 +12,17 @@ const LATE: u32 = 1;
 // Opens a job. Values: how many bytes it took, N, T, and how many words its table has.
 #[no_mangle]
 pub extern "C" fn upload_open(job: &[u8], values: &mut [u64]) -> u32
-    ensures { λ r. ⌜ opened r (now (values .exit)) ≡ open-export (now (job .entry)) (now (values .entry)) ⌝ }
+    ensures { λ r. ⌜ opened r (now (values .exit)) ≡ open-export opening (now (job .entry)) (now (values .entry)) ⌝ }
 {
-    called::open(job, values)
+    called::open(job, Door::Opening, values)
+}
+
+// Opens a stored job for what the archive serves, as `upload_open` does but for 17: a bucket may have drain 0.
+#[no_mangle]
+pub extern "C" fn upload_archive(job: &[u8], values: &mut [u64]) -> u32
+    ensures { λ r. ⌜ opened r (now (values .exit)) ≡ open-export archive (now (job .entry)) (now (values .entry)) ⌝ }
+{
+    called::open(job, Door::Archive, values)
 }
 
 // Makes calls as numbers, three a call (6 pins, 7 lifts; the unit; the choice), refused ones included, and no more. Each call's number goes to `answers`, 0 where it was taken. Values: how many pins the calls leave, the sum of their sizes and the sum of their distortions.

@@ -8,6 +8,7 @@ ghost use Rattle.header.specs.Answers.{plain};
 ghost use Rattle.parts.specs.Answers.{violation};
 ghost use Rattle.values.specs.Lists.{buckets-in, opened-values, totals-values, violation-number};
 use calls::PinTotals;
+use header::Door;
 use header::Header;
 use interval::Totals;
 use job::Reading;
@@ -30,11 +31,11 @@ pub fn put_opened(values: &mut [u64], taken: usize, header: Header)
     values[3] = table::table_words(header) as u64;
 }
 
-// How many buckets the line of a job has; one where the bytes hold no job.
+// How many buckets the line of a job that the archive takes has; one where the bytes hold no job.
 pub fn buckets_in(job: &[u8]) -> usize
     ensures { λ r. ⌜ r ≡ buckets-in (now (job .entry)) ⌝ }
 {
-    match job::read(job) {
+    match job::read(job, Door::Archive) {
         Reading::Refused(_) => 1,
         Reading::Read { header, taken: _ } => { if header.two { 2 } else { 1 } }
     }

@@ -17,19 +17,19 @@ enum-known-answer-2 : tie.Need-enum-known-answer-2
 enum-known-answer-2 c = search needs
 
 returns : tie.Need-returns
-returns c = open-12 _ _ (c .before .before .before .before .before .«open» .result) (c .before .before .before .before .before .«open» .ensures) _ (c .before .before .answer2 .given .1) (c .if1 .taken)
+returns c = open-12 _ _ _ (c .before .before .before .before .before .«open» .result) (c .before .before .before .before .before .«open» .ensures) _ (c .before .before .answer2 .given .1) (c .if1 .taken)
 
 put-opened-requires : tie.Need-put-opened-requires
 put-opened-requires c κs = search needs
 
 returns-2 : tie.Need-returns-2
-returns-2 c = open-refused _ _ (c .before .before .before .before .«open» .result) (c .before .before .before .before .«open» .ensures) _ (c .before .answer .given .1)
+returns-2 c = open-refused _ _ _ (c .before .before .before .before .«open» .result) (c .before .before .before .before .«open» .ensures) _ (c .before .answer .given .1)
 
 same-length : tie.Need-same-length
 same-length c = search needs
 
 returns-3 : tie.Need-returns-3
-returns-3 c = open-took _ _ (c .before .before .before .before .before .before .before .before .before .before .«open» .result) (c .before .before .before .before .before .before .before .before .before .before .«open» .ensures) _ (c .before .before .before .before .before .before .before .answer2 .given .1) (c .before .before .before .before .before .if1 .left) _ (c .before .before .put-opened .ensures)
+returns-3 c = open-took _ _ _ (c .before .before .before .before .before .before .before .before .before .before .«open» .result) (c .before .before .before .before .before .before .before .before .before .before .«open» .ensures) _ (c .before .before .before .before .before .before .before .answer2 .given .1) (c .before .before .before .before .before .if1 .left) _ (c .before .before .put-opened .ensures)
 
 pub open-spec : {M : Type 1} → statement M
 open-spec =

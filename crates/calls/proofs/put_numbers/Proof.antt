@@ -6,12 +6,13 @@ use Rattle.pinning.specs.Calls.{Opening}
 use mathlib.Core.Path.{ap}
 use Prim.Native.Nat.{_≤_, _-_}
 use native.Mathlib.Omega.{arith}
+use Rattle.header.specs.Answers.{door-of}
 use borrow.Author.Needs.{needs}
 use Rattle.calls.proofs.put_numbers.Statement.{statement}
 use Rattle.calls.proofs.put_numbers.Tie as tie
 
 abbrev Inv-loop : tie.InvT-loop
-Inv-loop job calls answers₀ count set₀ place₀ answers set place = (place ≤ count) × Going job calls answers₀ place (set-of set) answers
+Inv-loop job calls answers₀ count set₀ place₀ answers set place = (place ≤ count) × Going job calls answers₀ (set-of set₀) place (set-of set) answers
 
 abbrev μ-loop : tie.MeasureT-loop
 μ-loop job calls answers₀ count set₀ place₀ answers set place = count - place
@@ -20,8 +21,7 @@ open-requires : tie.Need-open-requires Inv-loop μ-loop
 open-requires c κs = search needs
 
 loop-holds : tie.Need-loop-holds Inv-loop μ-loop
-unfolding opening
-loop-holds c = (search needs, going-start _ _ _ _ (ran-start _ _ _ (ap (λ (o : Opening). o .set) (c .before .«open» .ensures))))
+loop-holds c = (search needs, going-start _ _ _ _)
 
 make-call-requires : tie.Need-make-call-requires Inv-loop μ-loop
 make-call-requires c κs = search needs
@@ -49,14 +49,15 @@ loop-again c =
     let l = m .before .before in
     let a = l .before .before .before .before .before .before in
     let g = l .loop .inv .1 in
-    let r = ran-on _ _ (l .loop .place) _ _ (g .ran) (omega arith) (handed (m .make-call .result)) (m .make-call .ensures) in
-    (omega arith, going-on _ _ _ (l .loop .place) _ _ g (omega (arith, a .pre)) (handed (m .make-call .result)) r _ (n .answer-number .ensures))
+    let r = ran-on _ _ _ (l .loop .place) _ _ (g .ran) (omega arith) (handed (m .make-call .result)) (m .make-call .ensures) in
+    (omega arith, going-on _ _ _ _ (l .loop .place) _ _ g (omega (arith, a .pre)) (handed (m .make-call .result)) r _ (n .answer-number .ensures))
 
 same-length : tie.Need-same-length Inv-loop μ-loop
 same-length c = search needs
 
 returns : tie.Need-returns Inv-loop μ-loop
-returns c = let l = c .before in going-end _ _ _ (l .loop .place) _ _ (l .loop .inv .1) (omega arith)
+unfolding opening door-of
+returns c = let l = c .before in going-end _ _ _ _ (ap (λ (o : Opening). o .set) (l .before .before .«open» .ensures)) (l .loop .place) _ _ (l .loop .inv .1) (omega arith)
 
 pub put-numbers-spec : {M : Type 1} → statement M
 put-numbers-spec =

@@ -3,6 +3,7 @@ use Rattle.former.proofs.Turning.{turn-refused}
 use Rattle.former.specs.Answers.{turn-answer, turned}
 use Rattle.format.proofs.Opened.{opens-by}
 use Rattle.job.proofs.Answers.{answer-took, answer-refused}
+use Rattle.header.specs.Answers.{door-of}
 use borrow.Author.Needs.{needs}
 use Rattle.former.proofs.turn.Statement.{statement}
 use Rattle.former.proofs.turn.Tie as tie
@@ -17,14 +18,15 @@ enum-known-header : tie.Need-enum-known-header
 enum-known-header c = search needs
 
 turn-read-requires : tie.Need-turn-read-requires
+unfolding door-of
 turn-read-requires c κs =
     let h = c .before .before in
     let read = h .before .before .read in
     let d = answer-took _ (read .result) _ _ (read .ensures) (h .header .given .1) in
-    opens-by _ _ (d .job) _ (d .is) (d .header-is)
+    opens-by _ _ _ (d .job) _ (d .is) (d .header-is)
 
 returns : tie.Need-returns
-unfolding turned turn-answer
+unfolding turned turn-answer door-of
 returns c =
     let n = c .before in
     let read = n .before .before .read in

@@ -29,13 +29,13 @@ returns : tie.Need-returns
 returns c =
     let n = c .before .before .before in
     let read = n .before .before .read in
-    open-refused _ _ _ (answer-refused _ (read .result) _ (read .ensures) (n .n .given .1)) (c .fresh .ensures ∙ ap fresh (c .before .no-header .ensures))
+    open-refused _ _ _ _ (answer-refused _ (read .result) _ (read .ensures) (n .n .given .1)) (c .fresh .ensures ∙ ap fresh (c .before .no-header .ensures))
 
 returns-2 : tie.Need-returns-2
 returns-2 c =
     let h = c .before .before in
     let read = h .before .before .read in
-    open-took _ _ _ _ (answer-took _ (read .result) _ _ (read .ensures) (h .header .given .1)) (c .fresh2 .ensures)
+    open-took _ _ _ _ _ (answer-took _ (read .result) _ _ (read .ensures) (h .header .given .1)) (c .fresh2 .ensures)
 
 pub open-spec : {M : Type 1} → statement M
 open-spec =

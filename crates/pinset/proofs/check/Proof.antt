@@ -31,13 +31,13 @@ fits-requires : tie.Need-fits-requires
 fits-requires c κs =
     let h = c .before in
     let read = h .before .before .read in
-    unfold plain in (few-units _ _ _ (answer-took _ (read .result) _ _ (read .ensures) (h .header .given .1)))
+    unfold plain in (few-units _ _ _ _ (answer-took _ (read .result) _ _ (read .ensures) (h .header .given .1)))
 
 returns : tie.Need-returns
 returns c =
     let n = c .before in
     let read = n .before .before .read in
-    (pins-size (n .before .before .before .before), check-refused _ _ _ (answer-refused _ (read .result) _ (read .ensures) (n .n .given .1)))
+    (pins-size (n .before .before .before .before), check-refused _ _ _ _ (answer-refused _ (read .result) _ (read .ensures) (n .n .given .1)))
 
 returns-2 : tie.Need-returns-2
 returns-2 c =
@@ -45,7 +45,7 @@ returns-2 c =
     let h = f .before .before in
     let read = h .before .before .read in
     let size = pins-size (h .before .before .before .before) in
-    (size, check-took _ _ _ _ (answer-took _ (read .result) _ _ (read .ensures) (h .header .given .1)) (unfold set-of in size) (sym (c .if1 .taken) ∙ f .fits2 .ensures))
+    (size, check-took _ _ _ _ _ (answer-took _ (read .result) _ _ (read .ensures) (h .header .given .1)) (unfold set-of in size) (sym (c .if1 .taken) ∙ f .fits2 .ensures))
 
 returns-3 : tie.Need-returns-3
 returns-3 c =
@@ -53,7 +53,7 @@ returns-3 c =
     let h = f .before .before in
     let read = h .before .before .read in
     let size = pins-size (h .before .before .before .before) in
-    (size, check-six _ _ _ _ (answer-took _ (read .result) _ _ (read .ensures) (h .header .given .1)) (unfold set-of in size) (sym (c .if1 .left) ∙ f .fits2 .ensures))
+    (size, check-six _ _ _ _ _ (answer-took _ (read .result) _ _ (read .ensures) (h .header .given .1)) (unfold set-of in size) (sym (c .if1 .left) ∙ f .fits2 .ensures))
 
 pub check-spec : {M : Type 1} → statement M
 check-spec =

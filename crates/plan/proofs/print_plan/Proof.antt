@@ -27,7 +27,7 @@ print-intervals-requires c κs =
     let h = c .before .before in
     let read = h .before .before .read in
     let d = answer-took _ (read .result) _ _ (read .ensures) (h .header .given .1) in
-    (few-intervals _ _ (opens-by _ _ (d .job) _ (d .is) (d .header-is)), h .before .before .before .before .before .pre)
+    (few-intervals _ _ (opens-by _ _ _ (d .job) _ (d .is) (d .header-is)), h .before .before .before .before .before .pre)
 
 total-requires : tie.Need-total-requires
 total-requires c κs = search needs

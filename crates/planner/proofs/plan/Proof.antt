@@ -1,9 +1,11 @@
 -- `planner::plan` meets its contract.
-use Rattle.planner.proofs.Answering.{plan-refused}
+use Rattle.planner.proofs.Answering.{plan-refused, plan-took}
 use Rattle.planner.specs.Answers.{answered, planned}
 use Rattle.pinset.specs.Answers.{set-of}
-use Rattle.pinset.proofs.Answering.{ready}
+use Rattle.pinset.proofs.Answering.{ready, ready-took}
 use Rattle.job.proofs.Answers.{answer-took, answer-refused}
+use mathlib.Core.Path.{_∙_}
+use Rattle.header.specs.Answers.{door-of}
 use borrow.Author.Needs.{needs}
 use Rattle.planner.proofs.plan.Statement.{statement}
 use Rattle.planner.proofs.plan.Tie as tie
@@ -18,14 +20,14 @@ enum-known-header : tie.Need-enum-known-header
 enum-known-header c = search needs
 
 plan-checked-requires : tie.Need-plan-checked-requires
-unfolding set-of
+unfolding set-of door-of
 plan-checked-requires c κs =
     let h = c .before .before .before in
     let check = h .before .before .check in
-    ready _ _ _ _ (answer-took _ (check .result) _ _ (check .ensures .1) (h .header .given .1)) (check .ensures .0)
+    ready _ _ _ _ _ (answer-took _ (check .result) _ _ (check .ensures .1) (h .header .given .1)) (check .ensures .0)
 
 returns : tie.Need-returns
-unfolding planned answered
+unfolding planned answered door-of
 returns c =
     let n = c .before in
     let check = n .before .before .check in
@@ -38,7 +40,12 @@ same-length-2 : tie.Need-same-length-2
 same-length-2 c = search needs
 
 returns-2 : tie.Need-returns-2
-returns-2 c = search needs
+unfolding set-of door-of
+returns-2 c =
+    let p = c .before .before .before .before in
+    let h = p .before .before .before .before in
+    let check = h .before .before .check in
+    p .plan-checked .ensures ∙ plan-took _ _ _ _ _ _ _ _ (ready-took _ _ _ _ _ (answer-took _ (check .result) _ _ (check .ensures .1) (h .header .given .1)) (check .ensures .0))
 
 pub plan-spec : {M : Type 1} → statement M
 plan-spec =

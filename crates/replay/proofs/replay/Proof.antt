@@ -4,6 +4,7 @@ use Rattle.replay.specs.Answers.{answered, ended}
 use Rattle.pinset.specs.Answers.{set-of}
 use Rattle.pinset.proofs.Answering.{ready}
 use Rattle.job.proofs.Answers.{answer-took, answer-refused}
+use Rattle.header.specs.Answers.{door-of}
 use borrow.Author.Needs.{needs}
 use Rattle.replay.proofs.replay.Statement.{statement}
 use Rattle.replay.proofs.replay.Tie as tie
@@ -18,14 +19,14 @@ enum-known-header : tie.Need-enum-known-header
 enum-known-header c = search needs
 
 replay-checked-requires : tie.Need-replay-checked-requires
-unfolding set-of
+unfolding set-of door-of
 replay-checked-requires c κs =
     let h = c .before .before in
     let check = h .before .before .check in
-    ready _ _ _ _ (answer-took _ (check .result) _ _ (check .ensures .1) (h .header .given .1)) (check .ensures .0)
+    ready _ _ _ _ _ (answer-took _ (check .result) _ _ (check .ensures .1) (h .header .given .1)) (check .ensures .0)
 
 returns : tie.Need-returns
-unfolding ended answered
+unfolding ended answered door-of
 returns c =
     let n = c .before in
     let check = n .before .before .check in

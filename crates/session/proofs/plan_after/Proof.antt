@@ -4,7 +4,7 @@ use Rattle.session.specs.Answers.{session-is}
 use Rattle.planner.specs.Answers.{answered, planned}
 use Rattle.planning.specs.Calls as plan
 use Rattle.calling.specs.Sessions.{refuse}
-use Rattle.header.specs.Answers.{verdict}
+use Rattle.header.specs.Answers.{verdict, door-of}
 use mathlib.Core.Path.{sym, _∙_, ap}
 use borrow.Author.Needs.{needs}
 use Rattle.session.proofs.plan_after.Statement.{statement}
@@ -52,7 +52,7 @@ same-length-2 : tie.Need-same-length-2
 same-length-2 c = search needs
 
 returns-2 : tie.Need-returns-2
-unfolding session-is planned answered verdict
+unfolding session-is planned answered verdict door-of
 returns-2 c = session-none _ _ _ _ _ _ _ (ap verdict (sym (c .before .before .before .before .before .before .before .before .before .before .before .before .before .enum-told .given .1)) ∙ c .before .before .before .before .before .before .before .before .before .before .before .before .before .before .before .plan-refusal .ensures) _ (c .before .before .before .before .before .before .before .before .before .before .before .before .set-after .ensures) _ (c .before .before .before .before .before .before .before .before .before .before .before .aim-named .ensures) _ (c .before .before .before .before .before .before .before .before .before .before .order-named .ensures) (planned (c .before .before .before .before .before .before .before .plan .result) _ _) (c .before .before .before .before .before .before .before .plan .ensures) _ (ap answered (c .before .n2 .given .1))
 
 same-length-3 : tie.Need-same-length-3
@@ -65,7 +65,7 @@ same-length-5 : tie.Need-same-length-5
 same-length-5 c = search needs
 
 returns-3 : tie.Need-returns-3
-unfolding session-is planned answered verdict
+unfolding session-is planned answered verdict door-of
 returns-3 c = session-made _ _ _ _ _ _ _ (ap verdict (sym (c .before .before .before .before .before .before .before .before .before .before .before .before .before .before .before .before .before .enum-told .given .1)) ∙ c .before .before .before .before .before .before .before .before .before .before .before .before .before .before .before .before .before .before .before .plan-refusal .ensures) _ (c .before .before .before .before .before .before .before .before .before .before .before .before .before .before .before .before .set-after .ensures) _ (c .before .before .before .before .before .before .before .before .before .before .before .before .before .before .before .aim-named .ensures) _ (c .before .before .before .before .before .before .before .before .before .before .before .before .before .before .order-named .ensures) (planned (c .before .before .before .before .before .before .before .before .before .before .before .plan .result) _ _) (c .before .before .before .before .before .before .before .before .before .before .before .plan .ensures) _ (ap answered (c .before .before .before .before .before .totals .given .1)) _ _ (c .before .before .put-numbers .ensures)
 
 pub plan-after-spec : {M : Type 1} → statement M

@@ -3,7 +3,7 @@ use Rattle.calling.proofs.Sessions.{replay-refused}
 use Rattle.session.proofs.Answering.{replay-done}
 use Rattle.replay.specs.Answers.{answered, ended}
 use Rattle.base.specs.Lent.{refuse}
-use Rattle.header.specs.Answers.{verdict}
+use Rattle.header.specs.Answers.{verdict, door-of}
 use mathlib.Core.Path.{sym, _∙_, ap}
 use borrow.Author.Needs.{needs}
 use Rattle.session.proofs.replay_after.Statement.{statement}
@@ -32,7 +32,7 @@ same-length : tie.Need-same-length
 same-length c = search needs
 
 returns-2 : tie.Need-returns-2
-unfolding verdict
+unfolding verdict door-of
 returns-2 c = c .before .before .replay .ensures ∙ replay-done _ _ _ _ (ap verdict (sym (c .before .before .before .before .before .enum-told .given .1)) ∙ c .before .before .before .before .before .before .before .replay-refusal .ensures) _ (c .before .before .before .before .set-after .ensures)
 
 pub replay-after-spec : {M : Type 1} → statement M
