@@ -20,6 +20,7 @@ pub mod Words
 pub mod Steps
 pub mod Layers
 pub mod Tables
+pub mod TableWords
 pub mod ReadOff
 pub mod Lines
 pub mod Neutral

@@ -105,6 +105,12 @@ module _ (j : Job) (k : Open) (s : ℕ) (start : Levels) where
     pub best-is : (v : ℕ) → least-total j k s start ≡ some v → BestOf j s total o Permits (best-plan j k s start o)
     pub its-distortion : (v : ℕ) → least-total j k s start ≡ some v → total-distortion j s (best-plan j k s start o) ≡ v
 
+-- w is the word of the levels s after interval t, with the choices k open: 4,294,967,295 exactly where no such plan completes the job from there; else such a plan has so much distortion, and none has less
+pub record WordClaim (j : Job) (k : Open) (t : ℕ) (s : Levels) (w : ℕ) : Type 0 where
+  pub none-iff : (w ≡ 4294967295) ↔ ((p : List Entry) → Permits j k t s p → ⊥)
+  pub attained : (w ≡ 4294967295 → ⊥) → (p : List Entry) × Permits j k t s p × (total-distortion j t p ≡ w)
+  pub no-less : (p : List Entry) → Permits j k t s p → w ≤ total-distortion j t p
+
 -- which unit an interval decodes, of a plan p for a whole job: interval u + d decodes unit u, units counted from 1
 pub record UnitsClaim (j : Job) (p : List Entry) : Type 0 where
   -- in shape, it makes a choice for every unit
@@ -205,6 +211,10 @@ OneBest Among = (j : Job) (s : ℕ) (a : Aim) (o : Order) (p q : List Entry) →
 -- a table that follows the rule of a layer holds the least distortion of every state
 abbrev pub TableLaw : Type 0
 TableLaw = (j : Job) (k : Open) (table : List ℕ) → Bounded j → FollowsRule j k table → IsTable j k 0 table
+
+-- what the words of a table mean, from the first layer that is the job's on
+abbrev pub TableWords : Type 0
+TableWords = (j : Job) (k : Open) (first : ℕ) (table : List ℕ) → Bounded j → IsTable j k first table → (t : ℕ) (s : Levels) → first ≤ t → t ≤ intervals j → InLayer (j .line) s → WordClaim j k t s (wordAt j table t s)
 
 abbrev pub ReadOff : Type 0
 ReadOff = (j : Job) (k : Open) (o : Order) (table : List ℕ) (t : ℕ) (s : Levels) (v : ℕ) → Bounded j → IsTable j k t table → t < intervals j → InLayer (j .line) s → least-total j k t s ≡ some v → ReadOffClaim j k o table t s v
