@@ -6,6 +6,7 @@ pub mod Outcome
 pub mod Levels
 pub mod Sums
 pub mod DemandTwo
+pub mod Splits
 pub mod Drains
 pub mod Buffers
 pub mod Entries

@@ -11,7 +11,7 @@ use lib.Signed.{_≤ℤ_}
 use Rattle.trellis.specs.Table.{first-at, marked-offer}
 use Rattle.trellis.specs.Trellis.{NoLater}
 use Rattle.trellis.specs.Limit.{UpTo}
-use Rattle.model.specs.Job.{Bucket, bucketAt, nothing, Levels, Job, Entry, distorts, intervals, PlanFits}
+use Rattle.model.specs.Job.{Bucket, bucketAt, nothing, Levels, Job, Entry, distorts, intervals, EntryFits, PlanFits}
 use Rattle.model.specs.Levels.{entryOf, sent, taken, distorted, decoderLevel, bucketLevel, unusedDrain, sentAfter, effectiveBuffer, unitsTaken}
 use Rattle.base.specs.Lists.{sum}
 use Rattle.model.specs.Pins.{PinMap}
@@ -111,10 +111,12 @@ pub record WordClaim (j : Job) (k : Open) (t : ℕ) (s : Levels) (w : ℕ) : Typ
   pub attained : (w ≡ 4294967295 → ⊥) → (p : List Entry) × Permits j k t s p × (total-distortion j t p ≡ w)
   pub no-less : (p : List Entry) → Permits j k t s p → w ≤ total-distortion j t p
 
--- which unit an interval decodes, of a plan p for a whole job: interval u + d decodes unit u, units counted from 1
+-- what an interval of a plan p for a whole job sends and which unit it decodes: interval u + d decodes unit u, units counted from 1
 pub record UnitsClaim (j : Job) (p : List Entry) : Type 0 where
   -- in shape, it makes a choice for every unit
   pub decodes : PlanFits j 0 p → (u : ℕ) → 1 ≤ u → u ≤ length (j .units) → (c : ℕ) × (c < j .choices) × (entryOf p (u + j .delay) .choice ≡ some c)
+  -- C is the rate that the entry names
+  pub sends : (n : ℕ) → sent j p (suc n) ≡ getD (j .line .rates) (entryOf p (suc n) .rate) 0
   -- R and the distortion are those of unit u as the choice codes it
   pub takes : (u c : ℕ) → 1 ≤ u → entryOf p (u + j .delay) .choice ≡ some c → taken j 0 p (u + j .delay) ≡ getD (getD (j .units) (u - 1) []) c nothing .size
   pub distorts : (u c : ℕ) → 1 ≤ u → entryOf p (u + j .delay) .choice ≡ some c → distorted j 0 p (u + j .delay) ≡ getD (getD (j .units) (u - 1) []) c nothing .distortion
@@ -154,7 +156,15 @@ pub record TwoBuckets (j : Job) (k k2 : Bucket) : Type 0 where
 abbrev pub DemandTwo : Type 0
 DemandTwo = (j : Job) (m : PinMap) (s : ℕ) (start : Levels) (p : List Entry) → ReplayClaim j m s start p (replay j m s start p)
 
--- which unit an interval decodes, and which pin bears on it
+-- a plan's first entry and the rest: the plan is admissible exactly where the entry is in range, its interval reaches levels without a violation, and the rest is admissible from these
+abbrev pub Splits : Type 0
+Splits = (j : Job) (m : PinMap) (s : ℕ) (start : Levels) (e : Entry) (p : List Entry) → Admissible j m s start (e ∷ p) ↔ (EntryFits j (suc s) e × ((l : Levels) × (outcome j m (suc s) start e ≡ reaches l) × Admissible j m (suc s) l p))
+
+-- and a plan of no entry is admissible exactly after the last interval
+abbrev pub PlansEnd : Type 0
+PlansEnd = (j : Job) (m : PinMap) (s : ℕ) (start : Levels) → Admissible j m s start [] ↔ (s ≡ intervals j)
+
+-- what an interval sends, which unit it decodes, and which pin bears on it
 abbrev pub Units : Type 0
 Units = (j : Job) (p : List Entry) → UnitsClaim j p
 
