@@ -21,6 +21,7 @@ pub mod Words
 pub mod Steps
 pub mod Layers
 pub mod Tables
+pub mod Rule
 pub mod TableWords
 pub mod ReadOff
 pub mod Lines

@@ -222,6 +222,10 @@ OneBest Among = (j : Job) (s : ℕ) (a : Aim) (o : Order) (p q : List Entry) →
 abbrev pub TableLaw : Type 0
 TableLaw = (j : Job) (k : Open) (table : List ℕ) → Bounded j → FollowsRule j k table → IsTable j k 0 table
 
+-- and the other way round: a list that holds them follows the rule
+abbrev pub RuleOf : Type 0
+RuleOf = (j : Job) (k : Open) (table : List ℕ) → Bounded j → IsTable j k 0 table → FollowsRule j k table
+
 -- what the words of a table mean, from the first layer that is the job's on
 abbrev pub TableWords : Type 0
 TableWords = (j : Job) (k : Open) (first : ℕ) (table : List ℕ) → Bounded j → IsTable j k first table → (t : ℕ) (s : Levels) → first ≤ t → t ≤ intervals j → InLayer (j .line) s → WordClaim j k t s (wordAt j table t s)
