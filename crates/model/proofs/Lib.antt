@@ -6,6 +6,7 @@ pub mod Outcome
 pub mod Levels
 pub mod Sums
 pub mod DemandTwo
+pub mod Splits
 pub mod Drains
 pub mod Buffers
 pub mod Entries
@@ -20,6 +21,8 @@ pub mod Words
 pub mod Steps
 pub mod Layers
 pub mod Tables
+pub mod Rule
+pub mod TableWords
 pub mod ReadOff
 pub mod Lines
 pub mod Neutral

@@ -1,4 +1,4 @@
--- Which unit an interval decodes, and which pin bears on it: `Units` and `PinnedUnits`.
+-- What an interval sends, which unit it decodes, and which pin bears on it: `Units` and `PinnedUnits`.
 use Prim.Native.Nat.{ℕ, zero, suc, _+_, _-_, _<_, _≤_}
 use mathlib.Core.Path.{_≡_, refl, ap}
 use mathlib.Core.Option.{Option, none, some}
@@ -8,8 +8,8 @@ use native.Mathlib.Omega.{arith}
 use lib.ListN.{length, getD}
 use borrow.Author.Tests.{le-leb, lt-leb}
 use Rattle.base.specs.If.{if_then_else_}
-use Rattle.model.specs.Job.{Coding, nothing, Levels, Job, Entry, intervals, coding, codingAt, takes, distorts, ChoiceFits, waits, decodes, EntryFits, PlanFits, ends, goes}
-use Rattle.model.specs.Levels.{entryOf, taken, distorted}
+use Rattle.model.specs.Job.{Coding, nothing, Levels, Job, Entry, intervals, coding, codingAt, sends, takes, distorts, ChoiceFits, waits, decodes, EntryFits, PlanFits, ends, goes}
+use Rattle.model.specs.Levels.{entryOf, sent, taken, distorted}
 use Rattle.model.specs.Pins.{PinMap, pinOf, pinAt, PinHeld, free, kept}
 use Rattle.model.specs.Admissible.{ending, Admissible}
 use Rattle.model.specs.Claims.{PinnedClaim, Units, PinnedUnits}
@@ -50,9 +50,10 @@ module _ (j : Job) (p : List Entry) (f : PlanFits j 0 p) where
   nothing-decoded (suc n) h = let e : 0 + suc n ≡ suc n = omega arith in rw e (nothing-coded h (in-range (suc n) (omega arith) (omega (arith, plan-length))))
 
 pub units : Units
-unfolding taken distorted takes distorts
+unfolding sent sends taken distorted takes distorts
 units j p = record {
   decodes = λ f u h k. choice-made (omega arith) (in-range j p f (u + j .delay) (omega arith) (omega (arith, plan-length j p f)));
+  sends = λ n. refl;
   takes = λ u c h e. ap (λ (k : Coding). k .size) (coded j u c _ h e);
   distorts = λ u c h e. ap (λ (k : Coding). k .distortion) (coded j u c _ h e);
   waits = λ f t h. (ap (λ (k : Coding). k .size) (nothing-decoded j p f t h), ap (λ (k : Coding). k .distortion) (nothing-decoded j p f t h));

@@ -11,7 +11,7 @@ use lib.Signed.{_≤ℤ_}
 use Rattle.trellis.specs.Table.{first-at, marked-offer}
 use Rattle.trellis.specs.Trellis.{NoLater}
 use Rattle.trellis.specs.Limit.{UpTo}
-use Rattle.model.specs.Job.{Bucket, bucketAt, nothing, Levels, Job, Entry, distorts, intervals, PlanFits}
+use Rattle.model.specs.Job.{Bucket, bucketAt, nothing, Levels, Job, Entry, distorts, intervals, EntryFits, PlanFits}
 use Rattle.model.specs.Levels.{entryOf, sent, taken, distorted, decoderLevel, bucketLevel, unusedDrain, sentAfter, effectiveBuffer, unitsTaken}
 use Rattle.base.specs.Lists.{sum}
 use Rattle.model.specs.Pins.{PinMap}
@@ -105,10 +105,18 @@ module _ (j : Job) (k : Open) (s : ℕ) (start : Levels) where
     pub best-is : (v : ℕ) → least-total j k s start ≡ some v → BestOf j s total o Permits (best-plan j k s start o)
     pub its-distortion : (v : ℕ) → least-total j k s start ≡ some v → total-distortion j s (best-plan j k s start o) ≡ v
 
--- which unit an interval decodes, of a plan p for a whole job: interval u + d decodes unit u, units counted from 1
+-- w is the word of the levels s after interval t, with the choices k open: 4,294,967,295 exactly where no such plan completes the job from there; else such a plan has so much distortion, and none has less
+pub record WordClaim (j : Job) (k : Open) (t : ℕ) (s : Levels) (w : ℕ) : Type 0 where
+  pub none-iff : (w ≡ 4294967295) ↔ ((p : List Entry) → Permits j k t s p → ⊥)
+  pub attained : (w ≡ 4294967295 → ⊥) → (p : List Entry) × Permits j k t s p × (total-distortion j t p ≡ w)
+  pub no-less : (p : List Entry) → Permits j k t s p → w ≤ total-distortion j t p
+
+-- what an interval of a plan p for a whole job sends and which unit it decodes: interval u + d decodes unit u, units counted from 1
 pub record UnitsClaim (j : Job) (p : List Entry) : Type 0 where
   -- in shape, it makes a choice for every unit
   pub decodes : PlanFits j 0 p → (u : ℕ) → 1 ≤ u → u ≤ length (j .units) → (c : ℕ) × (c < j .choices) × (entryOf p (u + j .delay) .choice ≡ some c)
+  -- C is the rate that the entry names
+  pub sends : (n : ℕ) → sent j p (suc n) ≡ getD (j .line .rates) (entryOf p (suc n) .rate) 0
   -- R and the distortion are those of unit u as the choice codes it
   pub takes : (u c : ℕ) → 1 ≤ u → entryOf p (u + j .delay) .choice ≡ some c → taken j 0 p (u + j .delay) ≡ getD (getD (j .units) (u - 1) []) c nothing .size
   pub distorts : (u c : ℕ) → 1 ≤ u → entryOf p (u + j .delay) .choice ≡ some c → distorted j 0 p (u + j .delay) ≡ getD (getD (j .units) (u - 1) []) c nothing .distortion
@@ -148,7 +156,15 @@ pub record TwoBuckets (j : Job) (k k2 : Bucket) : Type 0 where
 abbrev pub DemandTwo : Type 0
 DemandTwo = (j : Job) (m : PinMap) (s : ℕ) (start : Levels) (p : List Entry) → ReplayClaim j m s start p (replay j m s start p)
 
--- which unit an interval decodes, and which pin bears on it
+-- a plan's first entry and the rest: the plan is admissible exactly where the entry is in range, its interval reaches levels without a violation, and the rest is admissible from these
+abbrev pub Splits : Type 0
+Splits = (j : Job) (m : PinMap) (s : ℕ) (start : Levels) (e : Entry) (p : List Entry) → Admissible j m s start (e ∷ p) ↔ (EntryFits j (suc s) e × ((l : Levels) × (outcome j m (suc s) start e ≡ reaches l) × Admissible j m (suc s) l p))
+
+-- and a plan of no entry is admissible exactly after the last interval
+abbrev pub PlansEnd : Type 0
+PlansEnd = (j : Job) (m : PinMap) (s : ℕ) (start : Levels) → Admissible j m s start [] ↔ (s ≡ intervals j)
+
+-- what an interval sends, which unit it decodes, and which pin bears on it
 abbrev pub Units : Type 0
 Units = (j : Job) (p : List Entry) → UnitsClaim j p
 
@@ -205,6 +221,14 @@ OneBest Among = (j : Job) (s : ℕ) (a : Aim) (o : Order) (p q : List Entry) →
 -- a table that follows the rule of a layer holds the least distortion of every state
 abbrev pub TableLaw : Type 0
 TableLaw = (j : Job) (k : Open) (table : List ℕ) → Bounded j → FollowsRule j k table → IsTable j k 0 table
+
+-- and the other way round: a list that holds them follows the rule
+abbrev pub RuleOf : Type 0
+RuleOf = (j : Job) (k : Open) (table : List ℕ) → Bounded j → IsTable j k 0 table → FollowsRule j k table
+
+-- what the words of a table mean, from the first layer that is the job's on
+abbrev pub TableWords : Type 0
+TableWords = (j : Job) (k : Open) (first : ℕ) (table : List ℕ) → Bounded j → IsTable j k first table → (t : ℕ) (s : Levels) → first ≤ t → t ≤ intervals j → InLayer (j .line) s → WordClaim j k t s (wordAt j table t s)
 
 abbrev pub ReadOff : Type 0
 ReadOff = (j : Job) (k : Open) (o : Order) (table : List ℕ) (t : ℕ) (s : Levels) (v : ℕ) → Bounded j → IsTable j k t table → t < intervals j → InLayer (j .line) s → least-total j k t s ≡ some v → ReadOffClaim j k o table t s v

@@ -33,6 +33,13 @@ use Rattle.planning.specs.Calls.{refuse, searched, search-in, plan-tests
 use Rattle.planning.specs.Claims.{BestWritten, PlanClaim, DemandThree}
 use Rattle.planning.proofs.Layers.{from-before, from-rest, from-length, from-table}
 
+-- where neither list is too short, planning is what the search finds
+pub plan-searches : (j : Job) (m : PinMap) (a : Aim) (o : Order) (s : ℕ) (start : Levels) (table entries : List ℕ) → words j ≤ length table → entry-size * (intervals j - s) ≤ length entries → plan-in j m a o s start table entries ≡ search-in j m a o s start table entries
+unfolding plan-in plan-tests
+plan-searches j m a o s start table entries room space =
+    guarded-past (refuse table entries) (test 11 (leb (words j) (length table))) (test 12 (leb (entry-size * (intervals j - s)) (length entries)) ∷ []) (search-in j m a o s start table entries) (le-leb (words j) (length table) room)
+    ∙ guarded-last (refuse table entries) (test 12 (leb (entry-size * (intervals j - s)) (length entries))) (search-in j m a o s start table entries) (le-leb (entry-size * (intervals j - s)) (length entries) space)
+
 module _ (j : Job) (m : PinMap) (a : Aim) (o : Order) (s : ℕ) (start : Levels) (few : j .choices ≤ no-choice) (rates : length (j .line .rates) ≤ 256) (h : s ≤ intervals j) (table entries : List ℕ) (room : words j ≤ length table) (space : entry-size * (intervals j - s) ≤ length entries) where
   abbrev k : Open
   k = open-for a j m s start
@@ -88,13 +95,8 @@ module _ (j : Job) (m : PinMap) (a : Aim) (o : Order) (s : ℕ) (start : Levels)
   unfolding search-in
   search-claim = searched-claim (least-total j k s start) refl
 
-  -- where neither list is too short
   pub plan-claim : PlanClaim j m a o s start table entries (plan-in j m a o s start table entries)
-  unfolding plan-in plan-tests
-  plan-claim =
-      rw (guarded-past (refuse table entries) (test 11 (leb (words j) (length table))) (test 12 (leb (entry-size * (intervals j - s)) (length entries)) ∷ []) (search-in j m a o s start table entries) (le-leb (words j) (length table) room)
-      ∙ guarded-last (refuse table entries) (test 12 (leb (entry-size * (intervals j - s)) (length entries))) (search-in j m a o s start table entries) (le-leb (entry-size * (intervals j - s)) (length entries) space))
-      search-claim
+  plan-claim = rw (plan-searches j m a o s start table entries room space) search-claim
 
 pub demand-three : DemandThree
 unfolding plan-call on-read

@@ -1,4 +1,4 @@
--- Planning is refused in document 01's order, and else gives 13 or a best plan: `PlanCalls`; what a refusal leaves: `Keeps`; and 13 is given alike by either aim: `NoPlanAlike`.
+-- Planning is refused in document 01's order, and else gives 13 or a best plan: `PlanCalls`; what a refusal leaves: `Keeps`; and 13 is given alike by either aim: `NoPlanAlike`, `NoPlanAnyhow`.
 use Prim.Native.Nat.{ℕ, _-_, _*_, _≤_}
 use mathlib.Core.Path.{_≡_, refl, sym}
 use mathlib.Core.Logic.{_↔_}
@@ -13,8 +13,9 @@ use Rattle.base.specs.Answer as base
 use Rattle.base.specs.Refusals.{Test, refusal, unless, guarded, condition}
 use Rattle.base.proofs.Answers.{refused-same, not-refused}
 use Rattle.base.proofs.Refusals.{not-none, no-more, one-more, Guarded, was-refused, was-done, guarded-is}
-use Rattle.model.specs.Job.{Levels, Job, intervals}
+use Rattle.model.specs.Job.{Levels, Job, Entry, intervals}
 use Rattle.model.specs.Pins.{PinMap}
+use Rattle.model.specs.Admissible.{Admissible}
 use Rattle.model.specs.Best.{Order, Open, least-total, Aim, total, even, open-for}
 use Rattle.model.specs.Table.{words}
 use Rattle.format.specs.Parser.{Result, refused, took, on-read}
@@ -27,8 +28,8 @@ use Rattle.pinning.specs.Check.{checked}
 use Rattle.pinning.proofs.Agree.{looks-checked}
 use Rattle.replaying.specs.Entries.{entry-size}
 use Rattle.planning.specs.Calls.{Planned, refuse, searched, search-in, plan-tests, plan-in, plan-call}
-use Rattle.planning.specs.Claims.{PlanClaim, Keeping, PlanCalls, Keeps, NoPlanAlike}
-use Rattle.planning.proofs.DemandThree.{search-claim}
+use Rattle.planning.specs.Claims.{PlanClaim, Keeping, PlanCalls, Keeps, NoPlanAlike, NoPlanAnyhow}
+use Rattle.planning.proofs.DemandThree.{search-claim, plan-searches}
 
 pub plan-calls : PlanCalls
 unfolding plan-call plan-in plan-tests
@@ -105,3 +106,20 @@ pub no-plan-alike : NoPlanAlike
 unfolding plan-call plan-in guarded
 no-plan-alike b s o table entries =
     read-alike o table entries (checked opening b s) _ _ (λ j. unless-alike o table entries (refusal (plan-tests j 0 (length table) (length entries))) _ _ (search-alike o table entries j (lines (length (j .units)) (s .pins))))
+
+-- from lists that are long enough, planning gives 13 exactly where no plan is admissible, which names neither aim nor order nor lists
+module _ (j : Job) (m : PinMap) (a : Aim) (o : Order) (table entries : List ℕ) (room : words j ≤ length table) (space : entry-size * intervals j ≤ length entries) where
+  none-admissible : (plan-in j m a o 0 (j .start) table entries .answer ≡ base.refused 13) ↔ ((p : List Entry) → Admissible j m 0 (j .start) p → ⊥)
+  unfolding search-in
+  none-admissible =
+      let found = searched-none j (open-for a j m 0 (j .start)) o 0 (j .start) table entries (least-total j (open-for a j m 0 (j .start)) 0 (j .start)) in
+      let none-is = aims j m 0 (j .start) a o (omega arith) .none-iff in
+      rw (plan-searches j m a o 0 (j .start) table entries room (omega arith)) (λ e. none-is .0 (found .0 e), λ f. found .1 (none-is .1 f))
+
+pub no-plan-anyhow : NoPlanAnyhow
+unfolding plan-call on-read
+no-plan-anyhow b j n s read o o′ table table′ entries entries′ room room′ space space′ =
+    let m = lines (length (j .units)) (s .pins) in
+    let one = none-admissible j m total o table entries room (omega (arith, space)) in
+    let other = none-admissible j m even o′ table′ entries′ room′ (omega (arith, space′)) in
+    rw read (λ e. other .1 (one .0 e), λ e. one .1 (other .0 e))

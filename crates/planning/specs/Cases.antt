@@ -2,7 +2,7 @@
 use Prim.Native.Nat.{ℕ}
 use mathlib.Core.Path.{_≡_}
 use mathlib.Core.List.{List, [], _∷_, map}
-use lib.ListN.{replicate}
+use lib.ListN.{getD, replicate}
 use Rattle.base.specs.Answer.{Answer, refused, gives}
 use Rattle.model.specs.Pins.{Call, pin, lift}
 use Rattle.model.specs.Replay.{Totals}
@@ -135,3 +135,63 @@ replies =
 -- one computed test of the whole table
 abbrev pub Cases : Type 0
 Cases = map reply questions ≡ replies
+
+-- Single words of the table at exit: a plan is asked for as above, and then the word in a place of the list that was lent.
+pub record WordQuestion : Type 0 where
+  pub asked : Question
+  pub place : ℕ
+
+unfoldable pub word-after : WordQuestion → ℕ
+word-after q = getD (plan-call (q .asked .job) (set-after (q .asked .job) (q .asked .calls)) (q .asked .aim) late (replicate (q .asked .words) 9) (replicate (q .asked .bytes) 7) .table) (q .place) 0
+
+abbrev pub word-of : Question → ℕ → WordQuestion
+word-of q i = record { asked = q; place = i }
+
+-- Job A has words for b up to 4 and l up to 3, so that t, b and l have the place (t × 5 + b) × 4 + l; job E for l up to 1: (t × 5 + b) × 2 + l. With the second bucket of size 0 the places are Job A's
+unfoldable pub word-questions : List WordQuestion
+word-questions =
+    -- Job A, at the start: the plan's 50. With unit 1 pinned at 1 it is 70
+    word-of (asks [] 80 9) 0
+    ∷ word-of (asks (pin 1 1 ∷ []) 80 9) 0
+    -- t 1, b 0, l 3: the bucket takes 2 grains an interval, so that both units have 2, at 30 and 40
+    ∷ word-of (asks [] 80 9) 23
+    -- t 1, b 0, l 3 with unit 1 pinned at 0: its 4 grains never arrive
+    ∷ word-of (asks (pin 1 0 ∷ []) 80 9) 23
+    -- t 2, b 4, l 3: unit 2 has 2 of the 4 grains, at 40, and its 5 do not fit
+    ∷ word-of (asks [] 80 9) 59
+    -- t 3: nothing is left to decode, in the first place and the last
+    ∷ word-of (asks [] 80 9) 60
+    ∷ word-of (asks [] 80 9) 79
+    -- the word behind the table, and a table that is a word too short
+    ∷ word-of (asks [] 81 9) 80
+    ∷ word-of (asks [] 79 9) 0
+    -- job E with unit 2 at 31, t 2, b 0, l 0: only 2 grains can arrive, so that unit 2 has 2, at 31. For even pictures the limit is 30, which leaves that choice out
+    ∷ word-of (asks-for total (bytes-e 12 31) [] 40 9) 20
+    ∷ word-of (asks-for even (bytes-e 12 31) [] 40 9) 20
+    -- at the start: the totals of the plans, 10 and 31, and for even pictures 30 and 12; not the greatest, 30
+    ∷ word-of (asks-for total (bytes-e 12 31) [] 40 9) 0
+    ∷ word-of (asks-for even (bytes-e 12 31) [] 40 9) 0
+    -- t 1, b 2, l 0, where both plans are after interval 1: 2 grains arrive in each interval that is left, as many as both plans have from there, so that the words are the same
+    ∷ word-of (asks-for total (bytes-e 12 31) [] 40 9) 14
+    ∷ word-of (asks-for even (bytes-e 12 31) [] 40 9) 14
+    -- the word behind the table
+    ∷ word-of (asks-for even (bytes-e 12 31) [] 41 9) 40
+    -- a second bucket of size 0 and drain 1 lets no positive rate through. From b 0 there is no plan, 13, and even pictures leave the full table: at the start none
+    ∷ word-of (asks-for even (bytes-a8 0 1 0) [] 80 9) 0
+    -- and at t 1, b 4, l 0 the sum of 30 and 40, where the greatest is 40: nothing arrives any more, so that unit 1 at 10 takes all 4 grains and leaves none for unit 2, and both have 2
+    ∷ word-of (asks-for total (bytes-a8 0 1 0) [] 80 9) 36
+    ∷ word-of (asks-for even (bytes-a8 0 1 0) [] 80 9) 36
+    -- the same with both units pinned at 1, which is that plan, and with unit 1 pinned at 0
+    ∷ word-of (asks-for even (bytes-a8 0 1 0) (pin 1 1 ∷ pin 2 1 ∷ []) 80 9) 36
+    ∷ word-of (asks-for even (bytes-a8 0 1 0) (pin 1 0 ∷ []) 80 9) 36
+    ∷ []
+
+unfoldable pub words-expected : List ℕ
+words-expected =
+    50 ∷ 70 ∷ 70 ∷ 4294967295 ∷ 40 ∷ 0 ∷ 0 ∷ 9 ∷ 9
+    ∷ 31 ∷ 4294967295 ∷ 41 ∷ 42 ∷ 41 ∷ 42 ∷ 9
+    ∷ 4294967295 ∷ 70 ∷ 70 ∷ 70 ∷ 4294967295 ∷ []
+
+-- one computed test of these words
+abbrev pub WordCases : Type 0
+WordCases = map word-after word-questions ≡ words-expected

@@ -18,7 +18,7 @@ use Rattle.model.specs.Claims.{BestOf, kept-open}
 use Rattle.format.specs.Parser.{took, Looks}
 use Rattle.format.specs.JobBytes.{header-in, parse, opening}
 use Rattle.pinning.specs.PinSet.{PinSet, lines}
-use Rattle.pinning.specs.Check.{Matches}
+use Rattle.pinning.specs.Check.{Matches, checked}
 use Rattle.pinning.specs.Calls.{Handed, open-call, call, run}
 use Rattle.pinning.specs.Claims.{HistoryClaim}
 use Rattle.replaying.specs.Entries.{entry-bytes, plan-from, plan-of, shaped}
@@ -79,6 +79,10 @@ Keeps = (b : List ℕ) (s : PinSet) (a : Aim) (o : Order) (table entries : List 
 -- document 02, E7: 13 is given in the same cases by either aim
 abbrev pub NoPlanAlike : Type 0
 NoPlanAlike = (b : List ℕ) (s : PinSet) (o : Order) (table entries : List ℕ) → (plan-call b s total o table entries .answer ≡ refused 13) ↔ (plan-call b s even o table entries .answer ≡ refused 13)
+
+-- and whatever the orders and the lists, where these are long enough
+abbrev pub NoPlanAnyhow : Type 0
+NoPlanAnyhow = (b : List ℕ) (j : Job) (n : ℕ) (s : PinSet) → checked opening b s ≡ took j n → (o o′ : Order) (table table′ entries entries′ : List ℕ) → words j ≤ length table → words j ≤ length table′ → 3 * intervals j ≤ length entries → 3 * intervals j ≤ length entries′ → (plan-call b s total o table entries .answer ≡ refused 13) ↔ (plan-call b s even o′ table′ entries′ .answer ≡ refused 13)
 
 -- document 02, E6: a layer from the D + 1 prices of an interval's choices is the layer from all of them, however many they are and however distortions combine, as long as more distortion never comes to less
 abbrev pub FewPrices : Type 0
