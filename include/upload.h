@@ -26,11 +26,11 @@
    value.
 
    upload_write makes the bytes of a job from its header and lists. Every other
-   function takes these bytes and reads them again; bytes after the job are not
-   looked at. Nothing is kept between calls, and no memory is taken: all that is
-   written goes to lists that the caller lends. Calls from several threads are
-   fine as long as no list that one writes is lent to another. Of the C library
-   only memcpy and memset are used.
+   function takes these bytes and reads them again, by one of two doors (see
+   below); bytes after the job are not looked at. Nothing is kept between calls,
+   and no memory is taken: all that is written goes to lists that the caller
+   lends. Calls from several threads are fine as long as no list that one writes
+   is lent to another. Of the C library only memcpy and memset are used.
 
    A list is a pointer and a count of its numbers. One that is written may be
    longer than needed; what stands past the part named as written keeps its
@@ -38,9 +38,26 @@
    for its type. A list that is written overlaps no other list.
 
    Each function answers 0, or the number of the refusal. Wherever a job is read,
-   its own numbers, 1 to 5, come first. A refusal writes nothing, with one
-   exception: UPLOAD_NO_PLAN comes after the search and leaves `table` written,
-   and no other list. */
+   its own numbers come first: 1 to 5, and by the door of opening 17, directly
+   after 3. A refusal writes nothing, with one exception: UPLOAD_NO_PLAN comes
+   after the search and leaves `table` written, and no other list.
+
+   A drain of 0 was once typed for a line without a limit, and says the opposite:
+   what is sent stays in the bucket. A job with it, in either bucket, is refused
+   with UPLOAD_NEVER_DRAINS by the door of opening. All fields of the header are
+   looked at for 3 before that, and no other record. By the door of the archive
+   such a job is taken as every other, and all else in it is looked at in the same
+   way.
+
+       function         door       of a job with drain 0
+       upload_write     opening    is not written: 17, after 3 and before 16
+       upload_open      opening    17
+       upload_calls     opening    17
+       upload_plan      opening    17
+       upload_archive   archive    opened, with the values that another drain has
+       upload_replay    archive    replayed without pins: each call is refused
+       upload_report    archive    reported as with another drain
+       upload_turn      archive    turned as with another drain */
 
 #ifndef UPLOAD_H
 #define UPLOAD_H
@@ -77,7 +94,8 @@ enum upload_refusal {
                                    upload_turn: the job has more than 31 choices, or the bytes
                                    were no plan of two bytes an interval */
     UPLOAD_INPUT_TOO_LONG = 15, /* the program `plan` alone: more than 32,768 bytes of input */
-    UPLOAD_LENGTHS = 16         /* a list's length is not what the header calls for */
+    UPLOAD_LENGTHS = 16,        /* a list's length is not what the header calls for */
+    UPLOAD_NEVER_DRAINS = 17    /* the drain of a bucket is 0: by the door of opening alone */
 };
 
 /* Calls are numbers, three a call: one of these kinds, the unit (1 to N), the
@@ -146,9 +164,20 @@ enum upload_violation {
    of the table, (T + 1) x (decoder size + 1) x (bucket size + 1), and with two
    buckets x (second bucket's size + 1).
 
-   Refusals in order: 1 to 5; 12 where `values` is too short. */
+   Refusals in order: 1 to 5, with 17 directly after 3; 12 where `values` is too
+   short. */
 uint32_t upload_open(const uint8_t *job, size_t job_len,
                      uint64_t *values, size_t values_len);
+
+/* Opens a stored job, whose line may never drain: checks all else as upload_open
+   does and says the same. A job that opens has the same values here. The words of
+   the table are those that planning would need, which refuses such a job.
+
+   values: 4 numbers written, as upload_open writes them.
+
+   Refusals in order: 1 to 5; 12 where `values` is too short. */
+uint32_t upload_archive(const uint8_t *job, size_t job_len,
+                        uint64_t *values, size_t values_len);
 
 /* Makes the calls in turn on a fresh set of pins, refused ones included.
 
@@ -159,9 +188,10 @@ uint32_t upload_open(const uint8_t *job, size_t job_len,
             grains that their units take at the pinned choices, and the sum of
             the distortions of these choices.
 
-   Refusals in order: 1 to 5 for the job; 2 for a call of another kind, then 1
-   where the last call is cut; 12 where `answers`, then where `values` is too
-   short. A call that is refused is not a refusal of the function. */
+   Refusals in order: 1 to 5 for the job, with 17 directly after 3; 2 for a call
+   of another kind, then 1 where the last call is cut; 12 where `answers`, then
+   where `values` is too short. A call that is refused is not a refusal of the
+   function. */
 uint32_t upload_calls(const uint8_t *job, size_t job_len,
                       const uint16_t *calls, size_t calls_len,
                       uint8_t *answers, size_t answers_len,
@@ -194,11 +224,11 @@ uint32_t upload_calls(const uint8_t *job, size_t job_len,
             what is sent). For each bucket its starting level + channel grains +
             its unused grains = T x its drain + its last level.
 
-   Refusals in order: 1 to 5 for the job; 2 for another aim; 2 for a call of
-   another kind, then 1 where the last call is cut; 11; 12 where `answers`,
-   `entries` or `values` is too short; 13, which leaves `table` written, and
-   `answers`, `entries` and `values` as they were; upload_calls says what the calls
-   met with. */
+   Refusals in order: 1 to 5 for the job, with 17 directly after 3; 2 for another
+   aim; 2 for a call of another kind, then 1 where the last call is cut; 11; 12
+   where `answers`, `entries` or `values` is too short; 13, which leaves `table`
+   written, and `answers`, `entries` and `values` as they were; upload_calls says
+   what the calls met with. */
 uint32_t upload_plan(const uint8_t *job, size_t job_len,
                      const uint16_t *calls, size_t calls_len,
                      uint32_t aim,
@@ -208,7 +238,8 @@ uint32_t upload_plan(const uint8_t *job, size_t job_len,
                      uint64_t *values, size_t values_len);
 
 /* Makes the calls as upload_calls does, then follows a plan interval by interval
-   up to its first violation.
+   up to its first violation. On a line that never drains each pin or lift is
+   refused with 17 and changes nothing, so that no pin stands.
 
    entries: exactly 3 x T bytes, as upload_plan writes them.
    levels:  room for 2 x T numbers, with two buckets for 3 x T: after each
@@ -261,11 +292,13 @@ uint32_t upload_turn(const uint8_t *job, size_t job_len,
 
    fields:      exactly UPLOAD_FIELDS numbers, the header's in their order: N
                 (1 to 512), d (0 to 64), decoder size and bucket size (0 to 255
-                each), drain (0 to 4,095), the starting levels of decoder and
+                each), drain (1 to 4,095), the starting levels of decoder and
                 bucket (each from 0 to its size), P (1 to 16), M (1 to 1,000).
                 For two buckets exactly UPLOAD_FIELDS_MOST numbers: these nine,
-                then the second bucket's size (0 to 63), drain (0 to 4,095) and
-                starting level (0 to its size).
+                then the second bucket's size (0 to 63), drain (1 to 4,095) and
+                starting level (0 to its size). Of all these numbers a drain of
+                0 alone is refused with 17, and another that is out of range
+                with 3.
    rates:       exactly P numbers, each at most 4,095, strictly rising.
    sizes:       exactly N x M numbers by unit and choice, unit after unit: the
                 grains that the unit takes, each at most 4,095.
@@ -276,8 +309,8 @@ uint32_t upload_turn(const uint8_t *job, size_t job_len,
    values:      1 number written: how many bytes the job took.
 
    Refusals in order: 3 where `fields` is not nine or twelve numbers or one of
-   them is out of range; 16 where `rates`, `sizes` or `distortions` has another
-   length; 4; 5; 12 where `job` or `values` is too short. */
+   them is out of range; 17; 16 where `rates`, `sizes` or `distortions` has
+   another length; 4; 5; 12 where `job` or `values` is too short. */
 uint32_t upload_write(const uint16_t *fields, size_t fields_len,
                       const uint16_t *rates, size_t rates_len,
                       const uint16_t *sizes, size_t sizes_len,

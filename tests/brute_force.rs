@@ -253,6 +253,9 @@ fn many_groups(seed: Seed) -> Vec<Group> {
 fn job_a_group() -> Group {
     let best = "plan 2 3 80\n1 0 - 0 0\n2 4 0 0 2\n3 2 1 0 2\ntotal 50 6 6 2\n";
     let coarse = "plan 2 3 80\n1 0 - 0 0\n2 2 1 0 0\n3 2 1 0 0\ntotal 70 4 4 2\n";
+    // A drain of 1: 4 and then 2 grains would leave 3, then 4; 2 each time leave 1, 2
+    // and 3.
+    let slow = "plan 2 3 80\n1 2 - 2 1\n2 2 0 0 2\n3 2 1 0 3\ntotal 50 6 6 0\n";
     let a = job_a();
     let of = |commands: &[Command]| a.commanded(commands).bytes();
     group(
@@ -267,7 +270,8 @@ fn job_a_group() -> Group {
             case("unit 2 pinned at 0", of(&[Pin(2, 0)]), Refused(13)),
             case("lift on a fresh desk", of(&[Lift(1)]), Refused(10)),
             case("empty input", Vec::new(), Refused(1)),
-            case("drain 0", a.with(DRAIN, 0).bytes(), Nothing),
+            case("drain 0", a.with(DRAIN, 0).bytes(), Refused(17)),
+            case("drain 1", a.with(DRAIN, 1).bytes(), Text(slow)),
         ],
     )
 }
@@ -299,7 +303,7 @@ fn second_group() -> Group {
     let mut cases = vec![
         case("it never binds", of([63, 4, 0]).bytes(), Text(idle)),
         case("another plan", of([1, 2, 0]).bytes(), Text(small)),
-        case("no plan", of([0, 0, 0]).bytes(), Refused(13)),
+        case("no plan", of([0, 1, 0]).bytes(), Refused(13)),
         case("a drain of 1", of([3, 1, 0]).bytes(), Text(slow)),
         case("a drain of 1 from 1", of([3, 1, 1]).bytes(), Text(slower)),
         case("a drain of 1 from 3", of([3, 1, 3]).bytes(), Refused(13)),
@@ -308,7 +312,7 @@ fn second_group() -> Group {
         case("and lifted", pinned.commanded(&[Lift(1)]).bytes(), Text(small)),
         case("unit 2 pinned at 0", of([63, 4, 0]).commanded(&[Pin(2, 0)]).bytes(), Refused(13)),
         case("lift of no pin", of([63, 4, 0]).commanded(&[Lift(1)]).bytes(), Refused(10)),
-        case("no plan, then a lift 10", of([0, 0, 0]).commanded(&[Lift(1)]).bytes(), Refused(10)),
+        case("no plan, then a lift 10", of([0, 1, 0]).commanded(&[Lift(1)]).bytes(), Refused(10)),
     ];
     // The buckets stand in for each other: where one binds, so it does as the other.
     for second in [[1, 2, 0], [3, 1, 0], [3, 1, 1]] {
@@ -326,7 +330,11 @@ fn header_group() -> Group {
         for &(field, low, high) in &LIMITS[..FIELDS[buckets - 1]] {
             let label = |value: u16| format!("{line}, field {field} is {value}");
             for value in values_in(field, low, high) {
-                let by_hand = if takes_plan(field) { APlan } else { Nothing };
+                let by_hand = match in_limits(field, value) {
+                    0 if takes_plan(field) => APlan,
+                    0 => Nothing,
+                    number => Refused(number),
+                };
                 cases.push(case(label(value), sized(buckets, field, value), by_hand));
             }
             for value in [low.wrapping_sub(1), high + 1, high + 256, 0x8000, 0xffff] {
@@ -1116,8 +1124,66 @@ fn peaks_group() -> Group {
 }
 
 fn unused_group() -> Group {
-    let case = |(label, draft, sums): (_, Draft, _)| case(label, draft.bytes(), Unused(sums));
+    let case = |(label, draft, sums): (_, Draft, _)| {
+        let by_hand = if draft.never_drains() { Refused(17) } else { Unused(sums) };
+        case(label, draft.bytes(), by_hand)
+    };
     group("unused drain", unused_by_hand().into_iter().map(case).collect())
+}
+
+/// A drain of 0 in either bucket or both: 17 comes directly after 3, before the next
+/// record is looked at, and so before every command, the workspace and the search.
+fn never_drains_group() -> Group {
+    let mut cases = Vec::new();
+    for a in drains_of_a() {
+        let never = a.never_drains();
+        let line = format!("header {:?}", a.header);
+        let tails = faulty_tails(&a);
+        let mut add = |label: &str, input: Vec<u8>, head: Refusal, tail: Refusal| {
+            let due = first_of(&[(head > 0, head), (never, 17), (tail > 0, tail)]);
+            let by_hand = if due == 0 { APlan } else { Refused(due as Refusal) };
+            cases.push(case(format!("{line}, {label}"), input, by_hand));
+        };
+        for (index, (header, head)) in faulty_headers(&a).into_iter().enumerate() {
+            // Behind a right header every fault, behind a wrong one some.
+            for (tail, number) in tails.iter().step_by(if index == 0 { 1 } else { 40 }) {
+                add("a fault", then(header.clone(), tail), head, *number);
+            }
+            for cut in [0, 3, 4, 14, 21, header.len() - 1] {
+                let number = if head == 2 && cut >= 4 { 2 } else { 1 };
+                add("cut within the header", header[..cut].to_vec(), number, 0);
+            }
+        }
+        let both = [Pin(1, 0), Pin(2, 0)];
+        let rows: [(&[Command], Refusal); 11] = [
+            (&[Pin(1, 1)], 0),
+            (&[Pin(1, 0), Lift(1)], 0),
+            (&[Pin(0, 0)], 7),
+            (&[Pin(3, 2)], 7),
+            (&[Pin(1, 2)], 8),
+            (&[Pin(1, 0), Pin(1, 1)], 9),
+            (&[Lift(1)], 10),
+            (&[Lift(3)], 7),
+            (&[Pin(1, 0), Lift(1), Lift(1)], 10),
+            (&both, 13),
+            (&[Pin(2, 0)], 13),
+        ];
+        for (commands, number) in rows {
+            let label = format!("commands {}", describe(commands));
+            add(&label, a.commanded(commands).bytes(), 0, number);
+        }
+        for (tail, number) in [(&[6, 0, 6][..], 1), (&wrong_record(), 2), (&a.bytes(), 2)] {
+            add("other bytes after it", then(a.bytes(), tail), 0, number);
+            let pinned = a.commanded(&[Pin(1, 1)]).bytes();
+            add("other bytes after a pin", then(pinned, tail), 0, number);
+        }
+        let large = a.with(DECODER, 255).with(BUCKET, 255);
+        add("too many words", large.bytes(), 0, 11);
+        add("too many words and a lift", large.commanded(&[Lift(1)]).bytes(), 0, 10);
+        add("32,768 bytes", padded(a.bytes(), INPUT_LIMIT), 0, 2);
+        add("32,769 bytes", padded(a.bytes(), INPUT_LIMIT + 1), 15, 0);
+    }
+    group("lines that never drain", cases)
 }
 
 /// Standard input may come in parts; the program must read to the end.
@@ -1129,6 +1195,7 @@ fn parts_group() -> Group {
         case("32,768 bytes", full_input(), APlan),
         case("32,769 bytes", then(full_input(), &[0]), Refused(15)),
         case("two buckets and commands", with_every_command(&both_lines()[1].1).bytes(), APlan),
+        case("drain 0", commanded_a().with(DRAIN, 0).bytes(), Refused(17)),
     ];
     for case in &mut cases {
         case.parts = 5;
@@ -1172,6 +1239,7 @@ fn examples() -> Vec<(&'static str, Vec<u8>)> {
         ("job_a_lifted", a.commanded(&[Pin(1, 1), Lift(1)]).bytes()),
         ("no_plan", a.commanded(&[Pin(1, 0), Pin(2, 0)]).bytes()),
         ("two_buckets", a.doubled([1, 2, 0]).bytes()),
+        ("never_drains", a.with(DRAIN, 0).bytes()),
         ("channel", channel_job().bytes()),
     ]
 }
@@ -1535,6 +1603,7 @@ fn run_all(path: String, new_seed: u64, example_directory: Option<&Path>) -> boo
         peaks_group(),
         unused_group(),
         thousand_group(),
+        never_drains_group(),
         parts_group(),
         command_lists_group(),
     ];

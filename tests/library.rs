@@ -3,8 +3,8 @@
 //! worked out here and in `reference.rs`, straight from the product's paper. Of
 //! every clean replay the balance of each bucket is asked besides, of even pictures
 //! that the least total gives them too once all choices above the greatest distortion
-//! are gone, and of the report that a long delay takes little more time than a short
-//! one.
+//! are gone, of the report that a long delay takes little more time than a short one,
+//! and of the archive that it takes what opening takes with another drain.
 //!
 //! Build and run, where DIR holds libupload.a:
 //!
@@ -60,6 +60,9 @@ fn replay_values(job: &Job) -> usize {
 fn level_numbers(job: &Job) -> usize {
     (1 + job.buckets.len()) * job.intervals()
 }
+
+/// The levels of a draft in which all that opening lets be 0 is 0.
+const BARE: [u16; 6] = [0, 0, 0, 1, 0, 0];
 
 /// How many bytes a job takes.
 fn job_bytes(job: &Job) -> usize {
@@ -173,7 +176,8 @@ struct Asked {
     job: Job,
     /// Three numbers a call.
     calls: Vec<u16>,
-    /// What each call meets with: 0 or its number.
+    /// What each call meets with: 0 or its number. On a line that never drains a replay
+    /// alone makes calls, and does not say.
     answers: Vec<u8>,
     /// The pins held after the last call.
     pins: Pins,
@@ -183,7 +187,7 @@ impl Asked {
     /// The draft's job and its commands as calls.
     fn new(rng: &mut Rng, draft: &Draft) -> Asked {
         let mut bytes = Draft { commands: Vec::new(), ..draft.clone() }.bytes();
-        let job = read_job(&mut Reader { rest: &bytes }).expect("a job as it should be");
+        let job = read_stored(&mut Reader { rest: &bytes }).expect("a job as it should be");
         if rng.one_in(3) {
             // Bytes after the job are not looked at.
             bytes.extend((0..rng.from(1, 9)).map(|_| rng.next() as u8).collect::<Vec<u8>>());
@@ -238,6 +242,9 @@ fn typed_call(call: &[u16]) -> Call {
 
 /// Gives 0, or the number that refuses the call.
 fn make_call(job: &Job, pins: &mut Pins, call: &[u16]) -> u8 {
+    if job.never_drains() {
+        return 17;
+    }
     let unit = call[1] as usize;
     let taken = match call[0] {
         6 => pin(pins, job.choices(), unit, call[2] as usize),
@@ -583,19 +590,61 @@ impl PlanLists {
     }
 }
 
+const DOORS: [Door; 2] = [Door::Opening, Door::Archive];
+
+/// Opens a job by a door.
+fn open_by(door: Door, job: &[u8], values: &mut [u64]) -> u32 {
+    match door {
+        Door::Opening => numbers::open(job, values),
+        Door::Archive => numbers::archive(job, values),
+    }
+}
+
+fn typed_open_by(door: Door, job: &[u8]) -> Result<upload_planner::Opened, u32> {
+    let opened = match door {
+        Door::Opening => upload_planner::open(job),
+        Door::Archive => upload_planner::archive(job),
+    };
+    opened.map_err(|refusal| refusal.number())
+}
+
+/// The archive takes the job, and so does opening where its line drains; what they say
+/// of it is the same.
 fn check_open(rng: &mut Rng, asked: &Asked) -> Checked {
+    for door in DOORS {
+        let refused = door == Door::Opening && asked.job.never_drains();
+        let checked = if refused {
+            check_unopened(rng, door, &asked.bytes, 17, 4)
+        } else {
+            check_opened(rng, door, asked)
+        };
+        checked.map_err(|trouble| format!("{door:?}: {trouble}"))?;
+    }
+    Ok(())
+}
+
+fn check_opened(rng: &mut Rng, door: Door, asked: &Asked) -> Checked {
     let job = &asked.job;
     let due = [job_bytes(job), job.units.len(), job.intervals(), job.words()];
     let length = 4 + rng.from(0, 3);
     let mut values = Lent::new(rng, length);
-    same("open", 0, numbers::open(&asked.bytes, values.list()))?;
+    same("open", 0, open_by(door, &asked.bytes, values.list()))?;
     values.wrote("values of open", &due.map(|value| value as u64))?;
-    let opened = upload_planner::open(&asked.bytes).map_err(|refusal| refusal.to_string())?;
+    let opened = typed_open_by(door, &asked.bytes).map_err(|number| number.to_string())?;
     let found = [opened.bytes, opened.units, opened.intervals, opened.table_words];
     same("typed open", due, found)?;
     let found = (opened.buckets, opened.level_numbers(), opened.plan_bytes());
     let due = (job.buckets.len(), level_numbers(job), ENTRY_BYTES * job.intervals());
     same("buckets, levels and plan of open", due, found)
+}
+
+/// The door refuses these bytes by this number, whatever is lent.
+fn check_unopened(rng: &mut Rng, door: Door, bytes: &[u8], number: u32, length: usize) -> Checked {
+    let mut values: Lent<u64> = Lent::new(rng, length);
+    same("open", number, open_by(door, bytes, values.list()))?;
+    values.kept("values of open")?;
+    let found = typed_open_by(door, bytes).err();
+    same("typed open", Some(number), found)
 }
 
 /// The typed functions give what the numbers give.
@@ -946,20 +995,20 @@ fn random_plan(rng: &mut Rng, job: &Job, pins: &Pins) -> Plan {
 fn replay_group(seed: u64, asks: bool) -> Result<String, String> {
     replay_jobs(seed, asks, &[SHORT, OVER, BUCKET_OVER, NOT_HELD], |rng, index| {
         let shape = if index % 4 == 0 { &MEDIUM } else { &TINY };
-        if index % 60 == 1 {
-            random_long_job(rng)
-        } else {
-            random_job(rng, shape)
-        }
+        let draft = if index % 60 == 1 { random_long_job(rng) } else { random_job(rng, shape) };
+        random_stored(rng, &draft, 4)
     })
 }
 
 fn replay_double_group(seed: u64, asks: bool) -> Result<String, String> {
     let violations = [SHORT, OVER, BUCKET_OVER, SECOND_OVER, NOT_HELD];
-    replay_jobs(seed, asks, &violations, |rng, index| match index % 60 {
-        1 => random_long_double(rng),
-        _ if index % 4 == 0 => random_medium_double(rng),
-        _ => random_tiny_double(rng),
+    replay_jobs(seed, asks, &violations, |rng, index| {
+        let draft = match index % 60 {
+            1 => random_long_double(rng),
+            _ if index % 4 == 0 => random_medium_double(rng),
+            _ => random_tiny_double(rng),
+        };
+        random_stored(rng, &draft, 4)
     })
 }
 
@@ -1086,7 +1135,8 @@ fn misshapen(rng: &mut Rng, job: &Job, plan: &Plan) -> (Vec<u8>, &'static str) {
 // The report's delay.
 // ---------------------------------------------------------------------------
 
-/// A job and a plan for it that sends these grains, interval by interval.
+/// A job and a plan for it that sends these grains, interval by interval. Its line never
+/// drains, which the report does not ask.
 fn sending(delay: usize, sent: &[u16]) -> (Draft, Plan) {
     let mut rates = sent.to_vec();
     rates.sort();
@@ -1134,10 +1184,14 @@ fn report_group() -> Result<String, String> {
     ];
     for (row, (delay, sent, due)) in (1..).zip(&rows) {
         let (draft, plan) = sending(*delay, sent);
-        let asked = Asked::new(&mut rng, &draft);
-        let what = format!("line {row}, delay {delay}, {} units", asked.job.units.len());
-        same(&what, due, &effective_buffers(&asked.job, &plan))?;
-        check_report(&mut rng, &asked, &plan).map_err(|trouble| format!("{what}: {trouble}"))?;
+        for drain in [0, 1, 4095] {
+            let asked = Asked::new(&mut rng, &draft.with(DRAIN, drain));
+            let units = asked.job.units.len();
+            let what = format!("line {row}, delay {delay}, {units} units, drain {drain}");
+            same(&what, due, &effective_buffers(&asked.job, &plan))?;
+            check_report(&mut rng, &asked, &plan)
+                .map_err(|trouble| format!("{what}: {trouble}"))?;
+        }
     }
     Ok(format!("{} jobs by hand", rows.len()))
 }
@@ -1153,7 +1207,8 @@ fn delays_group() -> Result<String, String> {
             let mut rates = rng.rising(count, 4095);
             (rates[0], rates[count - 1]) = (0, 4095);
             let units = vec![vec![(0, 0); choices]; units];
-            let draft = Draft::new([delay as u16, 0, 0, 0, 0, 0], &rates, &units);
+            let drain = rng.pick(&[0, 1, 4095]);
+            let draft = Draft::new([delay as u16, 0, 0, drain, 0, 0], &rates, &units);
             let asked = Asked::new(&mut rng, &draft);
             let entry = |t| random_entry(&mut rng, &asked.job, t);
             let plan: Plan = (1..=asked.intervals()).map(entry).collect();
@@ -1524,8 +1579,11 @@ fn unused_group() -> Result<String, String> {
         due.extend(unused.iter().map(|sum| *sum as u64));
         let found = plan.as_ref().and_then(|plan| totals_of(&asked, plan));
         same(what, Some(due), found)?;
-        check_plan(&mut rng, &asked, &table, &plan)
-            .map_err(|trouble| format!("{what}: {trouble}"))?;
+        let checked = match &plan {
+            Some(plan) if asked.job.never_drains() => check_never(&mut rng, &asked, plan),
+            _ => check_plan(&mut rng, &asked, &table, &plan),
+        };
+        checked.map_err(|trouble| format!("{what}: {trouble}"))?;
     }
     Ok(format!("{} jobs by hand", rows.len()))
 }
@@ -1580,26 +1638,28 @@ fn second_group() -> Result<String, String> {
     let same_plan = BEST_A;
     let other = [1, 255, 255, 1, 0, 0, 1, 1, 0];
     let coarse = [0, 255, 255, 1, 1, 0, 1, 1, 0];
-    let rows: [([u16; 3], &[Command], Option<([u8; 9], [u64; 5])>); 15] = [
+    let paused = [1, 255, 255, 0, 1, 0, 1, 1, 0];
+    let rows: [([u16; 3], &[Command], Option<([u8; 9], [u64; 5])>); 16] = [
         // No rate is over 4, so the bucket stays empty; or it never fills.
         ([63, 4, 0], &[], Some((same_plan, [50, 6, 6, 2, 6]))),
         ([0, 4, 0], &[], Some((same_plan, [50, 6, 6, 2, 6]))),
         ([63, 4, 63], &[], Some((same_plan, [50, 6, 6, 2, 0]))),
-        ([63, 0, 0], &[], Some((same_plan, [50, 6, 6, 2, 0]))),
-        ([6, 0, 0], &[], Some((same_plan, [50, 6, 6, 2, 0]))),
+        ([63, 1, 0], &[], Some((same_plan, [50, 6, 6, 2, 1]))),
+        ([4, 1, 0], &[], Some((same_plan, [50, 6, 6, 2, 1]))),
         ([63, 4095, 0], &[], Some((same_plan, [50, 6, 6, 2, 3 * 4095 - 6]))),
         // 4 does not go in, so that 2 and 2 are sent for unit 1.
         ([1, 2, 0], &[], Some((other, [50, 6, 6, 0, 0]))),
         ([1, 2, 0], &[Pin(1, 0)], Some((other, [50, 6, 6, 0, 0]))),
         ([1, 2, 0], &[Pin(1, 1)], Some((coarse, [70, 4, 4, 2, 2]))),
         ([3, 1, 0], &[], Some((other, [50, 6, 6, 0, 0]))),
-        // Only 4 grains can be sent.
-        ([5, 0, 0], &[], Some((coarse, [70, 4, 4, 2, 0]))),
+        // Only 4 grains can be sent; or not in two intervals in a row.
+        ([2, 1, 0], &[], Some((coarse, [70, 4, 4, 2, 1]))),
         ([3, 1, 1], &[], Some((coarse, [70, 4, 4, 2, 0]))),
+        ([1, 1, 0], &[], Some((paused, [70, 4, 4, 2, 0]))),
         // No plan, though there is one without the bucket.
-        ([0, 0, 0], &[], None),
+        ([0, 1, 0], &[], None),
         ([3, 1, 3], &[], None),
-        ([3, 0, 0], &[], None),
+        ([2, 1, 2], &[], None),
     ];
     for (second, commands, due) in rows {
         let asked = Asked::new(&mut rng, &a.doubled(second).commanded(commands));
@@ -1686,7 +1746,7 @@ fn check_second_sizes(rng: &mut Rng) -> Checked {
     let largest = largest_draft();
     for (draft, due) in [
         (job_a().doubled([63, 4, 0]), [70, 2, 3, 5120]),
-        (job_a().doubled([0, 0, 0]), [70, 2, 3, 80]),
+        (job_a().doubled([0, 1, 0]), [70, 2, 3, 80]),
         (largest.clone(), [3_074_106, 512, 576, 37_814_272]),
         (largest.doubled([0, 4095, 0]), [3_074_112, 512, 576, 37_814_272]),
         (largest.doubled([1, 4095, 1]), [3_074_112, 512, 576, 75_628_544]),
@@ -1831,7 +1891,8 @@ fn check_lines(rng: &mut Rng, draft: &Draft, asked: &Asked) -> Result<[PlannedNu
     // Its drain is the largest rate or more, so that no level rises.
     let most = draft.rates[draft.rates.len() - 1];
     let size = rng.from(0, 9);
-    let idle = [size as u16, most + rng.from(0, 3) as u16, rng.from(0, size) as u16];
+    let drain = (most + rng.from(0, 3) as u16).max(1);
+    let idle = [size as u16, drain, rng.from(0, size) as u16];
     let idle = of(&draft.doubled(idle.map(|number| number.min(4095))));
     same("with an idle bucket", (alone.0, &alone.2), (idle.0, &idle.2))?;
     let repeated: Vec<u32> = alone.1.iter().flat_map(|&word| vec![word; size + 1]).collect();
@@ -1948,7 +2009,7 @@ fn check_pins_of_many(rng: &mut Rng) -> Checked {
     for (choices, calls, answers, totals) in rows {
         let unit: Vec<(u16, u32)> =
             (0..choices).map(|choice| ((choice / 100) as u16, 2 * choice as u32)).collect();
-        let draft = Draft::new([0; 6], &[0], &[unit.clone(), unit]);
+        let draft = Draft::new(BARE, &[0], &[unit.clone(), unit]);
         check_totals(rng, &draft, calls, answers, totals)
             .map_err(|trouble| format!("{choices} choices, calls {calls:?}: {trouble}"))?;
     }
@@ -2124,9 +2185,9 @@ fn many_group(seed: u64, asks: bool) -> Result<String, String> {
     Ok(text)
 }
 
-/// Jobs of few choices or many, whose plans the next groups harm.
+/// Jobs of few choices or many, whose plans the next groups harm. Some never drain.
 fn random_planned_job(rng: &mut Rng) -> Draft {
-    match rng.from(1, 6) {
+    let draft = match rng.from(1, 6) {
         1 => random_many_job(rng, &MANY[0]),
         2 => random_tiny_double(rng),
         // As many choices as plans of two bytes had, or one more.
@@ -2140,7 +2201,8 @@ fn random_planned_job(rng: &mut Rng) -> Draft {
             Draft::new([delay, 9, 9, 2, 0, 0], &[0, 1, 2], &units)
         }
         _ => random_job(rng, &TINY),
-    }
+    };
+    random_stored(rng, &draft, 4)
 }
 
 /// Changes something in a plan's bytes, mostly in a choice of so many, where an entry has
@@ -2336,7 +2398,8 @@ fn turning_group() -> Result<String, String> {
         reached.wrote("levels by hand", levels)?;
         values.wrote("values by hand", named)?;
     }
-    // The longest plan, of which each interval has another entry.
+    // The longest plan, of which each interval has another entry, on a line that never
+    // drains.
     let units = vec![vec![(0, 0); 31]; 512];
     let rates: Vec<u16> = (0..16).collect();
     let asked = Asked::new(&mut rng, &Draft::new([64, 0, 0, 0, 0, 0], &rates, &units));
@@ -2491,6 +2554,7 @@ fn turned_group(seed: u64, asks: bool) -> Result<String, String> {
             9 | 10 => random_job(&mut rng, &Shape { choices: FORMER_CHOICES, ..TINY }),
             _ => random_job(&mut rng, &TINY),
         };
+        let draft = random_stored(&mut rng, &draft, 4);
         let asked = Asked::new(&mut rng, &draft);
         for _ in 0..4 {
             let plan = random_plan(&mut rng, &asked.job, &asked.pins);
@@ -3440,11 +3504,11 @@ fn calls_by_hand_group() -> Result<String, String> {
     // pinned, the even ones lifted, then the rest. In the last line both sums are as
     // large as they may be.
     let units: Vec<_> = (1..=512).map(|unit| vec![(0, 7), (unit, 1000 * unit as u32)]).collect();
-    let draft = Draft::new([0; 6], &[0], &units);
+    let draft = Draft::new(BARE, &[0], &units);
     let pins: Vec<[u16; 3]> = (1..=512).rev().map(|unit| [6, unit, 1]).collect();
     let lifts =
         |from: u16| -> Vec<[u16; 3]> { (from..=512).step_by(2).map(|unit| [7, unit, 0]).collect() };
-    let largest = Draft::new([0; 6], &[0], &vec![vec![(0, 0), (4095, 1_000_000)]; 512]);
+    let largest = Draft::new(BARE, &[0], &vec![vec![(0, 0), (4095, 1_000_000)]; 512]);
     for (draft, calls, totals) in [
         (&draft, pins.clone(), [512, 131_328, 131_328_000]),
         (&draft, [pins.clone(), lifts(2)].concat(), [256, 65_536, 65_536_000]),
@@ -3575,6 +3639,7 @@ fn harmed_job(rng: &mut Rng, buckets: usize) -> Vec<u8> {
     if buckets > 1 {
         draft = random_doubled(rng, &draft, second_size(shape), shape.grains);
     }
+    draft = random_stored(rng, &draft, 4);
     let mut bytes = harmed(rng, &draft, 20, |rng, bytes| match rng.from(0, 9) {
         0 => harm_head(rng, bytes),
         1 => harm_value(rng, bytes),
@@ -3619,7 +3684,7 @@ fn harmed_double_group(seed: u64, asks: bool) -> Result<String, String> {
 
 fn harmed_jobs(seed: u64, asks: bool, buckets: usize) -> Result<String, String> {
     let mut rng = Rng(seed);
-    let mut tally: BTreeMap<Refusal, usize> = BTreeMap::new();
+    let mut tally: BTreeMap<[Refusal; 2], usize> = BTreeMap::new();
     let inputs = scaled(60_000);
     for index in 1..=inputs {
         let bytes = harmed_job(&mut rng, buckets);
@@ -3628,57 +3693,91 @@ fn harmed_jobs(seed: u64, asks: bool, buckets: usize) -> Result<String, String> 
         })?;
         *tally.entry(due).or_default() += 1;
     }
-    let each: Vec<String> =
-        tally.iter().map(|(number, count)| format!("{count} {number}")).collect();
-    let counts = format!("{inputs} inputs by number ({})", each.join(", "));
-    let worthwhile = (0..=5).all(|number| tally.get(&number).is_some_and(|c| c * 200 > inputs));
+    let each: Vec<String> = tally
+        .iter()
+        .map(|([opened, stored], count)| match opened {
+            17 => format!("{count} 17, to the archive {stored}"),
+            _ => format!("{count} {opened}"),
+        })
+        .collect();
+    let counts = format!("{inputs} inputs by number ({})", each.join("; "));
+    let often = |due: [Refusal; 2]| tally.get(&due).is_some_and(|count| count * 200 > inputs);
+    let worthwhile = (0..=5).all(|number| often([number; 2]))
+        && [0, 1, 2, 4, 5].iter().all(|&number| often([17, number]));
     ensure!(worthwhile || !asks, "too little in it: {counts}");
     Ok(counts)
 }
 
-/// All that take a job, on bytes that may or may not be one. Gives the number of
-/// opening them. That number comes before all others, so bytes that are no job are
-/// given with lists of any length too.
-fn check_bytes(rng: &mut Rng, bytes: &[u8]) -> Result<Refusal, String> {
-    let mut reader = Reader { rest: bytes };
-    let read = read_job(&mut reader);
-    let taken = bytes.len() - reader.rest.len();
-    let number = *read.as_ref().err().unwrap_or(&0);
+/// All that take a job, on bytes that may or may not be one. Gives the numbers of opening
+/// them, by the door of opening and by the archive's. These come before all others, so
+/// bytes that a door refuses are given with lists of any length too.
+fn check_bytes(rng: &mut Rng, bytes: &[u8]) -> Result<[Refusal; 2], String> {
+    let [opened, stored] = DOORS.map(|door| {
+        let mut reader = Reader { rest: bytes };
+        let job = read_by(door, &mut reader);
+        job.map(|job| (job, bytes.len() - reader.rest.len()))
+    });
+    let numbers = [&opened, &stored].map(|read| *read.as_ref().err().unwrap_or(&0));
+    check_doors(bytes)?;
     let calls = [6, 1, 0, 7, 1, 0];
-    match read {
-        Err(_) => {
-            check_no_job(rng, bytes, number, &calls, [4, 2, 3, 20, 18, 5, 18, 7, 4])?;
-            let any = std::array::from_fn(|_| rng.from(0, 7));
-            let cut = rng.from(0, calls.len());
-            check_no_job(rng, bytes, number, &calls[..cut], any)?;
+    let any = std::array::from_fn(|_| rng.from(0, 7));
+    let cut = rng.from(0, calls.len());
+    for (calls, lengths) in [(&calls[..], ENOUGH), (&calls[..cut], any)] {
+        if numbers[0] > 0 {
+            check_not_opened(rng, bytes, numbers[0], calls, lengths)?;
         }
-        Ok(job) => {
-            let mut values: Lent<u64> = Lent::new(rng, 4);
-            same("open", 0, numbers::open(bytes, values.list()))?;
-            let due = [taken, job.units.len(), job.intervals(), job.words()];
-            values.wrote("values of open", &due.map(|value| value as u64))?;
-            let asked = Asked::with(bytes.to_vec(), job, calls.to_vec());
-            if asked.job.words() > 20 {
-                let mut lent = PlanLists::new(rng, [2, 20, 12, plan_values(&asked.job)]);
-                same("plan", 11, lent.plan(bytes, &calls))?;
-                lent.kept()?;
-            }
-            if asked.job.words() < 2000 {
-                let table = fast_table(&asked.job, &asked.pins);
-                let plan = read_off(&asked.job, &asked.pins, &table);
-                check_plan(rng, &asked, &table, &plan)?;
-            } else {
-                check_calls(rng, &asked)?;
-            }
+        if numbers[1] > 0 {
+            check_not_stored(rng, bytes, numbers[1], calls, lengths)?;
         }
     }
-    Ok(number)
+    let Ok((job, taken)) = stored else { return Ok(numbers) };
+    same("bytes taken", taken, job_bytes(&job))?;
+    let asked = Asked::with(bytes.to_vec(), job, calls.to_vec());
+    check_open(rng, &asked)?;
+    if opened.is_err() {
+        let plan = random_plan(rng, &asked.job, &asked.pins);
+        check_never(rng, &asked, &plan)?;
+        return Ok(numbers);
+    }
+    if asked.job.words() > 20 {
+        let mut lent = PlanLists::new(rng, [2, 20, 12, plan_values(&asked.job)]);
+        same("plan", 11, lent.plan(bytes, &calls))?;
+        lent.kept()?;
+    }
+    if asked.job.words() < 2000 {
+        let table = fast_table(&asked.job, &asked.pins);
+        let plan = read_off(&asked.job, &asked.pins, &table);
+        check_plan(rng, &asked, &table, &plan)?;
+    } else {
+        check_calls(rng, &asked)?;
+    }
+    Ok(numbers)
 }
 
-/// Every function refuses bytes that are no job. `lengths`: values of opening;
+/// The bytes with another drain wherever it is 0 in a header of either kind. What the
+/// archive says of the bytes themselves, opening must say of these: the library alone
+/// is asked, so that a slip of the reader here is seen too.
+fn check_doors(bytes: &[u8]) -> Checked {
+    let mut drained = bytes.to_vec();
+    let count = if bytes.get(2) == Some(&8) { 2 } else { 1 };
+    for [_, drain, _] in &BUCKET_FIELDS[..count] {
+        match drained.get_mut(4 + 2 * drain..4 + 2 * drain + 2) {
+            Some(field) if *field == [0, 0] => field[0] = 1,
+            _ => (),
+        }
+    }
+    let (mut values, mut others) = ([7; 4], [7; 4]);
+    let found = (numbers::archive(bytes, &mut values), numbers::open(&drained, &mut others));
+    same("archive, and opening with another drain", (found.1, others), (found.0, values))
+}
+
+/// Lists that are long enough for a job of a few numbers.
+const ENOUGH: [usize; 9] = [4, 2, 3, 20, 18, 5, 18, 7, 4];
+
+/// Every function that opens or plans refuses these bytes. `lengths`: values of opening;
 /// answers of calls and of planning; values of calls; table, entries, also of turning,
 /// and values of planning; levels and values of replay; sums.
-fn check_no_job(
+fn check_not_opened(
     rng: &mut Rng,
     bytes: &[u8],
     number: Refusal,
@@ -3686,10 +3785,8 @@ fn check_no_job(
     lengths: [usize; 9],
 ) -> Checked {
     let number = number as u32;
-    let [open, answers, made, table, room, planned, levels, replayed, sums] = lengths;
-    let mut values: Lent<u64> = Lent::new(rng, open);
-    same("open", number, numbers::open(bytes, values.list()))?;
-    values.kept("values of open")?;
+    let [open, answers, made, table, room, planned, ..] = lengths;
+    check_unopened(rng, Door::Opening, bytes, number, open)?;
 
     let mut lent = CallLists::new(rng, [answers, made]);
     same("calls", number, lent.make(bytes, calls))?;
@@ -3704,6 +3801,21 @@ fn check_no_job(
     let aim = rng.pick(&[TOTAL, EVEN, WRONG_AIMS[0], u32::MAX]);
     same("plan", number, lent.plan_for(aim, bytes, calls))?;
     lent.kept()?;
+    let found = upload_planner::best_plan(bytes, &typed, typed_aim(rng.pick(&AIMS)));
+    same("owned plan", Some(number), found.err().map(|refusal| refusal.number()))
+}
+
+/// Every other function that takes a job refuses these bytes.
+fn check_not_stored(
+    rng: &mut Rng,
+    bytes: &[u8],
+    number: Refusal,
+    calls: &[u16],
+    lengths: [usize; 9],
+) -> Checked {
+    let number = number as u32;
+    let [open, _, _, _, room, _, levels, replayed, sums] = lengths;
+    check_unopened(rng, Door::Archive, bytes, number, open)?;
 
     let entries: Vec<u8> = (0..rng.from(0, 12)).map(|_| rng.next() as u8).collect();
     let mut levels: Lent<u16> = Lent::new(rng, levels);
@@ -3712,6 +3824,9 @@ fn check_no_job(
     same("replay", number, found)?;
     levels.kept("levels")?;
     values.kept("values of replay")?;
+    let typed: Vec<Call> = calls.chunks_exact(3).map(typed_call).collect();
+    let found = upload_planner::replayed(bytes, &typed, &entries);
+    same("owned replay", Some(number), found.err().map(|refusal| refusal.number()))?;
 
     let mut sums: Lent<u32> = Lent::new(rng, sums);
     same("report", number, numbers::report(bytes, &entries, sums.list()))?;
@@ -3731,19 +3846,27 @@ fn cuts_group() -> Result<String, String> {
     let mut inputs = 0;
     let mut wide = random_job(&mut rng, &Shape { choices: 31, ..WIDE });
     wide.commands.clear();
-    let doubles = [job_a(), wide.clone()].map(|draft| draft.doubled([63, 4095, 63]).bytes());
-    let many = chosen_among(MOST_CHOICES, &[]).bytes();
-    for whole in [vec![job_a().bytes(), wide.bytes(), many], doubles.to_vec()].concat() {
+    let doubles = [job_a(), wide.clone()].map(|draft| draft.doubled([63, 4095, 63]));
+    let stored = [job_a().undrained(1), doubles[0].undrained(2), doubles[1].undrained(3)];
+    let many = chosen_among(MOST_CHOICES, &[]);
+    for draft in [vec![job_a(), wide, many], doubles.to_vec(), stored.to_vec()].concat() {
+        let whole = draft.bytes();
+        let never = draft.never_drains();
+        // The header is whole by here, and is looked at before the next record.
+        let header = 4 + 2 * draft.header.len();
         let step = if whole.len() > 4096 { 251 } else { 1 };
         for cut in (0..whole.len()).step_by(step).chain([whole.len() - 1, whole.len()]) {
             let bytes = whole[..cut].to_vec();
             let due = check_bytes(&mut rng, &bytes).map_err(|t| format!("cut to {cut}: {t}"))?;
-            same(&format!("cut to {cut}"), (cut < whole.len()) as u8, due)?;
+            let stored = (cut < whole.len()) as u8;
+            let opened = if never && cut >= header { 17 } else { stored };
+            same(&format!("cut to {cut}"), [opened, stored], due)?;
             inputs += 1;
         }
         for tail in [vec![0; 1], vec![255; 2], vec![6, 0, 6], whole.clone(), vec![0; 70_000]] {
             let bytes = then(whole.clone(), &tail);
-            same("bytes after the job", 0, check_bytes(&mut rng, &bytes)?)?;
+            let due = if never { [17, 0] } else { [0, 0] };
+            same("bytes after the job", due, check_bytes(&mut rng, &bytes)?)?;
             inputs += 1;
         }
     }
@@ -3757,13 +3880,14 @@ fn limits_group() -> Result<String, String> {
     let mut check = |input: &[u8], due: Refusal, what: String| -> Checked {
         inputs += 1;
         let found = check_bytes(&mut rng, input).map_err(|trouble| format!("{what}: {trouble}"))?;
-        same(&what, due, found)
+        let stored = if due == 17 { 0 } else { due };
+        same(&what, [due, stored], found)
     };
     for buckets in 1..=MOST_BUCKETS {
         for &(field, low, high) in &LIMITS[..FIELDS[buckets - 1]] {
             let what = |value: u16| format!("{buckets} buckets, field {field} is {value}");
             for value in values_in(field, low, high) {
-                check(&sized(buckets, field, value), 0, what(value))?;
+                check(&sized(buckets, field, value), in_limits(field, value), what(value))?;
             }
             for value in [low.wrapping_sub(1), high + 1, high + 256, 0x8000, 0xffff] {
                 if value < low || value > high {
@@ -3773,10 +3897,13 @@ fn limits_group() -> Result<String, String> {
         }
     }
     for ([size, drain, start], due) in [
-        ([0, 0, 0], 0),
+        ([0, 0, 0], 17),
+        ([0, 1, 0], 0),
         ([0, 0, 1], 3),
         ([62, 0, 63], 3),
-        ([63, 0, 63], 0),
+        ([62, 1, 63], 3),
+        ([63, 0, 63], 17),
+        ([63, 1, 63], 0),
         ([63, 0, 64], 3),
         ([64, 0, 64], 3),
         ([63, 4095, 63], 0),
@@ -3794,7 +3921,10 @@ fn limits_group() -> Result<String, String> {
     // The first nine fields and the last three are held to their limits together.
     for (field, value) in [(UNITS, 0), (DELAY, 65), (START_BUCKET, 4), (CHOICES, 1001)] {
         let draft = job_a().doubled([63, 4095, 63]).with(field, value);
-        check(&draft.bytes(), 3, format!("two buckets, field {field} is {value}"))?;
+        for stopped in 0..4 {
+            let what = format!("two buckets, field {field} is {value}, drains 0 {stopped:02b}");
+            check(&draft.undrained(stopped).bytes(), 3, what)?;
+        }
     }
     // Either kind with the other's length, and the fields of the other.
     let [one, two] = [job_a(), job_a().doubled(SECOND_A)].map(|draft| draft.bytes());
@@ -3964,7 +4094,11 @@ fn job_a_group() -> Result<String, String> {
     }
     let opens = |draft: Draft| open(&draft.bytes()).err().map_or(0, |refusal| refusal.number());
     same("no bytes", Err(Refusal::Cut), open(&[]))?;
-    same("drain 0", 0, opens(job_a().with(DRAIN, 0)))?;
+    same("drain 0", 17, opens(job_a().with(DRAIN, 0)))?;
+    same("drain 0, second", 17, opens(job_a().doubled([2, 0, 0])))?;
+    same("drain 1", 0, opens(job_a().with(DRAIN, 1)))?;
+    let stored = upload_planner::archive(&job_a().with(DRAIN, 0).bytes());
+    same("drain 0 to the archive", open(&job), stored)?;
     same("rates 2, 2", 4, opens(Draft { rates: vec![2, 2, 4], ..job_a() }))?;
 
     let header = Header {
@@ -3986,12 +4120,17 @@ fn job_a_group() -> Result<String, String> {
     let missing = written(&header, &rates, &sizes, &[10, 30, 12]);
     same("a distortion missing", Err(Refusal::Lengths), missing)?;
 
-    for number in 1..=16 {
+    let never = Header { drain: 0, ..header };
+    let refused = written(&never, &rates, &sizes, &[10, 30, 12, 40]);
+    same("drain 0 written", Err(Refusal::NeverDrains), refused)?;
+    same("its number", 17, Refusal::NeverDrains.number())?;
+
+    for number in 1..=17 {
         let refusal = Refusal::from_number(number).ok_or(format!("no refusal {number}"))?;
         same("a refusal's number", number, refusal.number())?;
         ensure!(!refusal.to_string().is_empty(), "refusal {number} has no words");
     }
-    same("refusals beyond", (None, None), (Refusal::from_number(0), Refusal::from_number(17)))?;
+    same("refusals beyond", (None, None), (Refusal::from_number(0), Refusal::from_number(18)))?;
     Ok("as written".to_string())
 }
 
@@ -4008,11 +4147,6 @@ fn wrong_job(draft: &Draft, number: Refusal) -> Vec<u8> {
         _ => (),
     }
     draft.bytes()
-}
-
-/// The number of the first defect that is there, in the order due.
-fn first_of(defects: &[(bool, Refusal)]) -> u32 {
-    defects.iter().find(|defect| defect.0).map_or(0, |defect| defect.1 as u32)
 }
 
 /// `need`, or less by one or by all of it.
@@ -4055,6 +4189,9 @@ fn order_group() -> Result<String, String> {
             check_calls_order(&mut rng, &job, wrong, has).map_err(named)?;
             check_plan_order(&mut rng, known, &job, wrong, has).map_err(named)?;
             check_other_orders(&mut rng, known, &job, wrong, has).map_err(named)?;
+            for door in DOORS {
+                check_open_order(&mut rng, door, known, &job, wrong, has).map_err(named)?;
+            }
             sets += 1;
         }
     }
@@ -4144,7 +4281,9 @@ fn check_other_orders(
         }
     }
     entries.shrink_to_fit();
-    let calls = faulty_calls(&[6, 2, 1], kind, cut, has(8));
+    // A pin that the plan holds; where none is made, one that it does not hold.
+    let pin = if known.draft.never_drains() { [6, 1, 1] } else { [6, 2, 1] };
+    let calls = faulty_calls(&pin, kind, cut, has(8));
     let mut values = Lent::new(rng, cut_to(2 + known.totals.len(), short, by_all));
     let mut levels = Lent::new(rng, cut_to(known.levels.len(), list, by_all));
     let due =
@@ -4162,12 +4301,24 @@ fn check_other_orders(
     let mut sums = Lent::new(rng, cut_to(3, list, by_all));
     let due = first_of(&[(wrong > 0, wrong), (shape, 14), (list, 12)]);
     same("report", due, numbers::report(job, &entries, sums.list()))?;
-    sums.wrote("sums", if due == 0 { &[0, 4, 2] } else { &[] })?;
+    sums.wrote("sums", if due == 0 { &[0, 4, 2] } else { &[] })
+}
 
+fn check_open_order(
+    rng: &mut Rng,
+    door: Door,
+    known: &Known,
+    job: &[u8],
+    wrong: Refusal,
+    has: impl Fn(usize) -> bool,
+) -> Checked {
+    let (short, by_all) = (has(0), has(7));
     let mut values = Lent::new(rng, cut_to(4, short, by_all));
     let due = first_of(&[(wrong > 0, wrong), (short, 12)]);
-    same("open", due, numbers::open(job, values.list()))?;
-    let opened = [known.draft.bytes().len() as u64, 2, 3, known.table.len() as u64];
+    same(&format!("{door:?}"), due, open_by(door, job, values.list()))?;
+    let buckets = known.draft.buckets();
+    let words = buckets.iter().fold(4 * 5, |words, bucket| words * (bucket.size + 1));
+    let opened = [known.draft.bytes().len() as u64, 2, 3, words as u64];
     values.wrote("values of open", if due == 0 { &opened } else { &[] })
 }
 
@@ -4300,6 +4451,400 @@ fn kinds_group() -> Result<String, String> {
 }
 
 // ---------------------------------------------------------------------------
+// Lines that never drain.
+// ---------------------------------------------------------------------------
+
+/// A job that never drains, and a plan of it. What opens or plans refuses it by 17,
+/// whatever the calls and the lists; the archive opens it, and the plan is replayed,
+/// reported and turned.
+fn check_never(rng: &mut Rng, asked: &Asked, plan: &Plan) -> Checked {
+    check_open(rng, asked)?;
+    check_doors(&asked.bytes)?;
+    let any = std::array::from_fn(|_| rng.from(0, 7));
+    let cut = rng.from(0, asked.calls.len());
+    check_not_opened(rng, &asked.bytes, 17, &asked.calls, ENOUGH)?;
+    check_not_opened(rng, &asked.bytes, 17, &asked.calls[..cut], any)?;
+    check_replay(rng, asked, plan)?;
+    check_report(rng, asked, plan)?;
+    check_turned(rng, asked, &former_bytes(plan))?;
+    check_filling(asked, plan)
+}
+
+/// Where the drain is 0, a level is the one before and what is sent, and nothing of the
+/// drain goes by: from what the library writes alone, and with the calls left out.
+fn check_filling(asked: &Asked, plan: &Plan) -> Checked {
+    let job = &asked.job;
+    let (mut levels, mut values) = (vec![7; level_numbers(job)], vec![7; replay_values(job)]);
+    let found = numbers::replay(&asked.bytes, &[], &plan_bytes(plan), &mut levels, &mut values);
+    same("replay without calls", 0, found)?;
+    let due = upload_planner::replayed(&asked.bytes, &asked.typed_calls(), &plan_bytes(plan));
+    let held = if values[0] == 0 { job.intervals() } else { values[1] as usize - 1 };
+    let each = 1 + job.buckets.len();
+    let written = typed_levels(job, &levels[..each * held]);
+    same("replay with calls", due, Ok((written, typed_replay(&values))))?;
+    for (at, bucket) in job.buckets.iter().enumerate().filter(|(_, bucket)| bucket.drain == 0) {
+        let mut level = bucket.start;
+        for (t, after) in levels.chunks(each).take(held).enumerate() {
+            level += job.rates[plan[t].0];
+            same(&format!("bucket {at} in interval {}", t + 1), level, after[1 + at] as i64)?;
+        }
+        same("unused drain", 0, values[5 + at])?;
+    }
+    Ok(())
+}
+
+/// Job A with a first bucket and perhaps a second one: size, drain, starting level.
+fn line_of_a(first: [u16; 3], second: Option<[u16; 3]>) -> Draft {
+    let [size, drain, start] = first;
+    let a = job_a().with(BUCKET, size).with(DRAIN, drain).with(START_BUCKET, start);
+    second.map_or(a.clone(), |second| a.doubled(second))
+}
+
+/// Lists of calls of which none is made: pins that the best plan holds and does not
+/// hold, lifts, and such as are refused on any line.
+fn idle_calls() -> [Vec<Command>; 6] {
+    [
+        vec![],
+        vec![Pin(1, 1)],
+        vec![Pin(1, 0), Pin(2, 1)],
+        vec![Pin(2, 0), Lift(2), Pin(2, 0)],
+        vec![Lift(1), Lift(2), Pin(1, 1)],
+        vec![Pin(0, 0), Pin(3, 1), Pin(1, 2), Lift(3), Pin(1, 1), Pin(1, 1)],
+    ]
+}
+
+/// Replays by hand. The best plan sends 0, 4 and 2 grains, the other one 2 each time, and
+/// both leave the decoder empty but for 2 grains in the other's first interval.
+fn never_drains_group() -> Result<String, String> {
+    let mut rng = Rng(1);
+    let best = [(0, NO_CHOICE), (2, 0), (1, 1)];
+    let other = [(1, NO_CHOICE), (1, 0), (1, 1)];
+    let early = [(1, NO_CHOICE), (2, 1), (1, 1)];
+    let none = [(0, NO_CHOICE), (0, 1), (0, 1)];
+    let one = None;
+    let rows: [([u16; 3], Option<[u16; 3]>, [Pair; 3], &[u16], &[u64]); 24] = [
+        // All that is sent is there at the end, and just goes in or does not.
+        ([6, 0, 0], one, best, &[0, 0, 0, 4, 0, 6], &[0, 0, 50, 6, 6, 0]),
+        ([6, 0, 0], one, other, &[2, 2, 0, 4, 0, 6], &[0, 0, 50, 6, 6, 0]),
+        ([7, 0, 1], one, best, &[0, 1, 0, 5, 0, 7], &[0, 0, 50, 6, 6, 0]),
+        ([255, 0, 249], one, best, &[0, 249, 0, 253, 0, 255], &[0, 0, 50, 6, 6, 0]),
+        ([255, 0, 250], one, best, &[0, 250, 0, 254], &[BUCKET_OVER, 3]),
+        ([5, 0, 0], one, best, &[0, 0, 0, 4], &[BUCKET_OVER, 3]),
+        ([3, 0, 0], one, best, &[0, 0], &[BUCKET_OVER, 2]),
+        ([6, 0, 6], one, best, &[0, 6], &[BUCKET_OVER, 2]),
+        ([6, 0, 5], one, other, &[], &[BUCKET_OVER, 1]),
+        ([0, 0, 0], one, other, &[], &[BUCKET_OVER, 1]),
+        // Nothing is sent, and unit 1 is not there; 6 are there before it leaves, and in
+        // the bucket too.
+        ([0, 0, 0], one, none, &[0, 0], &[SHORT, 2]),
+        ([9, 0, 9], one, none, &[0, 9], &[SHORT, 2]),
+        ([3, 0, 0], one, early, &[2, 2], &[OVER, 2]),
+        // The second never drains, the first, or both.
+        ([3, 2, 0], Some([6, 0, 0]), best, &[0, 0, 0, 0, 2, 4, 0, 2, 6], &[0, 0, 50, 6, 6, 2, 0]),
+        ([3, 2, 0], Some([5, 0, 0]), best, &[0, 0, 0, 0, 2, 4], &[SECOND_OVER, 3]),
+        ([6, 0, 0], Some([2, 2, 0]), best, &[0, 0, 0, 0, 4, 2, 0, 6, 2], &[0, 0, 50, 6, 6, 0, 2]),
+        ([5, 0, 0], Some([2, 2, 0]), best, &[0, 0, 0, 0, 4, 2], &[BUCKET_OVER, 3]),
+        ([6, 0, 0], Some([1, 2, 0]), best, &[0, 0, 0], &[SECOND_OVER, 2]),
+        (
+            [6, 0, 0],
+            Some([63, 0, 57]),
+            best,
+            &[0, 0, 57, 0, 4, 61, 0, 6, 63],
+            &[0, 0, 50, 6, 6, 0, 0],
+        ),
+        ([6, 0, 0], Some([63, 0, 58]), best, &[0, 0, 58, 0, 4, 62], &[SECOND_OVER, 3]),
+        // Both are over, and the first is named; or only the second is.
+        ([3, 0, 0], Some([3, 0, 0]), best, &[0, 0, 0], &[BUCKET_OVER, 2]),
+        ([4, 0, 0], Some([3, 0, 0]), best, &[0, 0, 0], &[SECOND_OVER, 2]),
+        ([0, 0, 0], Some([0, 0, 0]), other, &[], &[BUCKET_OVER, 1]),
+        ([3, 2, 0], Some([0, 0, 0]), none, &[0, 0, 0], &[SHORT, 2]),
+    ];
+    for (first, second, plan, levels, named) in rows {
+        let draft = line_of_a(first, second);
+        let plan = plan.to_vec();
+        for commands in idle_calls() {
+            let asked = Asked::new(&mut rng, &draft.commanded(&commands));
+            let what = format!("buckets {first:?} {second:?}, {:?}, {plan:?}", asked.calls);
+            let due = follow(&asked.job, &asked.pins, &plan);
+            let mut values = named.to_vec();
+            values.resize(replay_values(&asked.job), 0);
+            same(&what, (levels, &values), (&due.levels[..], &due.values))?;
+            check_never(&mut rng, &asked, &plan).map_err(|t| format!("{what}: {t}"))?;
+            let words = 20 * draft.header[BUCKET] as u64 + 20;
+            let words = words * second.map_or(1, |second| second[0] as u64 + 1);
+            let due = [draft.bytes().len() as u64, 2, 3, words];
+            let mut values = Lent::new(&mut rng, 4);
+            same(&what, 0, numbers::archive(&asked.bytes, values.list()))?;
+            values.wrote("values of the archive by hand", &due)?;
+        }
+        // As soon as something drains, pins are made.
+        if named[0] == 0 {
+            let drained = draft.with(DRAIN, 2);
+            let drained = if second.is_some() { drained.with(SECOND_DRAIN, 4) } else { drained };
+            let asked = Asked::new(&mut rng, &drained.commanded(&[Pin(1, 1)]));
+            let due = follow(&asked.job, &asked.pins, &plan).values;
+            same("a pin of unit 1 with a drain", [NOT_HELD, 2], [due[0], due[1]])?;
+            check_replay(&mut rng, &asked, &plan)?;
+        }
+    }
+    // Turned from two bytes an interval, and the report: as on any line.
+    for draft in &drains_of_a() {
+        let asked = Asked::new(&mut rng, draft);
+        let found = upload_planner::turned(&asked.bytes, &[0, 255, 2, 0, 1, 1]);
+        same("turned by hand", Ok(BEST_A.to_vec()), found)?;
+        let mut sums = Lent::new(&mut rng, 3);
+        same("report by hand", 0, numbers::report(&asked.bytes, &BEST_A, sums.list()))?;
+        sums.wrote("sums by hand", &[0, 4, 2])?;
+    }
+    Ok(format!("{} replays by hand, each with {} lists of calls", rows.len(), idle_calls().len()))
+}
+
+/// A drain of 0 in either bucket or both, with every fault of the header before it and
+/// every fault of another record behind it: 17 comes directly after 3, and not to the
+/// archive.
+fn doors_group() -> Result<String, String> {
+    let mut rng = Rng(1);
+    let mut inputs = 0;
+    let mut check = |bytes: &[u8], never: bool, head: Refusal, tail: Refusal| -> Checked {
+        let opened = first_of(&[(head > 0, head), (never, 17), (tail > 0, tail)]) as Refusal;
+        let stored = first_of(&[(head > 0, head), (tail > 0, tail)]) as Refusal;
+        let found = check_bytes(&mut rng, bytes);
+        let checked = found.and_then(|found| same("numbers", [opened, stored], found));
+        inputs += 1;
+        checked.map_err(|trouble| format!("{trouble}\n  job {}", hex(bytes)))
+    };
+    for a in &drains_of_a() {
+        let never = a.never_drains();
+        let tails = faulty_tails(a);
+        for (header, head) in faulty_headers(a) {
+            for (tail, number) in tails.iter().step_by(if small() { 7 } else { 1 }) {
+                check(&then(header.clone(), tail), never, head, *number)?;
+            }
+            // A header that is cut, whatever its fields: the kind is looked at first, by
+            // its fourth byte.
+            for cut in 0..header.len() {
+                let number = if head == 2 && cut >= 4 { 2 } else { 1 };
+                check(&header[..cut], never, number, 0)?;
+            }
+        }
+    }
+    Ok(format!("{inputs} inputs"))
+}
+
+/// Job A on lines that never drain, in which the best plan goes through: with what its
+/// levels and totals come to.
+fn stored_lines() -> [Known; 4] {
+    let known = |draft: Draft, levels: &[u16], totals: &[u64]| Known {
+        draft,
+        table: Vec::new(),
+        levels: levels.to_vec(),
+        totals: totals.to_vec(),
+    };
+    let first = line_of_a([6, 0, 0], None);
+    [
+        known(first.clone(), &[0, 0, 0, 4, 0, 6], &[50, 6, 6, 0]),
+        known(first.doubled(SECOND_A), &[0, 0, 0, 0, 4, 2, 0, 6, 2], &[50, 6, 6, 0, 2]),
+        known(job_a().doubled([6, 0, 0]), &[0, 0, 0, 0, 2, 4, 0, 2, 6], &[50, 6, 6, 2, 0]),
+        known(first.doubled([7, 0, 1]), &[0, 0, 1, 0, 4, 5, 0, 6, 7], &[50, 6, 6, 0, 0]),
+    ]
+}
+
+/// Every set of defects of calls, plan and lists on jobs that never drain, and on such
+/// jobs with a wrong record.
+fn stored_order_group() -> Result<String, String> {
+    let mut rng = Rng(1);
+    let mut sets = 0;
+    for (known, wrong) in stored_lines().iter().flat_map(|known| (0..=5).map(move |n| (known, n))) {
+        let job = wrong_job(&known.draft, wrong);
+        // The wrong byte of 1 is the last one; only 2 and 3 are in the header.
+        let opened = if wrong == 2 || wrong == 3 { wrong } else { 17 };
+        for bits in (0..1 << 9).step_by(if small() { 5 } else { 1 }) {
+            let has = |bit: usize| bits >> bit & 1 == 1;
+            check_never_order(&mut rng, known, &job, [opened, wrong], has).map_err(|trouble| {
+                let header = &known.draft.header;
+                format!("header {header:?}, job {wrong}, defects {bits:b}: {trouble}")
+            })?;
+            sets += 1;
+        }
+    }
+    Ok(format!("{sets} sets of defects"))
+}
+
+fn check_never_order(
+    rng: &mut Rng,
+    known: &Known,
+    job: &[u8],
+    [opened, wrong]: [Refusal; 2],
+    has: impl Fn(usize) -> bool,
+) -> Checked {
+    let [short, kind, cut, shape, list] = std::array::from_fn(&has);
+    let by_all = has(7);
+    let calls = faulty_calls(&[6, 1, 1, 7, 2, 1], kind, cut, has(8));
+    let due = opened as u32;
+    let mut lent = CallLists::new(rng, [cut_to(2, list, by_all), cut_to(3, short, by_all)]);
+    same("calls", due, lent.make(job, &calls))?;
+    lent.kept()?;
+    let lengths =
+        [cut_to(2, list, by_all), cut_to(2000, shape, by_all), cut_to(9, has(5), by_all), 5];
+    let mut lent = PlanLists::new(rng, lengths);
+    let aim = if has(6) { rng.pick(&WRONG_AIMS) } else { rng.pick(&[TOTAL, EVEN]) };
+    same("plan", due, lent.plan_for(aim, job, &calls))?;
+    lent.kept()?;
+
+    check_open_order(rng, Door::Opening, known, job, opened, &has)?;
+    check_open_order(rng, Door::Archive, known, job, wrong, &has)?;
+    check_other_orders(rng, known, job, wrong, &has)?;
+    let mut old = vec![0, 255, 2, 0, 1, 1];
+    if shape {
+        old[has(5) as usize] = 7;
+    }
+    let mut entries = Lent::new(rng, cut_to(9, list, by_all));
+    let due = first_of(&[(wrong > 0, wrong), (shape, 14), (list, 12)]);
+    same("turn", due, numbers::turn(job, &old, entries.list()))?;
+    entries.wrote("entries of turning", if due == 0 { &BEST_A } else { &[] })
+}
+
+/// Every short list of calls before a replay on a line that never drains, and calls of
+/// other kinds or cut ones among them.
+fn stored_calls_group() -> Result<String, String> {
+    let mut rng = Rng(1);
+    let mut lists = 0;
+    let lines = stored_lines();
+    for (index, list) in command_lists().iter().enumerate() {
+        if small() && index % 31 > 0 {
+            continue;
+        }
+        let known = &lines[index % lines.len()];
+        let asked = Asked::new(&mut rng, &known.draft.commanded(list));
+        let plan = read_plan(&asked.job, &BEST_A).expect("a plan");
+        let mut check = || -> Checked {
+            same("answers", vec![17; list.len()], asked.answers.clone())?;
+            let due = follow(&asked.job, &asked.pins, &plan);
+            let values = [&[0, 0], &known.totals[..]].concat();
+            same("by hand", (&known.levels, &values), (&due.levels, &due.values))?;
+            check_replay(&mut rng, &asked, &plan)
+        };
+        check().map_err(|trouble| format!("{trouble}\n  {}", asked.show()))?;
+        lists += 1;
+    }
+    let kinds = [0, 1, 2, 5, 6, 7, 8, 17, 255, 256, 262, 263, 0x0600, 0x8006, 0xffff];
+    let tails: [&[u16]; 7] = [&[], &[6], &[7], &[9], &[6, 1], &[7, 1], &[9, 1]];
+    for (known, place) in lines.iter().flat_map(|known| (0..3).map(move |place| (known, place))) {
+        let job = known.draft.bytes();
+        for (kind, tail) in kinds.iter().flat_map(|kind| tails.map(|tail| (*kind, tail))) {
+            let mut calls = vec![6, 1, 1, 7, 1, 0, 6, 2, 0];
+            calls[3 * place] = kind;
+            calls.extend_from_slice(tail);
+            let due = first_of(&[(kind != 6 && kind != 7, 2), (!tail.is_empty(), 1)]);
+            let mut levels = Lent::new(&mut rng, known.levels.len());
+            let mut values = Lent::new(&mut rng, 2 + known.totals.len());
+            let found = numbers::replay(&job, &calls, &BEST_A, levels.list(), values.list());
+            same(&format!("calls {calls:?}"), due, found)?;
+            let replayed = [&[0, 0], &known.totals[..]].concat();
+            levels.wrote("levels", if due > 0 { &[] } else { &known.levels })?;
+            values.wrote("values", if due > 0 { &[] } else { &replayed })?;
+            let mut made = CallLists::new(&mut rng, [4, CALLS_VALUES]);
+            same("calls alone", 17, made.make(&job, &calls))?;
+            made.kept()?;
+            lists += 1;
+        }
+    }
+    Ok(format!("{lists} lists of calls"))
+}
+
+/// Values of every length for both doors, on lines that drain and that never do.
+fn door_lengths_group() -> Result<String, String> {
+    let mut rng = Rng(1);
+    let mut lists = 0;
+    for draft in &drains_of_a() {
+        let bytes = draft.bytes();
+        let words = if draft.buckets().len() > 1 { 240 } else { 80 };
+        let taken = [bytes.len() as u64, 2, 3, words];
+        for (door, length) in DOORS.iter().flat_map(|door| (0..=6).map(move |n| (*door, n))) {
+            let mut values = Lent::new(&mut rng, length);
+            let never = door == Door::Opening && draft.never_drains();
+            let due = first_of(&[(never, 17), (length < 4, 12)]);
+            let what = format!("header {:?}, {door:?}, {length} values", draft.header);
+            same(&what, due, open_by(door, &bytes, values.list()))?;
+            values.wrote(&what, if due == 0 { &taken } else { &[] })?;
+            lists += 1;
+        }
+    }
+    Ok(format!("{lists} lists"))
+}
+
+/// Random jobs that never drain, with calls of all kinds and plans that go on as long as
+/// the buckets take it. What the report and turning make of them is what they make of
+/// the job with another drain.
+fn stored_group(seed: u64, asks: bool) -> Result<String, String> {
+    let mut rng = Rng(seed);
+    let (mut tally, mut deep, mut calls, mut unlike) = ([0; 6], 0, 0, 0);
+    let jobs = scaled(600);
+    for index in 1..=jobs {
+        let draft = match index % 12 {
+            0 if index % 48 == 0 => random_long_double(&mut rng),
+            0 if index % 48 == 24 => random_long_job(&mut rng),
+            1 => random_medium_double(&mut rng),
+            2 | 3 => random_job(&mut rng, &MEDIUM),
+            4 => random_double_job(&mut rng, &DOUBLE[1]),
+            5 => random_tight_job(&mut rng, &TIGHT[0]),
+            6 => random_many_job(&mut rng, &MANY[0]),
+            7..=9 => random_tiny_double(&mut rng),
+            _ => random_job(&mut rng, &TINY),
+        };
+        let drained = draft.clone();
+        let draft = random_stored(&mut rng, &draft, 1);
+        let asked = Asked::new(&mut rng, &draft);
+        let other = Asked::new(&mut rng, &drained);
+        for which in 0..4 {
+            let plan = match which {
+                0 => tight_plan(&mut rng, &asked.job, &asked.pins, 4),
+                _ => random_plan(&mut rng, &asked.job, &asked.pins),
+            };
+            let check = |rng: &mut Rng| -> Checked {
+                check_never(rng, &asked, &plan)?;
+                check_misshapen(rng, &asked, &plan)?;
+                check_alike(&asked, &other, &plan)
+            };
+            let named = |trouble: String| format!("{trouble}\n  plan {plan:?}");
+            let checked = check(&mut rng).map_err(named);
+            checked.map_err(|trouble| failed(seed, index, &trouble, &asked))?;
+            let due = follow(&asked.job, &asked.pins, &plan).values;
+            tally[due[0] as usize] += 1;
+            deep += (due[1] > 2) as usize;
+            calls += asked.answers.len();
+            // Pins that are made elsewhere would not be held here.
+            let held = other.pins.iter().zip(&plan[asked.job.delay..]);
+            let held = held.filter(|(pinned, entry)| pinned.is_some_and(|p| p != entry.1));
+            unlike += (due[0] == 0 && held.count() > 0) as usize;
+        }
+    }
+    let [clean, short, over, bucket, _, second] = tally;
+    let counts = format!(
+        "{} plans: {clean} clean, {short} decoder short, {over} decoder over, {bucket} bucket \
+         over, {second} second bucket over; {deep} violations past interval 2; {calls} calls, \
+         {unlike} clean plans that would not hold them",
+        4 * jobs
+    );
+    let seen = [clean, short, over, bucket, second, deep, unlike];
+    let worthwhile = seen.iter().all(|count| count * 15 > jobs);
+    ensure!(worthwhile || !asks, "too little in it: {counts}");
+    Ok(counts)
+}
+
+/// The report and turning do not look at the buckets.
+fn check_alike(asked: &Asked, other: &Asked, plan: &Plan) -> Checked {
+    let (entries, old) = (plan_bytes(plan), former_bytes(plan));
+    let [one, two] = [asked, other].map(|asked| {
+        let (mut sums, mut turned) = (vec![7; asked.job.units.len() + 1], vec![7; entries.len()]);
+        let reported = numbers::report(&asked.bytes, &entries, &mut sums);
+        let number = numbers::turn(&asked.bytes, &old, &mut turned);
+        (reported, sums, number, turned)
+    });
+    same("report and turning with another drain", two, one)
+}
+
+// ---------------------------------------------------------------------------
 // Writing.
 // ---------------------------------------------------------------------------
 
@@ -4411,7 +4956,8 @@ fn room_for(lists: &Lists) -> usize {
 // ---------------------------------------------------------------------------
 
 /// Each example's job is written as it stands in the file; with a distortion
-/// changed it opens and plans as the changed job is to.
+/// changed it opens and plans as the changed job is to. One that never drains is not
+/// written.
 fn examples_group(directory: &Path) -> Result<String, String> {
     let inputs = example_inputs(directory)?;
     let mut rng = Rng(1);
@@ -4436,7 +4982,12 @@ fn examples_group(directory: &Path) -> Result<String, String> {
 /// plan than the example's.
 fn check_example(rng: &mut Rng, input: &[u8]) -> Result<[usize; 3], String> {
     let mut reader = Reader { rest: input };
-    let job = read_job(&mut reader).map_err(|number| format!("no job: {number}"))?;
+    let job = read_stored(&mut reader).map_err(|number| format!("no job: {number}"))?;
+    if job.never_drains() {
+        same("write", 17, check_write(rng, &Lists::of_job(&job), input.len(), 1)?)?;
+        same("bytes", [17, 0], check_bytes(rng, input)?)?;
+        return Ok([0; 3]);
+    }
     let taken = &input[..input.len() - reader.rest.len()];
     let pins = read_commands(&mut reader, &job).map_err(|number| format!("commands: {number}"))?;
     let lists = Lists::of_job(&job);
@@ -4539,7 +5090,7 @@ fn field_cases(a: &Draft, buckets: usize) -> Vec<LimitCase> {
         let what = |value: u16| format!("{buckets} buckets, field {field} is {value}");
         for value in values_in(field, low, high) {
             let lists = Lists::of_draft(&sized_draft(buckets, field, value));
-            cases.push(limit_case(lists, 0, what(value)));
+            cases.push(limit_case(lists, in_limits(field, value), what(value)));
         }
         for value in [low.wrapping_sub(1), high + 1, high + 256, 0x8000, 0xffff] {
             if value < low || value > high {
@@ -4617,9 +5168,9 @@ fn rate_cases(a: &Draft, buckets: usize) -> Vec<LimitCase> {
 /// Grains and distortions, in every place or many.
 fn coding_cases(a: &Draft) -> Vec<LimitCase> {
     let mut cases = Vec::new();
-    let mut wide = Draft::new([0; 6], &[0], &vec![vec![(1, 2); 31]; 3]);
+    let mut wide = Draft::new(BARE, &[0], &vec![vec![(1, 2); 31]; 3]);
     wide.header.extend(&a.header[FIELDS[0]..]);
-    let mut many = Draft::new([0; 6], &[0], &vec![vec![(1, 2); MOST_CHOICES]; 2]);
+    let mut many = Draft::new(BARE, &[0], &vec![vec![(1, 2); MOST_CHOICES]; 2]);
     many.header.extend(&a.header[FIELDS[0]..]);
     // Of many choices some, in either unit.
     let some = [0, 31, 255, 256, 999, 1000, 1255, 1256, 1999];
@@ -4732,10 +5283,10 @@ fn room_cases(a: &Draft) -> Vec<LimitCase> {
 /// they may be, in lists that are just enough and one byte short.
 fn largest_cases() -> Vec<LimitCase> {
     let mut cases = Vec::new();
-    let smallest = Draft::new([0; 6], &[0], &[vec![(0, 0)]]);
+    let smallest = Draft::new(BARE, &[0], &[vec![(0, 0)]]);
     let largest = largest_draft();
     for (draft, taken) in [
-        (smallest.doubled([0; 3]), 44),
+        (smallest.doubled([0, 1, 0]), 44),
         (largest.doubled([63, 4095, 63]), 3_074_112),
         (smallest, 38),
         (largest, 3_074_106),
@@ -4768,9 +5319,8 @@ const WRITE_DEFECTS: [usize; 5] = [8, 10, 4, 4, 3];
 fn write_order_group() -> Result<String, String> {
     let mut rng = Rng(1);
     let ways: usize = WRITE_DEFECTS.iter().product();
-    let lines = [job_a(), job_a().doubled(SECOND_A)];
     let mut sets = 0;
-    for (a, bits) in lines.iter().flat_map(|a| (0..1 << 6).map(move |bits| (a, bits))) {
+    for (a, bits) in drains_of_a().iter().flat_map(|a| (0..1 << 6).map(move |bits| (a, bits))) {
         for number in (0..ways).step_by(if small() { 97 } else { 1 }) {
             let mut rest = number;
             let way = WRITE_DEFECTS.map(|count| {
@@ -4780,8 +5330,8 @@ fn write_order_group() -> Result<String, String> {
             });
             let has = |bit: usize| bits >> bit & 1 == 1;
             check_write_order(&mut rng, a, has, way).map_err(|trouble| {
-                let fields = a.header.len();
-                format!("{fields} fields, defects {bits:06b} in ways {way:?}: {trouble}")
+                let fields = &a.header;
+                format!("fields {fields:?}, defects {bits:06b} in ways {way:?}: {trouble}")
             })?;
             sets += 1;
         }
@@ -4851,6 +5401,7 @@ fn check_write_order(
     let room = if short { [taken - 1, 22, 0][way[4]] } else { taken };
     let due = first_of(&[
         (header, 3),
+        (a.never_drains(), 17),
         (lengths, 16),
         (rates, 4),
         (codings, 5),
@@ -4957,6 +5508,7 @@ fn harmed_lists(seed: u64, asks: bool, buckets: usize) -> Result<String, String>
         if buckets > 1 {
             draft = random_doubled(&mut rng, &draft, 63, 4095);
         }
+        draft = random_stored(&mut rng, &draft, 4);
         let mut lists = Lists::of_draft(&draft);
         for _ in 0..rng.pick(&[0, 1, 1, 1, 1, 2, 3]) {
             harm_lists(&mut rng, &mut lists);
@@ -4985,7 +5537,7 @@ fn harmed_lists(seed: u64, asks: bool, buckets: usize) -> Result<String, String>
     let each: Vec<String> =
         tally.iter().map(|(number, count)| format!("{count} {number}")).collect();
     let counts = format!("{inputs} inputs by number ({})", each.join(", "));
-    let numbers = [0, 3, 4, 5, 12, 16];
+    let numbers = [0, 3, 4, 5, 12, 16, 17];
     let worthwhile =
         numbers.iter().all(|number| tally.get(number).is_some_and(|c| c * 50 > inputs));
     ensure!(worthwhile || !asks, "too little in it: {counts}");
@@ -5157,6 +5709,11 @@ fn run_all(new_seed: u64, with_full: bool, examples: Option<&Path>) -> bool {
         print_group("stored plans turned", turning_group()),
         print_group("refusals of turning in their order", turning_order_group()),
         print_group("every stored plan", former_plans_group()),
+        print_group("lines that never drain", never_drains_group()),
+        print_group("a drain of 0 and refusals around it", doors_group()),
+        print_group("refusals of stored jobs in their order", stored_order_group()),
+        print_group("calls before the replay of a stored job", stored_calls_group()),
+        print_group("values of opening and of the archive", door_lengths_group()),
         print_group("report by hand", report_group()),
         print_group("every delay in the report", delays_group()),
         print_group("long delays in the report", long_delays_group()),
@@ -5180,6 +5737,7 @@ fn run_all(new_seed: u64, with_full: bool, examples: Option<&Path>) -> bool {
     seeded("harmed lists", &[1], harmed_lists_group);
     seeded("harmed bytes", &[1], harmed_group);
     seeded("replay and report", &[1, 2], replay_group);
+    seeded("jobs that never drain", &[1, 2], stored_group);
     seeded("tiny jobs", &[1, 2, 3], tiny_group);
     seeded("tight jobs", &[1, 2], tight_group);
     seeded("idle jobs", &[1, 2], idle_group);

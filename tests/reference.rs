@@ -118,6 +118,12 @@ impl Job {
         job
     }
 
+    /// Whether the drain of a bucket is 0. Such a job is not opened, but the archive
+    /// takes it.
+    pub fn never_drains(&self) -> bool {
+        self.buckets.iter().any(|bucket| bucket.drain == 0)
+    }
+
     /// How many plans have T entries in range, or `None` beyond 64 bits.
     pub fn plans(&self) -> Option<u64> {
         let rates = (self.rates.len() as u64).checked_pow(self.intervals() as u32)?;
@@ -236,9 +242,40 @@ pub fn read_unit(body: &[u8]) -> Result<Vec<Choice>, Refusal> {
     Ok(unit)
 }
 
+/// Which entry reads a job. They differ in lines that never drain alone.
+#[derive(Clone, Copy, Debug, PartialEq, Eq)]
+pub enum Door {
+    /// That of opening, writer, pin, lift and every call that plans.
+    Opening,
+    /// That of stored jobs, and of replay, report and turning.
+    Archive,
+}
+
+impl Door {
+    /// What is asked of a header whose fields are all in range.
+    pub fn drains(self, fields: &[i64]) -> Result<(), Refusal> {
+        let never = buckets_of(fields).iter().any(|bucket| bucket.drain == 0);
+        match self {
+            Door::Opening if never => Err(17),
+            _ => Ok(()),
+        }
+    }
+}
+
+/// The job that opening takes.
 pub fn read_job(reader: &mut Reader) -> Result<Job, Refusal> {
+    read_by(Door::Opening, reader)
+}
+
+/// The job that the archive takes.
+pub fn read_stored(reader: &mut Reader) -> Result<Job, Refusal> {
+    read_by(Door::Archive, reader)
+}
+
+pub fn read_by(door: Door, reader: &mut Reader) -> Result<Job, Refusal> {
     let (_, header) = reader.record(header_length)?;
     let f = read_header(header)?;
+    door.drains(&f)?;
     let rates = read_rates(reader.record_of(2, 2 + 2 * f[RATES] as usize)?)?;
     let mut units = Vec::new();
     for _ in 0..f[UNITS] {
@@ -1162,7 +1199,8 @@ pub const START_SECOND: usize = 11;
 
 /// Each header field with its least and its greatest value; the starting
 /// levels' greatest are the sizes of Job A, and that of `SECOND_A`. The first nine
-/// are those of a header with one bucket.
+/// are those of a header with one bucket. A drain of 0 is in the range, and opening
+/// refuses it all the same, by a number of its own.
 pub const LIMITS: [(usize, u16, u16); 12] = [
     (UNITS, 1, 512),
     (DELAY, 0, 64),
@@ -1243,6 +1281,29 @@ impl Draft {
         let mut draft = self.clone();
         draft.header.truncate(FIELDS[0]);
         draft
+    }
+
+    /// The job with a drain of 0 in each bucket whose bit is set, the first one's the
+    /// lowest.
+    pub fn undrained(&self, buckets: usize) -> Draft {
+        let mut draft = self.clone();
+        for (at, &[_, drain, _]) in BUCKET_FIELDS.iter().enumerate() {
+            if buckets >> at & 1 == 1 {
+                draft.header[drain] = 0;
+            }
+        }
+        draft
+    }
+
+    /// The buckets, whose numbers may be out of range.
+    pub fn buckets(&self) -> Vec<Bucket> {
+        let fields: Vec<i64> = self.header.iter().map(|&field| field as i64).collect();
+        buckets_of(&fields)
+    }
+
+    /// Whether the drain of a bucket is 0.
+    pub fn never_drains(&self) -> bool {
+        self.buckets().iter().any(|bucket| bucket.drain == 0)
     }
 
     /// The job with its two buckets in the other order.
@@ -1407,6 +1468,7 @@ pub fn write_job(lists: &Lists, room: usize, values: usize) -> Result<Vec<u8>, R
         return Err(3);
     }
     let f = read_header(&words(&lists.fields))?;
+    Door::Opening.drains(&f)?;
     let codings = (f[UNITS] * f[CHOICES]) as usize;
     let lengths = [lists.rates.len(), lists.sizes.len(), lists.distortions.len()];
     if lengths != [f[RATES] as usize, codings, codings] {
@@ -1449,7 +1511,8 @@ pub fn sent_as_decoded(levels: [u16; 4], taken: &[u16]) -> Draft {
     Draft::new([delay, decoder, bucket, drain, 0, start], &rates, &units)
 }
 
-/// Jobs with the sums of their unused drain, worked out by hand.
+/// Jobs with the sums of their unused drain, worked out by hand. In some a bucket never
+/// drains; of these no plan is made, and what is worked out is a replay.
 pub fn unused_by_hand() -> Vec<(String, Draft, Vec<i64>)> {
     [one_unused_by_hand(), two_unused_by_hand()].concat()
 }
@@ -1457,10 +1520,15 @@ pub fn unused_by_hand() -> Vec<(String, Draft, Vec<i64>)> {
 fn one_unused_by_hand() -> Vec<(String, Draft, Vec<i64>)> {
     // Each line: delay, bucket size, drain, the bucket's starting level; what is
     // sent after the delay; how many times this is sent; what goes by unused.
-    let rows: [([u16; 4], &[u16], usize, i64); 28] = [
-        // No drain; the level is 5, 5, 9, or 0.
+    let rows: [([u16; 4], &[u16], usize, i64); 32] = [
+        // No drain; the level is 5, 5, 9, or 0. A drain of 1: it is 4, 3, 6, or 0.
         ([0, 9, 0, 3], &[2, 0, 4], 1, 0),
         ([0, 0, 0, 0], &[0], 3, 0),
+        ([0, 6, 1, 3], &[2, 0, 4], 1, 0),
+        ([0, 0, 1, 0], &[0], 3, 3),
+        // As full as 255 can be, and as full with all that was there.
+        ([0, 255, 0, 0], &[5], 51, 0),
+        ([3, 255, 0, 250], &[1, 0], 5, 0),
         // A drain of just what is there and what is sent, of one more and of one
         // less: both, only what is sent, only what is there, neither.
         ([0, 9, 5, 3], &[2], 1, 0),
@@ -1512,7 +1580,7 @@ fn one_unused_by_hand() -> Vec<(String, Draft, Vec<i64>)> {
 fn two_unused_by_hand() -> Vec<(String, Draft, Vec<i64>)> {
     // Each line: delay; size, drain and starting level of both buckets; what is sent
     // after the delay; how many times this is sent; what goes by unused.
-    let rows: [(u16, [[u16; 3]; 2], &[u16], usize, [i64; 2]); 20] = [
+    let rows: [(u16, [[u16; 3]; 2], &[u16], usize, [i64; 2]); 24] = [
         // A drain of just what is there and what is sent, and of one more.
         (0, [[9, 5, 3], [9, 6, 3]], &[2], 1, [0, 1]),
         (0, [[9, 6, 3], [9, 5, 3]], &[2], 1, [1, 0]),
@@ -1534,11 +1602,17 @@ fn two_unused_by_hand() -> Vec<(String, Draft, Vec<i64>)> {
         // No drain in one of them; its level is 5, 5, 9.
         (0, [[9, 4, 0], [15, 0, 3]], &[2, 0, 4], 1, [2 + 4, 0]),
         (0, [[9, 0, 3], [9, 5, 0]], &[2, 0, 4], 1, [0, 3 + 5 + 1]),
+        // None in either, from other levels.
+        (0, [[9, 0, 3], [12, 0, 6]], &[2, 0, 4], 1, [0, 0]),
+        // A drain of 1 in one of them; its level is 4, 3, 6.
+        (0, [[9, 4, 0], [6, 1, 3]], &[2, 0, 4], 1, [2 + 4, 0]),
+        (0, [[6, 1, 3], [9, 5, 0]], &[2, 0, 4], 1, [0, 3 + 5 + 1]),
         // What was there at the start is drained once, in one of them alone.
         (0, [[2, 3, 0], [3, 3, 1]], &[0, 3, 3], 1, [3, 2]),
         // The largest drain, 512 units and a delay of 64.
         (64, [[0, 4095, 0], [0, 4095, 0]], &[0], 512, [576 * 4095, 576 * 4095]),
         (64, [[0, 0, 0], [0, 4095, 0]], &[0], 512, [0, 576 * 4095]),
+        (64, [[0, 1, 0], [0, 4095, 0]], &[0], 512, [576, 576 * 4095]),
         // 512 units, as above: 300 drain 5 or none; 4 drain 5, of which 1 is left.
         (0, [[0, 300, 0], [4, 4, 0]], &[5, 0], 256, [256 * (295 + 300), 256 * 3]),
         (0, [[4, 4, 0], [0, 300, 0]], &[5, 0], 256, [256 * 3, 256 * (295 + 300)]),
@@ -1602,6 +1676,113 @@ pub fn values_in(field: usize, low: u16, high: u16) -> Vec<u16> {
         values.extend([31, 32, 255, 256, 257]);
     }
     values
+}
+
+/// What opening and writer make of a field in its range, all else in order.
+pub fn in_limits(field: usize, value: u16) -> Refusal {
+    match field {
+        DRAIN | SECOND_DRAIN if value == 0 => 17,
+        _ => 0,
+    }
+}
+
+/// Job A on a line of one bucket and of two, each with every set of drains at 0.
+pub fn drains_of_a() -> Vec<Draft> {
+    let lines = [job_a(), job_a().doubled(SECOND_A)];
+    let each = |a: &Draft| -> Vec<Draft> {
+        (0..1 << a.buckets().len()).map(|stopped| a.undrained(stopped)).collect()
+    };
+    lines.iter().flat_map(each).collect()
+}
+
+/// Headers with a fault, and the number due; the first has none. A drain that is out of
+/// range stands in the place of one that is 0.
+pub fn faulty_headers(a: &Draft) -> Vec<(Vec<u8>, Refusal)> {
+    let right = a.records()[0].clone();
+    let mut headers = vec![(right.clone(), 0)];
+    let fields = [
+        (UNITS, 0),
+        (UNITS, 513),
+        (DELAY, 65),
+        (DECODER, 256),
+        (BUCKET, 256),
+        (DRAIN, 4096),
+        (DRAIN, 0xff00),
+        (START_DECODER, 5),
+        (START_BUCKET, 4),
+        (RATES, 0),
+        (RATES, 17),
+        (CHOICES, 0),
+        (CHOICES, 1001),
+        (SECOND, 64),
+        (SECOND_DRAIN, 4096),
+        (SECOND_DRAIN, 0xff00),
+        (START_SECOND, 3),
+        (START_SECOND, 0xffff),
+    ];
+    let wrong: Vec<Vec<u8>> = fields
+        .iter()
+        .filter(|(field, _)| *field < a.header.len())
+        .map(|&(field, value)| a.with(field, value).records()[0].clone())
+        .collect();
+    headers.extend(wrong.iter().map(|header| (header.clone(), 3)));
+    // Of another kind or length, with fields in range and not.
+    let (length, kind) = (u16_at(&right, 0), u16_at(&right, 2));
+    for (length, kind) in [
+        (length, 0),
+        (length, 2),
+        (length, 9 - kind),
+        (length, kind + 256),
+        (length - 2, kind),
+        (length + 1, kind),
+        (46 - length, kind),
+        (0, kind),
+    ] {
+        for header in [&right, &wrong[0], &wrong[wrong.len() - 1]] {
+            headers.push((patched(header, 0, &words(&[length, kind])), 2));
+        }
+    }
+    headers
+}
+
+/// What may follow Job A's header, and the number due: rates and units as they should
+/// be, cut at every byte, with a record of another kind or length, or with one whose
+/// numbers are out of range.
+pub fn faulty_tails(a: &Draft) -> Vec<(Vec<u8>, Refusal)> {
+    let records = &a.records()[1..];
+    let mut tails = vec![(records.concat(), 0)];
+    for (index, right) in records.iter().enumerate() {
+        let (before, after) = (records[..index].concat(), records[index + 1..].concat());
+        for cut in 0..right.len() {
+            tails.push((then(before.clone(), &right[..cut]), 1));
+        }
+        let (length, kind) = (u16_at(right, 0), u16_at(right, 2));
+        let mut wrong: Vec<(Vec<u8>, Refusal)> =
+            [(length, kind + 1), (length, 1), (length, kind + 256), (length + 2, kind), (0, kind)]
+                .iter()
+                .map(|&(length, kind)| (patched(right, 0, &words(&[length, kind])), 2))
+                .collect();
+        // The last number of a record and the first: two rates that do not rise, a
+        // rate, a size or a distortion over its limit.
+        let last = right.len() - 2;
+        wrong.extend(match index {
+            0 => [(patched(right, 4, &[2, 0]), 4), (patched(right, last, &[0, 16]), 4)],
+            _ => [(patched(right, 4, &[0, 16]), 5), (patched(right, last, &[0, 255]), 5)],
+        });
+        for (record, number) in wrong {
+            let whole = then(before.clone(), &record);
+            tails.push((then(whole.clone(), &after), number));
+            // A fault behind it says nothing more.
+            tails.push((then(whole.clone(), &[9, 0, 9, 0]), number));
+            tails.push((whole, number));
+        }
+    }
+    tails
+}
+
+/// The number of the first defect that is there, in the order due.
+pub fn first_of(defects: &[(bool, Refusal)]) -> u32 {
+    defects.iter().find(|defect| defect.0).map_or(0, |defect| defect.1 as u32)
 }
 
 /// As much of what a field counts as there is to go with it.
@@ -1777,12 +1958,32 @@ pub fn random_job(rng: &mut Rng, shape: &Shape) -> Draft {
     draft
 }
 
+/// A drain that opening takes: 1 in more jobs than another.
 pub fn random_drain(rng: &mut Rng, grains: usize) -> usize {
     match rng.from(1, 16) {
-        1 | 2 => 0,
+        1 | 2 => 1,
         3 => 4095,
         _ => rng.from(1, grains),
     }
+}
+
+/// The job as it may have been stored: one time in `times` a bucket never drains, of
+/// two buckets either or both. Such a bucket is often made larger, so that it takes
+/// what some intervals send.
+pub fn random_stored(rng: &mut Rng, draft: &Draft, times: usize) -> Draft {
+    if !rng.one_in(times) {
+        return draft.clone();
+    }
+    let which = rng.from(1, (1 << draft.buckets().len()) - 1);
+    let mut stored = draft.undrained(which);
+    for (at, &[size, ..]) in BUCKET_FIELDS.iter().enumerate() {
+        if which >> at & 1 == 1 && !rng.one_in(3) {
+            let largest = [255, 63][at];
+            let more = rng.pick(&[3, 10, 40, 250]).min(largest - stored.header[size]);
+            stored.header[size] += rng.from(0, more as usize) as u16;
+        }
+    }
+    stored
 }
 
 pub fn random_rates(rng: &mut Rng, shape: &Shape) -> Vec<u16> {
@@ -2301,15 +2502,17 @@ fn either_line(rng: &mut Rng, draft: Draft, shape: &Shape) -> Draft {
     random_doubled(rng, &draft, shape.bucket / 2, most.max(1))
 }
 
-/// A job with commands, its bytes then harmed.
+/// A job with commands, its bytes then harmed. In some a bucket never drains.
 pub fn scrambled(rng: &mut Rng) -> Vec<u8> {
     let draft = random_job(rng, &TINY);
+    let draft = random_stored(rng, &draft, 8);
     harmed(rng, &draft, 10, harm)
 }
 
 /// The same of a line of two buckets.
 pub fn scrambled_double(rng: &mut Rng) -> Vec<u8> {
     let draft = random_tiny_double(rng);
+    let draft = random_stored(rng, &draft, 8);
     harmed(rng, &draft, 10, |rng, bytes| match rng.from(0, 9) {
         0 => harm_kind(rng, bytes),
         _ => harm(rng, bytes),

@@ -21,14 +21,21 @@
 //! pictures, where the worst unit is as good as it can be.
 //!
 //! [`write()`] makes the bytes of a job from its header and lists; [`open`],
-//! [`calls()`], [`plan`], [`replay`], [`report`] and [`turn`] take these bytes and
-//! read them again. They fill lists that the caller lends; [`written`], [`called`],
+//! [`archive`], [`calls()`], [`plan`], [`replay`], [`report`] and [`turn`] take these
+//! bytes and read them again. They fill lists that the caller lends; [`written`], [`called`],
 //! [`best_plan`], [`replayed`] and [`turned`] make the lists themselves. Nothing is
 //! kept between calls. A list that is filled may be longer than needed: what stands
 //! past the part named as written keeps its values. Wherever a job is read, its
-//! own refusals, 1 to 5, come first. A refusal writes nothing, except that
-//! [`Refusal::NoPlan`] comes after the search and leaves `table` written, and no
-//! other list.
+//! own refusals come first: 1 to 5, and for those that open it 17. A refusal writes
+//! nothing, except that [`Refusal::NoPlan`] comes after the search and leaves `table`
+//! written, and no other list.
+//!
+//! A drain of 0 was once typed for a line without a limit, and says the opposite: what
+//! is sent stays in the bucket. Jobs with it, in either bucket, are refused with 17,
+//! directly after 3 and before the next record is looked at: by [`open`], [`calls()`],
+//! [`plan`] and [`write()`], and by [`called`], [`best_plan`] and [`written`]. Such jobs
+//! that are stored are opened by [`archive`], which takes all other jobs too;
+//! [`replay`], [`report`], [`turn`], [`replayed`] and [`turned`] take what it takes.
 //!
 //! The work is done by the library `libupload.a`, whose code is proved to meet
 //! its contract. It takes no memory and reads and writes only what is lent to
@@ -127,10 +134,13 @@ pub enum Refusal {
     InputTooLong,
     /// 16: a list's length is not what the header calls for.
     Lengths,
+    /// 17: the drain of a bucket is 0, so that the line never drains. [`archive`],
+    /// [`replay`], [`report`] and [`turn`] take such a job.
+    NeverDrains,
 }
 
 impl Refusal {
-    const ALL: [Refusal; 16] = [
+    const ALL: [Refusal; 17] = [
         Refusal::Cut,
         Refusal::WrongRecord,
         Refusal::Header,
@@ -147,6 +157,7 @@ impl Refusal {
         Refusal::NotAPlan,
         Refusal::InputTooLong,
         Refusal::Lengths,
+        Refusal::NeverDrains,
     ];
 
     /// The refusal's number, from 1.
@@ -185,6 +196,7 @@ impl fmt::Display for Refusal {
             Refusal::NotAPlan => "the entries are not a plan of this job",
             Refusal::InputTooLong => "the input is longer than 32,768 bytes",
             Refusal::Lengths => "a list's length is not what the header calls for",
+            Refusal::NeverDrains => "the drain of a bucket is 0, so that the line never drains",
         })
     }
 }
@@ -298,7 +310,7 @@ impl Aim {
 pub struct Bucket {
     /// Its size; of a second bucket at most 63.
     pub size: u16,
-    /// What leaves it in an interval, at most 4,095.
+    /// What leaves it in an interval, from 1 to 4,095.
     pub drain: u16,
     /// Its starting level, at most its size.
     pub level: u16,
@@ -315,7 +327,7 @@ pub struct Header {
     pub decoder: u16,
     /// The bucket's size, at most 255. Where there are two, this is the first.
     pub bucket: u16,
-    /// What leaves the bucket in an interval, at most 4,095.
+    /// What leaves the bucket in an interval, from 1 to 4,095.
     pub drain: u16,
     /// The decoder's starting level, at most its size.
     pub level: u16,
@@ -363,8 +375,8 @@ impl Header {
 /// The bytes of the largest job.
 const LARGEST_JOB: usize = 3_074_112;
 
-/// How many buckets the line of a job has, if the job opens: the kind of its
-/// header says so.
+/// How many buckets the line of a job has, if [`open`] or [`archive`] takes it: the
+/// kind of its header says so.
 fn buckets_of(job: &[u8]) -> usize {
     match job {
         [_, _, 8, 0, ..] => 2,
@@ -388,6 +400,12 @@ pub struct Opened {
 }
 
 impl Opened {
+    /// From what opening or the archive wrote for a job.
+    fn of(values: [u64; numbers::OPEN_VALUES], job: &[u8]) -> Opened {
+        let [bytes, units, intervals, table_words] = values.map(|value| value as usize);
+        Opened { bytes, units, intervals, table_words, buckets: buckets_of(job) }
+    }
+
     /// How many bytes a plan has.
     pub fn plan_bytes(self) -> usize {
         Entry::BYTES * self.intervals
@@ -585,12 +603,68 @@ fn checked(number: u32) -> Result<(), Refusal> {
 ///
 /// # Errors
 ///
-/// Numbers 1 to 5.
+/// Numbers 1 to 5; 17 directly after 3.
 pub fn open(job: &[u8]) -> Result<Opened, Refusal> {
     let mut values = [0; numbers::OPEN_VALUES];
     checked(numbers::open(job, &mut values))?;
-    let [bytes, units, intervals, table_words] = values.map(|value| value as usize);
-    Ok(Opened { bytes, units, intervals, table_words, buckets: buckets_of(job) })
+    Ok(Opened::of(values, job))
+}
+
+/// Opens a stored job, on a line that may never drain: checks all else as [`open`] does
+/// and says the same of it. Any job that [`open`] takes it takes too. The words of the
+/// table are those that planning would need; [`plan`] refuses such a job.
+///
+/// # Errors
+///
+/// Numbers 1 to 5.
+///
+/// # Examples
+///
+/// A plan was stored with a job whose drain is 0.
+///
+/// ```
+/// use upload_planner::{archive, best_plan, open, replayed, turned, written};
+/// use upload_planner::{Aim, Call, Header, Refusal, Replayed};
+///
+/// let header = Header {
+///     units: 2,
+///     delay: 1,
+///     decoder: 4,
+///     bucket: 6,
+///     drain: 2,
+///     level: 0,
+///     fill: 0,
+///     rates: 3,
+///     choices: 2,
+///     second: None,
+/// };
+/// let mut job = written(&header, &[0, 2, 4], &[4, 2, 5, 2], &[10, 30, 12, 40])?;
+/// assert_eq!(archive(&job), open(&job));
+/// let opened = archive(&job);
+///
+/// // Such a job is not written any more; its drain stands in bytes 12 and 13.
+/// job[12] = 0;
+/// assert_eq!(open(&job), Err(Refusal::NeverDrains));
+/// assert_eq!(best_plan(&job, &[], Aim::Total), Err(Refusal::NeverDrains));
+/// assert_eq!(archive(&job), opened);
+///
+/// // Its plans are turned and replayed. What is sent stays in the bucket.
+/// let entries = turned(&job, &[0, 255, 2, 0, 1, 1])?;
+/// let (levels, found) = replayed(&job, &[], &entries)?;
+/// let buckets: Vec<_> = levels.iter().map(|level| level.bucket).collect();
+/// assert_eq!(buckets, [0, 4, 6]);
+/// let Replayed::Clean(totals) = found else { panic!("the bucket holds all that is sent") };
+/// assert_eq!((totals.distortion, totals.unused_grains), (50, 0));
+///
+/// // A pin is refused, so that none stands that the plan does not hold.
+/// let pin = Call::Pin { unit: 1, choice: 1 };
+/// assert_eq!(replayed(&job, &[pin], &entries)?, (levels, found));
+/// # Ok::<(), Refusal>(())
+/// ```
+pub fn archive(job: &[u8]) -> Result<Opened, Refusal> {
+    let mut values = [0; numbers::OPEN_VALUES];
+    checked(numbers::archive(job, &mut values))?;
+    Ok(Opened::of(values, job))
 }
 
 /// Makes the calls in turn, refused ones included. `answers`: one byte for each
@@ -598,7 +672,7 @@ pub fn open(job: &[u8]) -> Result<Opened, Refusal> {
 ///
 /// # Errors
 ///
-/// In this order: 1 to 5 for the job; 12 where `answers` is too short. A call
+/// In this order: 1 to 5 and 17 for the job; 12 where `answers` is too short. A call
 /// that is refused is no error here.
 pub fn calls(job: &[u8], calls: &[Call], answers: &mut [u8]) -> Result<PinTotals, Refusal> {
     let mut values = [0; numbers::CALLS_VALUES];
@@ -631,8 +705,8 @@ pub fn calls(job: &[u8], calls: &[Call], answers: &mut [u8]) -> Result<PinTotals
 ///
 /// # Errors
 ///
-/// In this order: 1 to 5 for the job; 11; 12 where `answers` or `entries` is too
-/// short; 13, which leaves `table` written and `answers` as they were; [`calls()`]
+/// In this order: 1 to 5 and 17 for the job; 11; 12 where `answers` or `entries` is
+/// too short; 13, which leaves `table` written and `answers` as they were; [`calls()`]
 /// says what the calls met with.
 pub fn plan(
     job: &[u8],
@@ -649,7 +723,8 @@ pub fn plan(
 }
 
 /// Makes the calls as [`calls()`] does, then follows a plan interval by interval
-/// up to its first violation.
+/// up to its first violation. On a line that never drains each call is refused with 17,
+/// and no pin stands.
 ///
 /// `levels` needs room for [`Opened::level_numbers`], 2 × T numbers or with two
 /// buckets 3 × T: after each interval, when its unit has left, the decoder's level
@@ -726,7 +801,7 @@ pub struct Called {
 ///
 /// # Errors
 ///
-/// Numbers 1 to 5 for the job.
+/// Numbers 1 to 5 and 17 for the job.
 ///
 /// # Examples
 ///
@@ -788,7 +863,7 @@ pub struct BestPlan {
 ///
 /// # Errors
 ///
-/// Numbers 1 to 5 for the job; 13.
+/// Numbers 1 to 5 and 17 for the job; 13.
 pub fn best_plan(job: &[u8], calls: &[Call], aim: Aim) -> Result<BestPlan, Refusal> {
     let opened = open(job)?;
     let mut answers = vec![0; calls.len()];
@@ -861,7 +936,7 @@ pub fn replayed(
     calls: &[Call],
     entries: &[u8],
 ) -> Result<(Vec<Levels>, Replayed), Refusal> {
-    let opened = open(job)?;
+    let opened = archive(job)?;
     let mut levels = vec![0; opened.level_numbers()];
     let found = replay(job, calls, entries, &mut levels)?;
     let held = match found {
@@ -909,7 +984,7 @@ pub fn replayed(
 /// # Ok::<(), Refusal>(())
 /// ```
 pub fn turned(job: &[u8], old: &[u8]) -> Result<Vec<u8>, Refusal> {
-    let mut entries = vec![0; open(job)?.plan_bytes()];
+    let mut entries = vec![0; archive(job)?.plan_bytes()];
     turn(job, old, &mut entries)?;
     Ok(entries)
 }
@@ -930,8 +1005,8 @@ pub fn turned(job: &[u8], old: &[u8]) -> Result<Vec<u8>, Refusal> {
 ///
 /// # Errors
 ///
-/// In this order: 3 for the header; 16 where `rates`, `sizes` or `distortions`
-/// has another length; 4; 5; 12 where `job` is too short.
+/// In this order: 3, then 17 for the header; 16 where `rates`, `sizes` or
+/// `distortions` has another length; 4; 5; 12 where `job` is too short.
 pub fn write(
     header: &Header,
     rates: &[u16],
@@ -949,8 +1024,8 @@ pub fn write(
 ///
 /// # Errors
 ///
-/// In this order: 3 for the header; 16 where `rates`, `sizes` or `distortions`
-/// has another length; 4; 5.
+/// In this order: 3, then 17 for the header; 16 where `rates`, `sizes` or
+/// `distortions` has another length; 4; 5.
 ///
 /// # Examples
 ///

@@ -4,8 +4,8 @@
 //!
 //! Calls are numbers, three a call: [`PIN`] or [`LIFT`], the unit, the choice,
 //! which a lift does not look at. A call of another kind is refused with 2, then
-//! a last call that is cut with 1, both right after the job's numbers, 1 to 5,
-//! which come first. An aim that is neither [`TOTAL`] nor [`EVEN`] is refused with 2
+//! a last call that is cut with 1, both right after the job's numbers, which come
+//! first: 1 to 5, and of [`open`], [`calls`] and [`plan`] also 17. An aim that is neither [`TOTAL`] nor [`EVEN`] is refused with 2
 //! too, right after the job's numbers and before the calls'. A `values` list is one of
 //! those to be filled: where it is too short, its 12 comes right after theirs.
 
@@ -19,8 +19,8 @@ pub const TOTAL: u32 = 0;
 /// The aim of a plan whose greatest unit distortion is least, and then its total.
 pub const EVEN: u32 = 1;
 
-/// How many values [`open`] writes: the bytes that the job took, N, T, and the
-/// words of the table.
+/// How many values [`open`] and [`archive`] write: the bytes that the job took, N, T,
+/// and the words of the table.
 pub const OPEN_VALUES: usize = 4;
 /// How many values [`calls`] writes: how many pins stand at the end, the sum of
 /// their grains, the sum of their distortions.
@@ -61,6 +61,8 @@ pub const FIELDS_MOST: usize = 12;
 #[link(name = "upload", kind = "static")]
 extern "C" {
     fn upload_open(job: *const u8, job_len: usize, values: *mut u64, values_len: usize) -> u32;
+
+    fn upload_archive(job: *const u8, job_len: usize, values: *mut u64, values_len: usize) -> u32;
 
     fn upload_calls(
         job: *const u8,
@@ -136,13 +138,18 @@ extern "C" {
     ) -> u32;
 }
 
-// In all seven: a slice's pointer is aligned, never null, and good for the
+// In all eight: a slice's pointer is aligned, never null, and good for the
 // slice's length; slices that are written overlap no other. That is all the
 // library asks, and it reads and writes nothing else.
 
 /// Opens a job.
 pub fn open(job: &[u8], values: &mut [u64]) -> u32 {
     unsafe { upload_open(job.as_ptr(), job.len(), values.as_mut_ptr(), values.len()) }
+}
+
+/// Opens a stored job, on a line that may never drain.
+pub fn archive(job: &[u8], values: &mut [u64]) -> u32 {
+    unsafe { upload_archive(job.as_ptr(), job.len(), values.as_mut_ptr(), values.len()) }
 }
 
 /// Makes the calls.
@@ -190,7 +197,8 @@ pub fn plan(
     }
 }
 
-/// Makes the calls, then follows a plan up to its first violation.
+/// Makes the calls, then follows a plan up to its first violation. On a line that never
+/// drains each call is refused with 17, and no pin stands.
 pub fn replay(
     job: &[u8],
     calls: &[u16],
