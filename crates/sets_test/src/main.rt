@@ -1,5 +1,5 @@
-// Tries sets that do not match their job: refusal 6 of every call that takes a set, which no call for other languages can reach.
-// Standard input has Job A of document 01, 64 bytes, Job A with a second bucket, 70 bytes, then rows of one set each. A line says, for each of the two jobs, what the check, a pin of unit 2 at 0, a lift of unit 1, a replay and planning answer: 0, or the number of the refusal.
+// Tries sets that do not match their job: refusal 6 of every call that takes a set, and 17 of those that go by the door of opening, neither of which a call for other languages can reach with a set.
+// Standard input has Job A of document 01, 64 bytes, Job A with a second bucket, 70 bytes, Job A with drain 0, 64 bytes, then rows of one set each. A line says, for each of the three jobs, what the check, a pin of unit 2 at 0, a lift of unit 1, a replay and planning answer: 0, or the number of the refusal.
 ghost use Prim.Native.Nat.{_≤_};
 ghost use lib.ListN.{length};
 use best::Order;
@@ -15,10 +15,12 @@ use planner::Aim;
 use planner::Planned;
 use replay::Replayed;
 
-// The bytes of Job A, of both jobs, and of a row: the nine fields of the set's header, whether it has a second bucket and that bucket's three, a unit and its pin, which unit 0 leaves out, and the three totals.
+// Where Job A ends, the second job and the third, and the bytes of a row: the nine fields of the set's header, whether it has a second bucket and that bucket's three, a unit and its pin, which unit 0 leaves out, and the three totals.
 const JOB: usize = 64;
 
-const BOTH: usize = 134;
+const SECOND: usize = 134;
+
+const THIRD: usize = 198;
 
 const ROW: usize = 36;
 
@@ -126,18 +128,19 @@ fn try_set(job: &[u8], set: PinSet) {
 fn try_rows(input: &[u8])
     requires { ⌜ length (now input) ≤ 4096 ⌝ }
 {
-    if input.len() < BOTH {
+    if input.len() < THIRD {
         return;
     }
-    let rows = (input.len() - BOTH) / ROW;
+    let rows = (input.len() - THIRD) / ROW;
     let start = 0;
     for row in 0..rows {
-        let at = BOTH + ROW * row;
+        let at = THIRD + ROW * row;
         io::write_all(STDOUT_FILENO, b"set ");
         io::print_decimal(STDOUT_FILENO, row as u64 + 1);
         let set = set_at(input, at);
         try_set(&input[start..JOB], set);
-        try_set(&input[JOB..BOTH], set);
+        try_set(&input[JOB..SECOND], set);
+        try_set(&input[SECOND..THIRD], set);
         io::write_all(STDOUT_FILENO, b"\n");
     }
 }

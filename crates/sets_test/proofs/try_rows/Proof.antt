@@ -5,10 +5,10 @@ use Rattle.sets_test.proofs.try_rows.Statement.{statement}
 use Rattle.sets_test.proofs.try_rows.Tie as tie
 
 abbrev Inv-loop : tie.InvT-loop
-Inv-loop input rows start row₀ t6 t7 row = row ≤ rows
+Inv-loop input rows start row₀ t6 t7 t8 row = row ≤ rows
 
 abbrev μ-loop : tie.MeasureT-loop
-μ-loop input rows start row₀ t6 t7 row = rows - row
+μ-loop input rows start row₀ t6 t7 t8 row = rows - row
 
 returns : tie.Need-returns Inv-loop μ-loop
 returns c = search needs
@@ -64,6 +64,18 @@ part-try-set-end-2 c = search needs
 try-set-requires-2 : tie.Need-try-set-requires-2 Inv-loop μ-loop
 try-set-requires-2 c κs = search needs
 
+sub-try-set-3 : tie.Need-sub-try-set-3 Inv-loop μ-loop
+sub-try-set-3 c = search needs
+
+part-try-set-start-3 : tie.Need-part-try-set-start-3 Inv-loop μ-loop
+part-try-set-start-3 c = search needs
+
+part-try-set-end-3 : tie.Need-part-try-set-end-3 Inv-loop μ-loop
+part-try-set-end-3 c = search needs
+
+try-set-requires-3 : tie.Need-try-set-requires-3 Inv-loop μ-loop
+try-set-requires-3 c κs = search needs
+
 slice-aggregate-write-all-2 : tie.Need-slice-aggregate-write-all-2 Inv-loop μ-loop
 slice-aggregate-write-all-2 c = search needs
 
@@ -106,6 +118,10 @@ try-rows-spec =
     part-try-set-start-2
     part-try-set-end-2
     try-set-requires-2
+    sub-try-set-3
+    part-try-set-start-3
+    part-try-set-end-3
+    try-set-requires-3
     slice-aggregate-write-all-2
     write-all-requires-2
     add-row
