@@ -163,7 +163,7 @@ CallNumbers = (l : List ℕ) → NumbersClaim l
 abbrev pub Named : Type 0
 Named = NamedClaim
 
--- the calls alone: the job, 1 to 5, then the calls, 2 or 1, then room for their numbers; the answer has the totals of the book's lines
+-- the calls alone: the job, 1 to 5 and 17, then the calls, 2 or 1, then room for their numbers; the answer has the totals of the book's lines
 abbrev pub CallSessions : Type 0
 CallSessions = (b calls answers : List ℕ) → Looks (calls-call b calls answers) (lent.refuse answers) (parse opening b) (λ j. condition 2 (AllKinds calls) ∷ condition 1 (Whole calls) ∷ condition 12 (length calls / 3 ≤ length answers) ∷ []) (λ j. calls-call b calls answers ≡ record { answer = gives (pin-totals j (book-pins j calls)); list = over (book-numbers j calls) answers })
 

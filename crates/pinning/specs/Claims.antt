@@ -44,7 +44,7 @@ History = (b : List ℕ) (j : Job) (n : ℕ) → parse opening b ≡ took j n �
 abbrev pub Checks : Type 0
 Checks = (j : Job) (s : PinSet) → length (j .units) ≤ 512 → (fits (codingAt j) (header-in j) s ≡ true) ↔ Matches j s
 
--- demand 1, of a pin or a lift: the job, 1 to 5, then what it asks; where nothing refuses it, it is taken
+-- demand 1, of a pin or a lift: the job, 1 to 5 and 17, then what it asks; where nothing refuses it, it is taken
 abbrev pub Refusals : Type 0
 Refusals = (b : List ℕ) (s : PinSet) (k : Call) → Looks (call b s k) (refuse s) (parse opening b) (λ j. Asks j s k) (λ j. call b s k ≡ take-in (called j s k))
 

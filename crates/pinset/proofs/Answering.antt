@@ -51,13 +51,14 @@ module _ (d : Door) (b : List ℕ) where
         go : (t : Bool) → fits (codingAt i) (header-in i) s ≡ t → (if t then took i m else refused 6) ≡ took j k → Ready b (header-in j) s × (job-in b ≡ j)
         go false f w = let z : _≡_ {A = ℕ} 0 1 = cc in absurd (omega arith)
         go true f w =
-            let same : i ≡ j = cc in
-            (record {
-              opens = opens-by d b (header-in j) i m e (ap header-in same);
-              matches = rw (held-job d b i m e) (checks i s (limits d b i m e .units .1) .0 f);
-              size = size;
-            },
-            held-job d b i m e ∙ same)
+            let same : i ≡ j = cc in (
+              record {
+                opens = opens-by d b (header-in j) i m e (ap header-in same);
+                matches = rw (held-job d b i m e) (checks i s (limits d b i m e .units .1) .0 f);
+                size = size;
+              },
+              held-job d b i m e ∙ same,
+            )
 
     pub ready : (h : Header) (k : ℕ) → Held (checked d b s) h k → length (s .pins) ≡ 512 → Ready b h s
     unfolding checked

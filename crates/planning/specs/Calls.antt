@@ -53,6 +53,6 @@ plan-tests j s table entries = test 11 (leb (words j) table) ∷ test 12 (leb (e
 unfoldable pub plan-in : Job → PinMap → Aim → Order → ℕ → Levels → List ℕ → List ℕ → Planned
 plan-in j m a o s start table entries = guarded (refuse table entries) (plan-tests j s (length table) (length entries)) (search-in j m a o s start table entries)
 
--- the job, 1 to 5, the set, 6, then the two lists: the whole job, from its starting levels
+-- the job, 1 to 5 and 17, the set, 6, then the two lists: the whole job, from its starting levels
 unfoldable pub plan-call : List ℕ → PinSet → Aim → Order → List ℕ → List ℕ → Planned
 plan-call b s a o table entries = on-read (refuse table entries) (checked opening b s) (λ j. plan-in j (lines (length (j .units)) (s .pins)) a o 0 (j .start) table entries)

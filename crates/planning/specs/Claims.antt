@@ -69,7 +69,7 @@ pub record Keeping (table entries : List ℕ) (r : Planned) : Type 0 where
 abbrev pub DemandThree : Type 0
 DemandThree = (b : List ℕ) (j : Job) (n : ℕ) → parse opening b ≡ took j n → (calls : List Call) → Demand b j n calls
 
--- demands 1 and 3, of planning with any set: the job, 1 to 5, then the set, the table and the list for the entries; where nothing of these refuses it, 13 or a best plan
+-- demands 1 and 3, of planning with any set: the job, 1 to 5 and 17, then the set, the table and the list for the entries; where nothing of these refuses it, 13 or a best plan
 abbrev pub PlanCalls : Type 0
 PlanCalls = (b : List ℕ) (s : PinSet) (a : Aim) (o : Order) (table entries : List ℕ) → Looks (plan-call b s a o table entries) (refuse table entries) (parse opening b) (λ j. condition 6 (Matches j s) ∷ condition 11 (words j ≤ length table) ∷ condition 12 (3 * intervals j ≤ length entries) ∷ []) (λ j. PlanClaim j (lines (length (j .units)) (s .pins)) a o 0 (j .start) table entries (plan-call b s a o table entries))
 

@@ -3,7 +3,6 @@
 ghost use mathlib.Core.Path.{_≡_};
 ghost use Rattle.format.specs.JobBytes.{opening, archive};
 ghost use Rattle.exporting.specs.Exports.{opened, open-export, called, calls-export, planned, plan-export, replayed, replay-export, filled, report-export, turn-export, written, write-export};
-
 use header::Door;
 
 // The order of plans that are as good: document 01's, the smaller rate index first.
