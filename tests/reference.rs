@@ -1669,12 +1669,15 @@ pub fn sized(buckets: usize, field: usize, value: u16) -> Vec<u8> {
     patched(&input, 4 + 2 * field, &value.to_le_bytes())
 }
 
-/// The ends of a field's range. Choices were 31 at most, and are counted in two bytes.
+/// The ends of a field's range. Choices were 31 at most, and are counted in two bytes. A
+/// drain may have a byte of 0 and not be 0.
 pub fn values_in(field: usize, low: u16, high: u16) -> Vec<u16> {
     let mut values = vec![low, low + 1, high - 1, high];
-    if field == CHOICES {
-        values.extend([31, 32, 255, 256, 257]);
-    }
+    values.extend(match field {
+        CHOICES => vec![31, 32, 255, 256, 257],
+        DRAIN | SECOND_DRAIN => vec![255, 256, 257, 0x0f00],
+        _ => vec![],
+    });
     values
 }
 
@@ -1757,11 +1760,13 @@ pub fn faulty_tails(a: &Draft) -> Vec<(Vec<u8>, Refusal)> {
             tails.push((then(before.clone(), &right[..cut]), 1));
         }
         let (length, kind) = (u16_at(right, 0), u16_at(right, 2));
-        let mut wrong: Vec<(Vec<u8>, Refusal)> =
-            [(length, kind + 1), (length, 1), (length, kind + 256), (length + 2, kind), (0, kind)]
-                .iter()
-                .map(|&(length, kind)| (patched(right, 0, &words(&[length, kind])), 2))
-                .collect();
+        // A kind of 0 stands where a header of kind 8 has its second drain.
+        let others = [(length, 0), (length, 1), (length, kind + 1), (length, kind + 256)];
+        let mut wrong: Vec<(Vec<u8>, Refusal)> = others
+            .iter()
+            .chain(&[(0, kind), (length + 2, kind)])
+            .map(|&(length, kind)| (patched(right, 0, &words(&[length, kind])), 2))
+            .collect();
         // The last number of a record and the first: two rates that do not rise, a
         // rate, a size or a distortion over its limit.
         let last = right.len() - 2;
