@@ -1,9 +1,9 @@
 #!/usr/bin/env python3
 """Writes the rows of crates/sets_test and what document 01 says of each: `tests/sets.py` in the repository's root.
 
-A row is one set, offered to Job A and to Job A with a second bucket. The set matches a job where its header is the job's, every pin is none or a choice
-of a unit that the job has, and its three totals are those of its pins; any other set is refused with 6. Of a set
-that matches, the answers are worked out from the table "Where each refusal is checked" and from the plan that is
+A row is one set, offered to Job A, to Job A with a second bucket and to Job A with drain 0. The set matches a job where its header is the job's, every pin is none or a choice
+of a unit that the job has, and its three totals are those of its pins; any other set is refused with 6. With drain 0
+every call but the replay refuses the job before it looks at the set, with 17 (document 02, E8). Of a set that matches, the answers are worked out from the table "Where each refusal is checked" and from the plan that is
 replayed: entries 0 and the mark, 2 0, 1 1 of Job A, in which unit 1 has choice 0 and unit 2 choice 1.
 """
 import struct
@@ -12,6 +12,7 @@ NINE = [2, 1, 4, 3, 2, 0, 0, 3, 2]
 # no second bucket, and one of size 1 that drains 2
 HEADER = NINE + [0, 0, 0, 0]
 TWO = NINE + [1, 1, 2, 0]
+IDLE = NINE[:4] + [0] + HEADER[5:]
 RATES = [0, 2, 4]
 UNITS = [[(4, 10), (2, 30)], [(5, 12), (2, 40)]]
 NO_PIN = 65535
@@ -22,7 +23,7 @@ def u16(*numbers):
 
 
 def job(header):
-    head = u16(26, 8, *NINE, *header[10:]) if header[9] else u16(20, 1, *NINE)
+    head = u16(26, 8, *header[:9], *header[10:]) if header[9] else u16(20, 1, *header[:9])
     out = head + u16(2 + 2 * len(RATES), 2, *RATES)
     for unit in UNITS:
         out += u16(2 + 6 * len(unit), 3)
@@ -48,6 +49,8 @@ def matches(job, header, unit, pin, sums):
 
 def answers(job, header, unit, pin, sums):
     """The check, a pin of unit 2 at 0, a lift of unit 1, the replay, planning."""
+    if job[4] == 0:
+        return (17, 17, 17, 0 if matches(job, header, unit, pin, sums) else 6, 17)
     if not matches(job, header, unit, pin, sums):
         return (6, 6, 6, 6, 6)
     pinned = unit if pin != NO_PIN else 0
@@ -118,11 +121,16 @@ def rows():
     yield HEADER, 1, 0, totals(2, 0)
     yield HEADER, 0, NO_PIN, totals(1, 0)
     yield HEADER, 1, 0, (0, 0, 0)
+    # sets of a job with drain 0: without a pin, with one, with a total that is not its own, and with another drain
+    yield IDLE, 0, NO_PIN, (0, 0, 0)
+    yield (IDLE,) + good
+    yield IDLE, 1, 0, (1, 4, 11)
+    yield NINE[:4] + [1] + HEADER[5:], 0, NO_PIN, (0, 0, 0)
 
 
 with open("crates/sets_test/stdin", "wb") as data, open("crates/sets_test/stdout", "w") as lines:
-    data.write(job(HEADER) + job(TWO))
+    data.write(job(HEADER) + job(TWO) + job(IDLE))
     for number, (header, unit, pin, sums) in enumerate(rows(), 1):
         data.write(u16(*header, unit, pin, *sums))
-        told = answers(HEADER, header, unit, pin, sums) + answers(TWO, header, unit, pin, sums)
+        told = [n for own in (HEADER, TWO, IDLE) for n in answers(own, header, unit, pin, sums)]
         lines.write("set %d %s\n" % (number, " ".join(map(str, told))))

@@ -5,10 +5,10 @@ use Rattle.sets_test.proofs.try_rows.Statement.{statement}
 use Rattle.sets_test.proofs.try_rows.Tie as tie
 
 abbrev Inv-loop : tie.InvT-loop
-Inv-loop input rows start row₀ t6 t7 t8 row = row ≤ rows
+Inv-loop input rows start row₀ t6 t7 row = row ≤ rows
 
 abbrev μ-loop : tie.MeasureT-loop
-μ-loop input rows start row₀ t6 t7 t8 row = rows - row
+μ-loop input rows start row₀ t6 t7 row = rows - row
 
 returns : tie.Need-returns Inv-loop μ-loop
 returns c = search needs
