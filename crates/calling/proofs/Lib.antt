@@ -3,4 +3,5 @@ pub mod Records
 pub mod Numbers
 pub mod Commands
 pub mod Sessions
+pub mod Never
 pub mod Cases

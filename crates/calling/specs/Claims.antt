@@ -188,5 +188,15 @@ ReplaySessionKeeps = (b calls entries levels : List ℕ) → lent.Keeping levels
 abbrev pub Inputs : Type 0
 Inputs = (b : List ℕ) (j : Job) (k : ℕ) (table entries : List ℕ) → parse opening b ≡ P.took j k → length b ≤ 32768 → commands-call b .refused ≡ none → words j ≤ length table → 3 * intervals j ≤ length entries → InputClaim b j k table entries
 
+-- document 02, E8: a job that the archive takes and that has a bucket which never drains is refused by 17, by the commands, the program, the calls alone and planning after calls, whatever stands behind it
+pub record NeverClaim (b : List ℕ) : Type 0 where
+  pub commands : commands-call b .refused ≡ some 17
+  pub program : (table entries : List ℕ) → length b ≤ 32768 → input-call b table entries ≡ plan.refuse table entries 17
+  pub calls-alone : (calls answers : List ℕ) → calls-call b calls answers ≡ lent.refuse answers 17
+  pub session : (calls : List ℕ) (aim order : ℕ) (answers table entries : List ℕ) → session-call b calls aim order answers table entries ≡ refuse answers table entries 17
+
+abbrev pub Never : Type 0
+Never = (b : List ℕ) (j : Job) (n : ℕ) → parse archive b ≡ P.took j n → (Drains opening j → ⊥) → NeverClaim b
+
 abbrev pub InputRefusals : Type 0
 InputRefusals = (b table entries : List ℕ) → InputOrder b table entries × Keeping table entries (input-call b table entries)

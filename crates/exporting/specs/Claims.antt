@@ -37,7 +37,7 @@ Opening = (d : Door) (b values : List ℕ) → ((n : ℕ) → parse d b ≡ P.re
 abbrev pub Calling : Type 0
 Calling = (b calls answers values : List ℕ) → Looks (calls-export b calls answers values) (λ n. called n answers values) (parse opening b) (λ j. CallConditions calls ++ (condition 12 (length calls / 3 ≤ length answers) ∷ condition 12 (3 ≤ length values) ∷ [])) (λ j. calls-export b calls answers values ≡ called 0 (over (book-numbers j calls) answers) (over (pins-list (pin-totals j (book-pins j calls))) values))
 
--- planning after calls, from lists that are long enough: the numbers are those of a session of which demand 3 holds
+-- planning after calls, of a job that opening takes, from lists that are long enough: the numbers are those of a session of which demand 3 holds
 pub record Planning (j : Job) (calls : List ℕ) (aim order : ℕ) (answers table entries values : List ℕ) (r : x.Planned) : Type 0 where
   pub session : Session
   pub claim : SessionClaim j calls aim order answers table entries session

@@ -1,7 +1,8 @@
 -- The archive's set, and what calls on it come to: `Archive`.
 use Prim.Native.Nat.{ℕ}
 use mathlib.Core.Path.{_≡_, refl, sym, _∙_, ap}
-use mathlib.Core.List.{List, [], _∷_}
+use mathlib.Core.Option.{Option, some}
+use mathlib.Core.List.{List, [], _∷_, map}
 use Rattle.model.specs.Job.{Job}
 use Rattle.model.specs.Pins.{Call}
 use Rattle.format.specs.Parser.{refused, took, on-read}
@@ -22,6 +23,11 @@ module _ (b : List ℕ) (j : Job) (n : ℕ) (parsed : parse archive b ≡ took j
     unfolding call on-read
     no-call s k = rw (checked-refused opening b s 17 (two-doors b j n .else-17 parsed f))
 
+    all-refused : (s : PinSet) (calls : List Call) → run b s calls .answers ≡ map (λ k. some 17) calls
+    unfolding run after refuse
+    all-refused s [] = refl
+    all-refused s (k ∷ calls) = rw (no-call s k) (ap (λ (os : List (Option ℕ)). some 17 ∷ os) (all-refused s calls))
+
     none-made : (s : PinSet) (calls : List Call) → run b s calls .set ≡ s
     unfolding run after refuse
     none-made s [] = refl
@@ -33,6 +39,7 @@ module _ (b : List ℕ) (j : Job) (n : ℕ) (parsed : parse archive b ≡ took j
     answers = rw parsed;
     matches = rw parsed (fresh-matches j (limited j (well-read archive b j n parsed .well-formed)));
     no-calls = no-call;
+    answered = all-refused;
     unchanged = none-made;
     as-opening = λ d. ap opened (parsed ∙ sym (two-doors b j n .opening-iff .1 (parsed, d)));
   }

@@ -4,7 +4,7 @@ use mathlib.Core.Path.{_≡_}
 use mathlib.Core.Logic.{_↔_}
 use mathlib.Core.Bool.{true}
 use mathlib.Core.Option.{some}
-use mathlib.Core.List.{List, [], _∷_}
+use mathlib.Core.List.{List, [], _∷_, map}
 use lib.ListN.{length, getD}
 use Rattle.base.specs.Refusals.{Condition, condition}
 use Rattle.model.specs.Job.{Job, codingAt}
@@ -36,7 +36,7 @@ Asks j s (lift u) = condition 6 (Matches j s) ∷ condition 7 ((1 ≤ u) × (u �
 
 -- The claims.
 
--- the part of demand 3 that speaks of pins and lifts: one claim about every list of calls
+-- the part of demand 3 that speaks of pins and lifts, of jobs that opening takes: one claim about every list of calls
 abbrev pub History : Type 0
 History = (b : List ℕ) (j : Job) (n : ℕ) → parse opening b ≡ took j n → (calls : List Call) → HistoryClaim b j n calls (run b (open-call opening b .set) calls)
 
@@ -53,6 +53,7 @@ pub record ArchiveClaim (b : List ℕ) (j : Job) (n : ℕ) : Type 0 where
   pub answers : open-call archive b ≡ record { answer = gives n; set = fresh (header-in j) }
   pub matches : Matches j (open-call archive b .set)
   pub no-calls : (Drains opening j → ⊥) → (s : PinSet) (k : Call) → call b s k ≡ refuse s 17
+  pub answered : (Drains opening j → ⊥) → (s : PinSet) (calls : List Call) → run b s calls .answers ≡ map (λ k. some 17) calls
   pub unchanged : (Drains opening j → ⊥) → (s : PinSet) (calls : List Call) → run b s calls .set ≡ s
   -- a job that opens: the archive answers what opening does
   pub as-opening : Drains opening j → open-call archive b ≡ open-call opening b

@@ -1,4 +1,4 @@
--- Planning is refused in document 01's order, and else gives 13 or a best plan: `PlanCalls`; what a refusal leaves: `Keeps`; and 13 is given alike by either aim: `NoPlanAlike`, `NoPlanAnyhow`.
+-- Planning is refused in document 01's order, and else gives 13 or a best plan: `PlanCalls`; a job that never drains is refused: `NeverPlanned`; what a refusal leaves: `Keeps`; and 13 is given alike by either aim: `NoPlanAlike`, `NoPlanAnyhow`.
 use Prim.Native.Nat.{ℕ, _-_, _*_, _≤_}
 use mathlib.Core.Path.{_≡_, refl, sym}
 use mathlib.Core.Logic.{_↔_}
@@ -21,14 +21,14 @@ use Rattle.model.specs.Table.{words}
 use Rattle.format.specs.Parser.{Result, refused, took, on-read}
 use Rattle.format.specs.JobBytes.{parse, opening}
 use Rattle.model.proofs.Evenness.{aims}
-use Rattle.format.proofs.Bounds.{limited}
+use Rattle.format.proofs.Bounds.{limited, two-doors}
 use Rattle.format.proofs.Places.{well-read}
 use Rattle.pinning.specs.PinSet.{PinSet, lines}
 use Rattle.pinning.specs.Check.{checked}
-use Rattle.pinning.proofs.Agree.{looks-checked}
+use Rattle.pinning.proofs.Agree.{looks-checked, checked-refused}
 use Rattle.replaying.specs.Entries.{entry-size}
 use Rattle.planning.specs.Calls.{Planned, refuse, searched, search-in, plan-tests, plan-in, plan-call}
-use Rattle.planning.specs.Claims.{PlanClaim, Keeping, PlanCalls, Keeps, NoPlanAlike, NoPlanAnyhow}
+use Rattle.planning.specs.Claims.{PlanClaim, Keeping, PlanCalls, NeverPlanned, Keeps, NoPlanAlike, NoPlanAnyhow}
 use Rattle.planning.proofs.DemandThree.{search-claim, plan-searches}
 
 pub plan-calls : PlanCalls
@@ -123,3 +123,7 @@ no-plan-anyhow b j n s read o o′ table table′ entries entries′ room room�
     let one = none-admissible j m total o table entries room (omega (arith, space)) in
     let other = none-admissible j m even o′ table′ entries′ room′ (omega (arith, space′)) in
     rw read (λ e. other .1 (one .0 e), λ e. one .1 (other .0 e))
+
+pub never-planned : NeverPlanned
+unfolding plan-call on-read
+never-planned b j n e idle s a o table entries = rw (checked-refused opening b s 17 (two-doors b j n .else-17 e idle))

@@ -16,7 +16,8 @@ use Rattle.model.specs.Best.{Order, unlimited, Aim, total, even}
 use Rattle.model.specs.Table.{bound, layerWords, words, IsTable}
 use Rattle.model.specs.Claims.{BestOf, kept-open}
 use Rattle.format.specs.Parser.{took, Looks}
-use Rattle.format.specs.JobBytes.{header-in, parse, opening}
+use Rattle.format.specs.JobBytes.{header-in, parse, opening, archive}
+use Rattle.format.specs.Claims.{Drains}
 use Rattle.pinning.specs.PinSet.{PinSet, lines}
 use Rattle.pinning.specs.Check.{Matches, checked}
 use Rattle.pinning.specs.Calls.{Handed, open-call, call, run}
@@ -65,13 +66,17 @@ pub record Keeping (table entries : List ℕ) (r : Planned) : Type 0 where
 
 -- The claims.
 
--- demand 3, whole: one claim about every list of calls with the planning after it
+-- demand 3, whole, of every job that opening takes: one claim about every list of calls with the planning after it
 abbrev pub DemandThree : Type 0
 DemandThree = (b : List ℕ) (j : Job) (n : ℕ) → parse opening b ≡ took j n → (calls : List Call) → Demand b j n calls
 
 -- demands 1 and 3, of planning with any set: the job, 1 to 5 and 17, then the set, the table and the list for the entries; where nothing of these refuses it, 13 or a best plan
 abbrev pub PlanCalls : Type 0
 PlanCalls = (b : List ℕ) (s : PinSet) (a : Aim) (o : Order) (table entries : List ℕ) → Looks (plan-call b s a o table entries) (refuse table entries) (parse opening b) (λ j. condition 6 (Matches j s) ∷ condition 11 (words j ≤ length table) ∷ condition 12 (3 * intervals j ≤ length entries) ∷ []) (λ j. PlanClaim j (lines (length (j .units)) (s .pins)) a o 0 (j .start) table entries (plan-call b s a o table entries))
+
+-- document 02, E8: a job that the archive takes and that has a bucket which never drains is refused by 17, whatever the set and the lists
+abbrev pub NeverPlanned : Type 0
+NeverPlanned = (b : List ℕ) (j : Job) (n : ℕ) → parse archive b ≡ took j n → (Drains opening j → ⊥) → (s : PinSet) (a : Aim) (o : Order) (table entries : List ℕ) → plan-call b s a o table entries ≡ refuse table entries 17
 
 abbrev pub Keeps : Type 0
 Keeps = (b : List ℕ) (s : PinSet) (a : Aim) (o : Order) (table entries : List ℕ) → Keeping table entries (plan-call b s a o table entries)

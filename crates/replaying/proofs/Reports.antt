@@ -1,6 +1,6 @@
 -- Replay and report are refused in document 01's order, and else are as claimed: `ReplayCalls` and `Reports`; and a refusal keeps the list: `Keeps`.
 use Prim.Native.Nat.{ℕ, suc, _+_, _*_, _≤_}
-use mathlib.Core.Path.{_≡_, refl, _∙_}
+use mathlib.Core.Path.{_≡_, refl, _∙_, ap}
 use mathlib.Core.Logic.{_↔_}
 use mathlib.Core.Bool.{true}
 use mathlib.Core.List.{List, [], _∷_}
@@ -15,17 +15,23 @@ use Rattle.base.proofs.Builds.{build-length, build-at}
 use Rattle.base.proofs.Refusals.{Decides, no-more, one-more, Guarded, was-refused, was-done, guarded-is}
 use Rattle.base.proofs.Lent.{over-length, over-here, over-rest, refuse-keeps, gives-keeps}
 use Rattle.model.specs.Job.{Job, intervals}
+use Rattle.model.specs.Pins.{no-pins}
 use Rattle.model.specs.Levels.{effectiveBuffer, effectiveBuffers}
 use Rattle.format.specs.Parser.{Result, refused, took, on-read}
 use Rattle.format.specs.JobBytes.{header-in, parse, archive}
 use Rattle.format.proofs.Parsing.{looks-read}
+use Rattle.format.proofs.Bounds.{limited}
+use Rattle.format.proofs.Places.{well-read}
 use Rattle.pinning.specs.PinSet.{lines}
 use Rattle.pinning.specs.Check.{checked}
+use Rattle.pinning.specs.Calls.{Opening, open-call}
 use Rattle.pinning.proofs.Agree.{looks-checked}
+use Rattle.pinning.proofs.History.{fresh-pins}
+use Rattle.pinning.proofs.Archive.{archived-sets}
 use Rattle.replaying.specs.Entries.{plan-of, shaped}
 use Rattle.replaying.specs.Calls.{level-count, played, replay-tests, replay-call, reported, report-tests, report-call}
 use Rattle.replaying.specs.Former.{turn-tests, turned, turn-call}
-use Rattle.replaying.specs.Claims.{InShape, Reported, DemandTwo, ReplayCalls, Reports, Keeps}
+use Rattle.replaying.specs.Claims.{InShape, Reported, DemandTwo, ReplayCalls, ArchiveReplays, Reports, Keeps}
 use Rattle.replaying.proofs.Entries.{plan-bytes}
 use Rattle.replaying.proofs.DemandTwo.{played-claim}
 
@@ -57,6 +63,12 @@ unfolding replay-call
 replay-calls b s entries levels =
     looks-checked (refuse levels) archive b s (λ j. replay-tests j entries (length levels)) (λ j. condition 14 (InShape j entries) ∷ condition 12 ((1 + length (j .line .buckets)) * intervals j ≤ length levels) ∷ []) (λ j. played j (lines (length (j .units)) (s .pins)) entries levels) (λ j r. DemandTwo j (lines (length (j .units)) (s .pins)) (plan-of j entries) levels r)
     (λ j k e m. (replay-decides b j k e entries levels, λ h. played-claim b j k e (lines (length (j .units)) (s .pins)) entries levels (h .0) (h .1 .0)))
+
+pub archive-replays : ArchiveReplays
+archive-replays b j n e entries levels shape room =
+    let a = archived-sets b j n e in
+    let pins : lines (length (j .units)) (open-call archive b .set .pins) ≡ no-pins (length (j .units)) = ap (λ (o : Opening). lines (length (j .units)) (o .set .pins)) (a .answers) ∙ fresh-pins j (limited j (well-read archive b j n e .well-formed)) in
+    rw pins at (replay-calls b (open-call archive b .set) entries levels .1 j n e .1 (a .matches) .1 shape .1 room)
 
 pub reports : Reports
 unfolding report-call report-tests

@@ -11,13 +11,14 @@ use Rattle.base.specs.Answer.{gives}
 use Rattle.base.specs.Refusals.{condition}
 use Rattle.model.specs.Job.{bucketAt, Job, Entry, intervals, PlanFits}
 use Rattle.model.specs.Levels.{entryOf, decoderLevel, bucketLevel, effectiveBuffer}
-use Rattle.model.specs.Pins.{PinMap}
+use Rattle.model.specs.Pins.{PinMap, no-pins}
 use Rattle.model.specs.Admissible.{Violation, Admissible, FirstViolation}
 use Rattle.model.specs.Replay.{Totals, totals, clean, replay}
 use Rattle.format.specs.Parser.{took, Looks}
 use Rattle.format.specs.JobBytes.{header-in, parse, archive}
 use Rattle.pinning.specs.PinSet.{PinSet, lines}
 use Rattle.pinning.specs.Check.{Matches}
+use Rattle.pinning.specs.Calls.{open-call}
 use Rattle.replaying.specs.Entries.{plan-of, shaped, entry-bytes}
 use Rattle.replaying.specs.Former.{turn-call}
 use Rattle.base.specs.Lent.{Ended, refuse, Keeping}
@@ -100,7 +101,7 @@ pub record Turned (j : Job) (old entries : List ℕ) (r : Ended (Unit {0})) : Ty
   pub rest : drop (3 * intervals j) (r .list) ≡ drop (3 * intervals j) entries
   pub size : length (r .list) ≡ length entries
 
--- The claims, of jobs that open.
+-- The claims, of jobs that the archive takes, and so of those that open.
 
 abbrev pub PlanBytes : Type 0
 PlanBytes = (b : List ℕ) (j : Job) (n : ℕ) → parse archive b ≡ took j n → Shapes j
@@ -108,9 +109,13 @@ PlanBytes = (b : List ℕ) (j : Job) (n : ℕ) → parse archive b ≡ took j n 
 abbrev pub LevelNumbers : Type 0
 LevelNumbers = (j : Job) → LevelsClaim j
 
--- demands 1 and 2, of replay: the job, 1 to 5, then the set, the plan, and room for T numbers of the decoder and T of each bucket; where nothing refuses it, it is as demand 2 says
+-- demands 1 and 2, of replay, of every job that the archive takes: the job, 1 to 5, then the set, the plan, and room for T numbers of the decoder and T of each bucket; where nothing refuses it, it is as demand 2 says
 abbrev pub ReplayCalls : Type 0
 ReplayCalls = (b : List ℕ) (s : PinSet) (entries levels : List ℕ) → Looks (replay-call b s entries levels) (refuse levels) (parse archive b) (λ j. condition 6 (Matches j s) ∷ condition 14 (InShape j entries) ∷ condition 12 ((1 + length (j .line .buckets)) * intervals j ≤ length levels) ∷ []) (λ j. DemandTwo j (lines (length (j .units)) (s .pins)) (plan-of j entries) levels (replay-call b s entries levels))
+
+-- document 02, E8: the archive's set serves replay, without a pin
+abbrev pub ArchiveReplays : Type 0
+ArchiveReplays = (b : List ℕ) (j : Job) (n : ℕ) → parse archive b ≡ took j n → (entries levels : List ℕ) → InShape j entries → (1 + length (j .line .buckets)) * intervals j ≤ length levels → DemandTwo j (no-pins (length (j .units))) (plan-of j entries) levels (replay-call b (open-call archive b .set) entries levels)
 
 -- demand 1, of the report, and what it writes
 abbrev pub Reports : Type 0
