@@ -1,12 +1,11 @@
 -- What is claimed of command records, of calls as numbers and of sessions of calls: each claim is a type, which a theorem of proofs/ inhabits.
-use Rattle.base.specs.If.{if_then_else_}
-use Rattle.format.specs.Limits.{each-kept}
 use Prim.Native.Nat.{ℕ, _+_, _*_, _/_, _%_, _<_, _≤_}
 use mathlib.Core.Path.{_≡_}
 use mathlib.Core.Logic.{_⊎_}
 use mathlib.Core.Option.{Option, none, some}
 use mathlib.Core.List.{List, [], _∷_, _++_, map}
 use lib.ListN.{length, getD, take, drop}
+use Rattle.base.specs.If.{if_then_else_}
 use Rattle.base.specs.Answer.{refused, gives}
 use Rattle.base.specs.Refusals.{condition, InOrder}
 use Rattle.base.specs.Lent.{Ended, over}
@@ -17,6 +16,7 @@ use Rattle.model.specs.Pins.{Call, PinTotals, no-pins, pins-after, pin-totals}
 use Rattle.model.specs.Best.{late, early, total, even}
 use Rattle.model.specs.Table.{words}
 use Rattle.format.specs.Fields.{Bytes}
+use Rattle.format.specs.Limits.{each-kept}
 use Rattle.format.specs.Parser as P
 use Rattle.format.specs.Parser.{Looks}
 use Rattle.format.specs.JobBytes.{parse, header-in, opening, archive, drain-limits}

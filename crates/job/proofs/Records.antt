@@ -10,6 +10,8 @@ use lib.Dec.{ltb}
 use lib.ListN.{length, take, drop, length-drop}
 use lib.Seq.{take-all}
 use Rattle.base.specs.If.{if_then_else_}
+use Rattle.base.specs.Refusals.{unless, first}
+use Rattle.base.proofs.Refusals.{first-none}
 use Rattle.format.specs.Fields.{number, total, fields}
 use Rattle.format.specs.Limits.{Limit, limit, broken}
 use Rattle.format.specs.Parser.{Result, refused, took, further, onward, _>>=_, unless-refused, refusal-of}
@@ -19,7 +21,7 @@ use Rattle.format.proofs.Parsing.{has-taken, block-is}
 use Rattle.header.specs.declared.Verdict.{Verdict}
 use Rattle.header.specs.declared.Verdict.the-variants.{Fits, Refused}
 use Rattle.header.specs.Answers.{verdict}
-use Rattle.job.specs.Answers.{first-of, shape}
+use Rattle.job.specs.Answers.{shape}
 use Rattle.header.proofs.Verdicts.{refuses}
 
 -- the rest of a slice, as the borrow checker has it
@@ -27,16 +29,10 @@ pub rest-of : (n : ℕ) (l : List ℕ) → take (length l - n) (drop n l) ≡ dr
 rest-of n l = take-all (length l - n) (drop n l) (rw length-drop (omega arith))
 
 -- the first refusal of three, whichever two are taken together
-first-assoc : (x y z : Option ℕ) → first-of (first-of x y) z ≡ first-of x (first-of y z)
-unfolding first-of
+first-assoc : (x y z : Option ℕ) → first (first x y) z ≡ first x (first y z)
+unfolding unless
 first-assoc none y z = refl
 first-assoc (some n) y z = refl
-
--- no first refusal of two is none of either
-first-none : (x y : Option ℕ) → first-of x y ≡ none → (x ≡ none) × (y ≡ none)
-unfolding first-of
-first-none none y e = (refl, e)
-first-none (some n) y e = not-some e
 
 -- a test that gives no refusal failed
 not-refused : (t : Bool) → _≡_ {A = Option ℕ} (if t then some 1 else none) none → t ≡ false
@@ -57,13 +53,13 @@ refusal-unless none a k = refl
 refusal-unless (some n) a k = refl
 
 -- the refusal of fields: 1 where they are not wholly there, then their limits
-block-first : (ws : List ℕ) (limits : List ℕ → List Limit) (b : List ℕ) → refusal-of (block ws limits b) ≡ first-of (if ltb (length b) (total ws) then some 1 else none) (broken (limits (fields ws b)))
+block-first : (ws : List ℕ) (limits : List ℕ → List Limit) (b : List ℕ) → refusal-of (block ws limits b) ≡ first (if ltb (length b) (total ws) then some 1 else none) (broken (limits (fields ws b)))
 unfolding block
 block-first ws limits b = go (ltb (length b) (total ws))
   where
-    go : (t : Bool) → refusal-of (if t then refused 1 else unless-refused (broken (limits (fields ws b))) (took (fields ws b) (total ws))) ≡ first-of (if t then some 1 else none) (broken (limits (fields ws b)))
-    go true = unfold if_then_else_ refusal-of first-of in refl
-    go false = unfold if_then_else_ first-of in (refusal-unless (broken (limits (fields ws b))) (fields ws b) (total ws))
+    go : (t : Bool) → refusal-of (if t then refused 1 else unless-refused (broken (limits (fields ws b))) (took (fields ws b) (total ws))) ≡ first (if t then some 1 else none) (broken (limits (fields ws b)))
+    go true = unfold if_then_else_ refusal-of unless in refl
+    go false = unfold if_then_else_ unless in (refusal-unless (broken (limits (fields ws b))) (fields ws b) (total ws))
 
 module _ (f : Form) (len kind : ℕ) where
   -- the length decides where the kind is the one due
@@ -84,23 +80,23 @@ module _ (f : Form) (len kind : ℕ) where
 module _ (f : Form) (b : List ℕ) where
   -- a record whose head is not wholly there
   pub shape-short : length b < 4 → verdict (Refused 1) ≡ shape f b
-  unfolding shape verdict first-of if_then_else_ total
+  unfolding shape verdict unless if_then_else_ total
   shape-short h = rw (block-first head-widths (head-limits f) b, lt-ltb (length b) 4 h)
 
   -- where the head is there, its limits and then the body's presence
-  shape-there : 4 ≤ length b → shape f b ≡ first-of (broken (head-limits f (number (take 2 b) ∷ number (take 2 (drop 2 b)) ∷ []))) (if ltb (length (drop 4 b)) (total (f .widths)) then some 1 else none)
-  unfolding shape first-of if_then_else_ total fields
+  shape-there : 4 ≤ length b → shape f b ≡ first (broken (head-limits f (number (take 2 b) ∷ number (take 2 (drop 2 b)) ∷ []))) (if ltb (length (drop 4 b)) (total (f .widths)) then some 1 else none)
+  unfolding shape unless if_then_else_ total fields
   shape-there h = rw (block-first head-widths (head-limits f) b, le-ltb (length b) 4 h)
 
   -- the length and the kind are there, and r is the verdict on them
   module _ (len kind : ℕ) (r : Verdict) (h : 4 ≤ length b) (l : len ≡ number (take 2 b)) (k : kind ≡ number (take 2 (drop 2 b))) (v : verdict r ≡ broken (head-limits f (len ∷ kind ∷ []))) where
     -- the same with the verdict on the head
-    shape-by : shape f b ≡ first-of (verdict r) (if ltb (length (drop 4 b)) (total (f .widths)) then some 1 else none)
+    shape-by : shape f b ≡ first (verdict r) (if ltb (length (drop 4 b)) (total (f .widths)) then some 1 else none)
     shape-by = shape-there h ∙ rw (← l, ← k, ← v)
 
     -- what the head is refused for comes first
     pub shape-refused : (n : ℕ) → r ≡ Refused n → verdict (Refused n) ≡ shape f b
-    unfolding verdict first-of
+    unfolding verdict unless
     shape-refused n e = rw (shape-by, e)
 
     -- a head that fits has the length that is due
@@ -110,22 +106,22 @@ module _ (f : Form) (b : List ℕ) where
 
     -- then a body that is not wholly there
     pub body-absent : r ≡ Fits → length b < len + 2 → verdict (Refused 1) ≡ shape f b
-    unfolding verdict first-of if_then_else_
+    unfolding verdict unless if_then_else_
     body-absent e a = rw (shape-by, e, lt-ltb (length (drop 4 b)) (total (f .widths)) (rw length-drop (omega (arith, due e))))
 
     -- and nothing where it is there
     pub body-there : r ≡ Fits → len + 2 ≤ length b → verdict Fits ≡ shape f b
-    unfolding verdict first-of if_then_else_
+    unfolding verdict unless if_then_else_
     body-there e a = rw (shape-by, e, le-ltb (length (drop 4 b)) (total (f .widths)) (rw length-drop (omega (arith, due e))))
 
   -- the refusal of a head and a body: the head's, then the body's
-  then-first : (r : Result (List ℕ)) → ((hd : List ℕ) (k : ℕ) → r ≡ took hd k → k ≡ 4) → refusal-of (onward r (λ h. block (f .widths) (f .limits)) b) ≡ first-of (refusal-of r) (refusal-of (block (f .widths) (f .limits) (drop 4 b)))
-  unfolding onward refusal-of first-of
+  then-first : (r : Result (List ℕ)) → ((hd : List ℕ) (k : ℕ) → r ≡ took hd k → k ≡ 4) → refusal-of (onward r (λ h. block (f .widths) (f .limits)) b) ≡ first (refusal-of r) (refusal-of (block (f .widths) (f .limits) (drop 4 b)))
+  unfolding onward refusal-of unless
   then-first (refused k) g = refl
   then-first (took hd k) g = refusal-further k (block (f .widths) (f .limits) (drop k b)) ∙ ap (λ m. refusal-of (block (f .widths) (f .limits) (drop m b))) (g hd k refl)
 
   -- a record's refusal: its shape's, then its fields'
-  record-refusal : refusal-of (record-due f b) ≡ first-of (shape f b) (broken (f .limits (fields (f .widths) (drop 4 b))))
+  record-refusal : refusal-of (record-due f b) ≡ first (shape f b) (broken (f .limits (fields (f .widths) (drop 4 b))))
   unfolding record-due _>>=_ shape
   record-refusal =
       then-first (block head-widths (head-limits f) b) (λ hd k e. block-is head-widths (head-limits f) b hd k e .size ∙ unfold total in refl)
@@ -146,7 +142,7 @@ module _ (f : Form) (b : List ℕ) where
   module _ (r : Verdict) (v : verdict r ≡ shape f b) where
     -- its refusal is the record's
     pub record-refused : (n : ℕ) → r ≡ Refused n → verdict (Refused n) ≡ refusal-of (record-due f b)
-    unfolding verdict first-of
+    unfolding verdict unless
     record-refused n e = let s : shape f b ≡ some n = sym v ∙ rw e in sym (record-refusal ∙ rw s)
 
     module _ (e : r ≡ Fits) where
@@ -157,7 +153,7 @@ module _ (f : Form) (b : List ℕ) where
 
       -- its fields decide
       pub record-by-fields : (t : Verdict) → verdict t ≡ broken (f .limits (fields (f .widths) (take (length b - 4) (drop 4 b)))) → verdict t ≡ refusal-of (record-due f b)
-      unfolding first-of
+      unfolding unless
       record-by-fields t h = rw (rest-of 4 b) at h ∙ sym (record-refusal ∙ rw fitting)
 
       -- the record is wholly there

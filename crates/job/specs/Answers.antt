@@ -1,14 +1,14 @@
 -- What the reader's structs and answers mean in the terms of the crates below, case by case.
-use mathlib.Core.Bool.{Bool}
-use Rattle.base.specs.Refusals.{first}
-use Rattle.format.specs.Limits.{broken}
 use Prim.Native.Nat.{ℕ, _≤_}
+use mathlib.Core.Bool.{Bool}
 use mathlib.Core.Option.{Option, none, some}
 use mathlib.Core.List.{List}
 use lib.Dec.{ltb}
 use lib.ListN.{length, drop}
 use Rattle.base.specs.If.{if_then_else_}
+use Rattle.base.specs.Refusals.{first}
 use Rattle.format.specs.Fields.{total, fields}
+use Rattle.format.specs.Limits.{broken}
 use Rattle.format.specs.Parser.{Result, refused, took, refusal-of}
 use Rattle.format.specs.Records.{Form, head-widths, head-limits, block, plain-form, record-due}
 use Rattle.format.specs.JobBytes as format
@@ -40,14 +40,9 @@ Small (d.Rates n) = n ≤ 1000
 Small (d.Unit n) = n ≤ 1000
 Small (d.Plain kind n) = n ≤ 255
 
--- the first refusal of two
-unfoldable pub first-of : Option ℕ → Option ℕ → Option ℕ
-first-of (some n) o = some n
-first-of none o = o
-
 -- what a record is refused for before its fields are looked at
 unfoldable pub shape : Form → List ℕ → Option ℕ
-shape f b = first-of (refusal-of (block head-widths (head-limits f) b)) (if ltb (length (drop 4 b)) (total (f .widths)) then some 1 else none)
+shape f b = first (refusal-of (block head-widths (head-limits f) b)) (if ltb (length (drop 4 b)) (total (f .widths)) then some 1 else none)
 
 -- a result that answers this header
 unfoldable pub answering : {A : Type 0} → format.Header → Result A → Result format.Header

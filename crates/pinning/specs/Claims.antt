@@ -6,14 +6,14 @@ use mathlib.Core.Bool.{true}
 use mathlib.Core.Option.{some}
 use mathlib.Core.List.{List, [], _∷_, map}
 use lib.ListN.{length, getD}
+use Rattle.base.specs.Answer.{gives}
 use Rattle.base.specs.Refusals.{Condition, condition}
 use Rattle.model.specs.Job.{Job, codingAt}
 use Rattle.model.specs.Pins.{Call, pin, lift, no-pins, pins-after, answers, pin-totals}
 use Rattle.format.specs.Parser.{took, Looks}
 use Rattle.format.specs.JobBytes.{header-in, opening, archive, parse}
-use Rattle.pinning.specs.PinSet.{PinSet, lines, fresh}
 use Rattle.format.specs.Claims.{Drains}
-use Rattle.base.specs.Answer.{gives}
+use Rattle.pinning.specs.PinSet.{PinSet, lines, fresh}
 use Rattle.pinning.specs.Check.{Matches, fits, checked}
 use Rattle.pinning.specs.Calls.{open-call, refuse, take-in, called, call, run, CallsMade}
 

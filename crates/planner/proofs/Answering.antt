@@ -32,7 +32,7 @@ use Rattle.interval.specs.Answers.{totals-of, line-of, start-of}
 use Rattle.line.proofs.Sizes.{layer-size, each-small}
 use Rattle.replaying.specs.Entries.{entry-size}
 use Rattle.planning.specs.Words.{table-from}
-use Rattle.planning.specs.Calls.{Planned, refuse, searched, search-in, plan-tests, plan-in, plan-call}
+use Rattle.planning.specs.Calls.{Planned, refuse, searched, search-in, plan-tests, plan-in, plan-all, plan-call}
 use Rattle.planning.proofs.Layers.{word-of, from-before, from-rest, from-length, from-layer}
 use Rattle.line.specs.declared.Line.{Line}
 use Rattle.line.specs.Answers.{line-is, WordAsked}
@@ -40,7 +40,7 @@ use Rattle.table.specs.declared.Limit.{Limit}
 use Rattle.table.specs.declared.Limit.the-variants as limit
 use Rattle.table.specs.Answers.{job-on, limit-of, open-of, words-over, LineOf}
 use Rattle.best.specs.Answers.{Tabled, Standing, PlanRead}
-use Rattle.planner.specs.Answers.{plan-all, PlansFrom, Searches, table-for, LimitFor}
+use Rattle.planner.specs.Answers.{PlansFrom, Searches, table-for, LimitFor}
 
 module _ (b : List ℕ) (h : Header) (o : Opens b h) where
   -- the starting levels are in the layer
@@ -185,7 +185,7 @@ unfolding plan-call on-read refuse
 plan-refused b s a o table entries n e = rw e
 
 pub plan-took : (b : List ℕ) (s : PinSet) (a : Aim) (o : Order) (table entries : List ℕ) (j : Job) (n : ℕ) → checked opening b s ≡ P.took j n → plan-all j s a o table entries ≡ plan-call b s a o table entries
-unfolding plan-call plan-all on-read
+unfolding plan-call on-read
 plan-took b s a o table entries j n e = rw e
 
 -- the tests in front of a search, in their order
@@ -219,7 +219,7 @@ module _ (b : List ℕ) (h : Header) (l : Line) (pins : List ℕ) (first : ℕ) 
 
     module _ (g : entry-size * (h .units + h .delay - first) ≤ length entries) where
       pub searches : Searches b h l pins first s table entries
-      searches = record { from = asks; room = omega (arith, words-on); space = g }
+      searches = record { limits = record { from = asks; room = omega (arith, words-on) }; space = g }
 
       pub from-searched : search-in (job-on b l) m a o first s table entries ≡ plan-in (job-on b l) m a o first s table entries
       from-searched = sym (past-11 ∙ guarded-last (refuse table entries) _ work (le-leb (entry-size * (intervals (job-on b l) - first)) (length entries) (omega (arith, counted-on))))
@@ -238,7 +238,6 @@ module _ (b : List ℕ) (h : Header) (s : PinSet) (r : Ready b h s) (l : Line) (
   }
 
   pub plan-from-start : (a : Aim) (o : Order) (table entries : List ℕ) → plan-in (job-on b l) (lines (h .units) (s .pins)) a o 0 start table entries ≡ plan-all (job-in b) s a o table entries
-  unfolding plan-all
   plan-from-start a o table entries =
       let own : job-on b l ≡ job-in b = ap (on-line (job-in b)) (is .is) ∙ own-line (job-in b) in
       rw (own, begins, units-are b h (r .opens))

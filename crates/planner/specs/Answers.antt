@@ -11,7 +11,6 @@ use Rattle.model.specs.Best as model-best
 use Rattle.model.specs.Best.{unlimited, total, even, open-for}
 use Rattle.model.specs.Table.{InLayer, words}
 use Rattle.format.specs.JobBytes as format
-use Rattle.pinning.specs.PinSet.{PinSet, lines}
 use Rattle.interval.specs.Answers.{totals-of}
 use Rattle.replaying.specs.Entries.{entry-size}
 use Rattle.planning.specs.Words.{table-from}
@@ -39,26 +38,21 @@ aim-is aim.Even = even
 
 -- What the private functions say and ask.
 
--- all of a job with the pins of a set, from its starting levels
-unfoldable pub plan-all : model.Job → PinSet → model-best.Aim → model-best.Order → List ℕ → List ℕ → calls.Planned
-plan-all j s a o table entries = calls.plan-in j (lines (length (j .units)) (s .pins)) a o 0 (j .start) table entries
-
 -- a first place and its levels
 pub record PlansFrom (b : List ℕ) (h : format.Header) (l : Line) (pins : List ℕ) (first : ℕ) (s : model.Levels) : Type 0 where
   pub starts : Starts b h l pins
   pub few : first ≤ h .units + h .delay
   pub inside : InLayer (line-is l) s
 
--- and lists that are long enough
-pub record Searches (b : List ℕ) (h : format.Header) (l : Line) (pins : List ℕ) (first : ℕ) (s : model.Levels) (table entries : List ℕ) : Type 0 where
-  pub from : PlansFrom b h l pins first s
-  pub room : words (job-on b l) ≤ length table
-  pub space : entry-size * (h .units + h .delay - first) ≤ length entries
-
--- a place, its levels and a table, for the limit of a search
+-- and a table that is long enough
 pub record Limits (b : List ℕ) (h : format.Header) (l : Line) (pins : List ℕ) (first : ℕ) (s : model.Levels) (table : List ℕ) : Type 0 where
   pub from : PlansFrom b h l pins first s
   pub room : words (job-on b l) ≤ length table
+
+-- and a list that is long enough for the entries
+pub record Searches (b : List ℕ) (h : format.Header) (l : Line) (pins : List ℕ) (first : ℕ) (s : model.Levels) (table entries : List ℕ) : Type 0 where
+  pub limits : Limits b h l pins first s table
+  pub space : entry-size * (h .units + h .delay - first) ≤ length entries
 
 -- the table when the limit is known: for even pictures it was filled by the greatest
 unfoldable pub table-for : model-best.Aim → model.Job → PinMap → ℕ → List ℕ → List ℕ

@@ -1,5 +1,4 @@
 -- What planning answers, and what it leaves in the two lists that were lent (document 01, "The best plan" and "Where each refusal is checked"; document 02, E7).
-use Rattle.format.specs.JobBytes.{opening}
 use Prim.Native.Nat.{ℕ, _+_, _-_, _*_}
 use mathlib.Core.Option.{Option, none, some}
 use mathlib.Core.List.{List, [], _∷_}
@@ -13,6 +12,7 @@ use Rattle.model.specs.Replay.{Totals, totals}
 use Rattle.model.specs.Best.{Order, Open, least-total, best-plan, Aim, open-for}
 use Rattle.model.specs.Table.{words}
 use Rattle.format.specs.Parser.{on-read}
+use Rattle.format.specs.JobBytes.{opening}
 use Rattle.pinning.specs.PinSet.{PinSet, lines}
 use Rattle.pinning.specs.Check.{checked}
 use Rattle.replaying.specs.Entries.{entry-size, entry-bytes}
@@ -53,6 +53,10 @@ plan-tests j s table entries = test 11 (leb (words j) table) ∷ test 12 (leb (e
 unfoldable pub plan-in : Job → PinMap → Aim → Order → ℕ → Levels → List ℕ → List ℕ → Planned
 plan-in j m a o s start table entries = guarded (refuse table entries) (plan-tests j s (length table) (length entries)) (search-in j m a o s start table entries)
 
--- the job, 1 to 5 and 17, the set, 6, then the two lists: the whole job, from its starting levels
+-- the whole job with the pins of a set, from its starting levels
+abbrev pub plan-all : Job → PinSet → Aim → Order → List ℕ → List ℕ → Planned
+plan-all j s a o table entries = plan-in j (lines (length (j .units)) (s .pins)) a o 0 (j .start) table entries
+
+-- the job, 1 to 5 and 17, the set, 6, then the two lists
 unfoldable pub plan-call : List ℕ → PinSet → Aim → Order → List ℕ → List ℕ → Planned
-plan-call b s a o table entries = on-read (refuse table entries) (checked opening b s) (λ j. plan-in j (lines (length (j .units)) (s .pins)) a o 0 (j .start) table entries)
+plan-call b s a o table entries = on-read (refuse table entries) (checked opening b s) (λ j. plan-all j s a o table entries)

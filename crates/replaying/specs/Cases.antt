@@ -1,5 +1,4 @@
 -- Document 01's cases of Job A that are marked (m), those of pins, replay and report, and cases of Job A with another delay or a second bucket worked out by hand: what is asked, and what document 01 says, or by document 02, E2, E3 and E5, would.
-use Rattle.format.specs.JobBytes.{opening, archive}
 use Prim.Native.Nat.{ℕ}
 use mathlib.Core.Path.{_≡_}
 use mathlib.Core.Option.{Option, none, some}
@@ -8,6 +7,7 @@ use lib.ListN.{set, replicate}
 use Rattle.base.specs.Answer.{refused, gives}
 use Rattle.model.specs.Admissible.{decoder-overflow, decoder-underflow, bucket-overflow, pin-not-held}
 use Rattle.model.specs.Pins.{Call, pin, lift, PinTotals}
+use Rattle.format.specs.JobBytes.{opening, archive}
 use Rattle.format.specs.JobA.{bytes-a, bytes-a8}
 use Rattle.pinning.specs.PinSet.{PinSet}
 use Rattle.pinning.specs.Calls.{open-call, run}

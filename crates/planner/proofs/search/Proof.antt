@@ -9,14 +9,14 @@ use Rattle.planner.proofs.search.Statement.{statement}
 use Rattle.planner.proofs.search.Tie as tie
 
 limit-for-requires : tie.Need-limit-for-requires
-limit-for-requires c κs = record { from = c .before .before .before .before .pre .from; room = c .before .before .before .before .pre .room }
+limit-for-requires c κs = c .before .before .before .before .pre .limits
 
 fill-table-requires : tie.Need-fill-table-requires
 unfolding plain
 fill-table-requires c κs =
     let l = c .before .before .before in
     let a = l .before .before .before .before .before in
-    (a .pre .from .starts, a .pre .from .few, mid-room _ _ _ _ _ _ (a .pre .from) _ (a .pre .room) (lines (a .args .header .units) (a .args .pins .now)) _ _ _ (l .limit-for .ensures))
+    (a .pre .limits .from .starts, a .pre .limits .from .few, mid-room _ _ _ _ _ _ (a .pre .limits .from) _ (a .pre .limits .room) (lines (a .args .header .units) (a .args .pins .now)) _ _ _ (l .limit-for .ensures))
 
 word-at-requires : tie.Need-word-at-requires
 unfolding plain combine
@@ -24,7 +24,7 @@ word-at-requires c κs =
     let f = c .before .before .before in
     let l = f .before .before .before .before in
     let a = l .before .before .before .before .before in
-    asked _ _ _ _ _ _ (a .pre .from) _ (a .pre .room) (lines (a .args .header .units) (a .args .pins .now)) _ _ _ (l .limit-for .ensures) _ (f .fill-table .ensures)
+    asked _ _ _ _ _ _ (a .pre .limits .from) _ (a .pre .limits .room) (lines (a .args .header .units) (a .args .pins .now)) _ _ _ (l .limit-for .ensures) _ (f .fill-table .ensures)
 
 same-length : tie.Need-same-length
 same-length c = search needs
@@ -36,7 +36,7 @@ returns c =
     let f = w .before .before .before .before in
     let l = f .before .before .before .before in
     let a = l .before .before .before .before .before in
-    search-13 _ _ _ _ _ _ (a .pre .from) _ (a .pre .room) (lines (a .args .header .units) (a .args .pins .now)) _ _ _ (l .limit-for .ensures) _ (f .fill-table .ensures) _ _ (w .word-at .result) (w .word-at .ensures) (c .if1 .taken)
+    search-13 _ _ _ _ _ _ (a .pre .limits .from) _ (a .pre .limits .room) (lines (a .args .header .units) (a .args .pins .now)) _ _ _ (l .limit-for .ensures) _ (f .fill-table .ensures) _ _ (w .word-at .result) (w .word-at .ensures) (c .if1 .taken)
 
 read-off-requires : tie.Need-read-off-requires
 unfolding plain combine
@@ -48,10 +48,10 @@ read-off-requires c κs =
     let a = l .before .before .before .before .before in
     let m = lines (a .args .header .units) (a .args .pins .now) in
     record {
-      starts = a .pre .from .starts;
-      few = a .pre .from .few;
-      table-is = tabled _ _ _ _ _ _ (a .pre .from) _ (a .pre .room) m _ _ _ (l .limit-for .ensures) _ (f .fill-table .ensures);
-      stands = standing _ _ _ _ _ _ (a .pre .from) _ (a .pre .room) m _ _ _ (l .limit-for .ensures) _ (f .fill-table .ensures) (w .word-at .result) (w .word-at .ensures) (e .if1 .left);
+      starts = a .pre .limits .from .starts;
+      few = a .pre .limits .from .few;
+      table-is = tabled _ _ _ _ _ _ (a .pre .limits .from) _ (a .pre .limits .room) m _ _ _ (l .limit-for .ensures) _ (f .fill-table .ensures);
+      stands = standing _ _ _ _ _ _ (a .pre .limits .from) _ (a .pre .limits .room) m _ _ _ (l .limit-for .ensures) _ (f .fill-table .ensures) (w .word-at .result) (w .word-at .ensures) (e .if1 .left);
       room = a .pre .space;
     }
 
@@ -70,7 +70,7 @@ returns-2 c =
     let f = w .before .before .before .before in
     let l = f .before .before .before .before in
     let a = l .before .before .before .before .before in
-    search-best _ _ _ _ _ _ (a .pre .from) _ (a .pre .room) (lines (a .args .header .units) (a .args .pins .now)) _ _ _ (l .limit-for .ensures) _ (f .fill-table .ensures) _ _ (w .word-at .result) (w .word-at .ensures) (e .if1 .left) _ _ (r .read-off .ensures)
+    search-best _ _ _ _ _ _ (a .pre .limits .from) _ (a .pre .limits .room) (lines (a .args .header .units) (a .args .pins .now)) _ _ _ (l .limit-for .ensures) _ (f .fill-table .ensures) _ _ (w .word-at .result) (w .word-at .ensures) (e .if1 .left) _ _ (r .read-off .ensures)
 
 pub search-spec : {M : Type 1} → statement M
 search-spec =
