@@ -54,8 +54,13 @@
        upload_open      opening    17
        upload_calls     opening    17
        upload_plan      opening    17
+       upload_set, and all that take a set but upload_replay_set
+                        opening    17
        upload_archive   archive    opened, with the values that another drain has
        upload_replay    archive    replayed without pins: each call is refused
+       upload_replay_set
+                        archive    replayed with the set's pins, but upload_set
+                                   gives out no set of such a job
        upload_report    archive    reported as with another drain
        upload_turn      archive    turned as with another drain */
 
@@ -81,8 +86,9 @@ enum upload_refusal {
                                    nine or twelve */
     UPLOAD_RATES = 4,           /* a rate is over 4,095, or the rates do not rise */
     UPLOAD_CHOICES = 5,         /* a choice's size or distortion is over its limit */
-    UPLOAD_OTHER_JOB = 6,       /* the set of pins does not fit the job; the functions below keep
-                                   their own set and never give this */
+    UPLOAD_OTHER_JOB = 6,       /* the numbers are no set of pins of this job: another job's, or
+                                   changed by hand, or fewer than UPLOAD_SET_NUMBERS; only the
+                                   functions that take a set give this */
     UPLOAD_NO_SUCH_UNIT = 7,    /* pin, lift: the unit is not from 1 to N */
     UPLOAD_NO_SUCH_CHOICE = 8,  /* pin: the choice is not below M */
     UPLOAD_PINNED = 9,          /* pin: the unit is pinned already */
@@ -113,6 +119,15 @@ enum upload_aim {
                                    plans in which that is least the total */
 };
 
+/* Which of several plans that are as good is given: at the first interval in
+   which they differ, the one with the larger rate index (early) or the smaller
+   one (late), and of equal rates the one with the smaller choice index.
+   upload_plan gives the late one. */
+enum upload_order {
+    UPLOAD_EARLY = 0,
+    UPLOAD_LATE = 1
+};
+
 /* The kind of a job's header, which is byte 2 of a job that opens: how many
    buckets the line has. */
 enum upload_header {
@@ -125,6 +140,30 @@ enum upload_header {
 
 /* The word of a state from which no plan can be completed. */
 #define UPLOAD_NEVER UINT32_C(4294967295)
+
+/* A set of pins as numbers: what an editor's tool keeps between its calls, in a
+   list of its own. upload_set writes the set without a pin, and the calls that
+   pin and lift bring it up to date.
+
+       number 0          one of enum upload_header
+       numbers 1 to 12   the fields of the header in the order of upload_write;
+                         the last three are 0 where there is one bucket
+       numbers 13 to 524 the pins of units 1 to 512: a choice or UPLOAD_NO_PIN,
+                         which stands also for units that the job does not have
+       numbers 525 to 527
+                         how many pins there are, the sum of the grains that
+                         their units take at the pinned choices, and the sum of
+                         the distortions of these choices
+
+   Every call reads all of them against the job again, and a number that is not
+   what the job and the pins make it is refused with UPLOAD_OTHER_JOB. Numbers
+   behind these are not looked at and keep their values. */
+#define UPLOAD_SET_NUMBERS 528
+#define UPLOAD_SET_PINS 13
+#define UPLOAD_SET_TOTALS 525
+
+/* The pin of a unit without one. */
+#define UPLOAD_NO_PIN 65535
 
 /* What replay finds first. In each interval they are tested in this order:
    UPLOAD_DECODER_OVER, UPLOAD_DECODER_SHORT, UPLOAD_BUCKET_OVER,
@@ -149,6 +188,7 @@ enum upload_violation {
 #define UPLOAD_REPLAY_VALUES 6      /* one bucket */
 #define UPLOAD_REPLAY_VALUES_MOST 7 /* two buckets */
 #define UPLOAD_WRITE_VALUES 1
+#define UPLOAD_SEE_VALUES 1
 
 /* How many levels replay gives for each interval: 1 and the number of buckets. */
 #define UPLOAD_LEVELS 2             /* one bucket */
@@ -258,6 +298,106 @@ uint32_t upload_replay(const uint8_t *job, size_t job_len,
                        const uint8_t *entries, size_t entries_len,
                        uint16_t *levels, size_t levels_len,
                        uint64_t *values, size_t values_len);
+
+/* Opens a job and writes its set without a pin.
+
+   set: UPLOAD_SET_NUMBERS numbers written.
+
+   Refusals in order: 1 to 5, with 17 directly after 3; 12 where `set` is too
+   short. */
+uint32_t upload_set(const uint8_t *job, size_t job_len,
+                    uint32_t *set, size_t set_len);
+
+/* Pins a unit at a choice.
+
+   set:    the job's; written with the pin in it.
+   unit:   1 to N.
+   choice: 0 to M - 1.
+
+   Refusals in order: 1 to 5, with 17 directly after 3; 6; 7; 8; 9. */
+uint32_t upload_pin(const uint8_t *job, size_t job_len,
+                    uint32_t *set, size_t set_len,
+                    uint16_t unit, uint16_t choice);
+
+/* Lifts the pin of a unit.
+
+   set:  the job's; written without the pin.
+   unit: 1 to N.
+
+   Refusals in order: 1 to 5, with 17 directly after 3; 6; 7; 10. */
+uint32_t upload_lift(const uint8_t *job, size_t job_len,
+                     uint32_t *set, size_t set_len,
+                     uint16_t unit);
+
+/* Pins a unit u at a choice as upload_pin does, brings a table up to date and
+   tells the least total distortion. Only the layers of intervals 0 to u + d - 1
+   are written, each from the next, and the last of them from what stands in
+   layer u + d: the earlier the unit, the sooner it is done. Where the table was
+   that of the set before the pin, as upload_plan_set for UPLOAD_TOTAL leaves it,
+   or one of these two calls, it is now that of the set with the pin. A table of
+   the aim UPLOAD_EVEN, of another job or of another set is not refused: what is
+   written follows by the same rule from the words that stand there, of which one
+   over 512,000,000 counts as UPLOAD_NEVER.
+
+   set:    the job's; written with the pin in it.
+   unit:   1 to N.
+   choice: 0 to M - 1.
+   table:  at least the words that upload_open names; the first u + d layers are
+           written, a layer being 1 / (T + 1) of these words.
+   values: 1 number written: the word of layer 0 at the starting levels, the
+           least total distortion, or UPLOAD_NEVER where no plan holds the pins.
+           That is not a refusal: this call never gives 13.
+
+   Refusals in order: 1 to 5, with 17 directly after 3; 6; 7; 8; 9; 11; 12 where
+   `values` is too short. */
+uint32_t upload_pin_and_see(const uint8_t *job, size_t job_len,
+                            uint32_t *set, size_t set_len,
+                            uint16_t unit, uint16_t choice,
+                            uint32_t *table, size_t table_len,
+                            uint64_t *values, size_t values_len);
+
+/* Lifts the pin of a unit as upload_lift does, and goes on as upload_pin_and_see
+   does.
+
+   Refusals in order: 1 to 5, with 17 directly after 3; 6; 7; 10; 11; 12 where
+   `values` is too short. */
+uint32_t upload_lift_and_see(const uint8_t *job, size_t job_len,
+                             uint32_t *set, size_t set_len,
+                             uint16_t unit,
+                             uint32_t *table, size_t table_len,
+                             uint64_t *values, size_t values_len);
+
+/* Plans with the pins of a set, as upload_plan does with those that calls leave.
+
+   set:     the job's; not written.
+   aim:     one of enum upload_aim.
+   order:   one of enum upload_order.
+   table, entries, values: written as upload_plan writes them.
+
+   Refusals in order: 1 to 5, with 17 directly after 3; 2 for another aim, then
+   for another order; 6; 11; 12 where `entries` or `values` is too short; 13,
+   which leaves `table` written, and `entries` and `values` as they were. */
+uint32_t upload_plan_set(const uint8_t *job, size_t job_len,
+                         const uint32_t *set, size_t set_len,
+                         uint32_t aim, uint32_t order,
+                         uint32_t *table, size_t table_len,
+                         uint8_t *entries, size_t entries_len,
+                         uint64_t *values, size_t values_len);
+
+/* Follows a plan with the pins of a set, as upload_replay does with those that
+   calls leave.
+
+   set:     the job's; not written.
+   entries: exactly 3 x T bytes, as upload_plan writes them.
+   levels, values: written as upload_replay writes them.
+
+   Refusals in order: 1 to 5 for the job; 6; 14; 12 where `levels` or `values` is
+   too short. A plan with a violation is not a refusal. */
+uint32_t upload_replay_set(const uint8_t *job, size_t job_len,
+                           const uint32_t *set, size_t set_len,
+                           const uint8_t *entries, size_t entries_len,
+                           uint16_t *levels, size_t levels_len,
+                           uint64_t *values, size_t values_len);
 
 /* The effective buffer sizes of a plan, admissible or not.
 

@@ -82,6 +82,11 @@ abbrev pub AllHold : List Condition → Type 0
 AllHold [] = Unit {0}
 AllHold (c ∷ cs) = c .Holds × AllHold cs
 
+-- where no test refuses, every condition holds
+pub none-refuses : {ts : List Test} {cs : List Condition} → Decides ts cs → refusal ts ≡ none → AllHold cs
+none-refuses no-more e = tt
+none-refuses (one-more {t} {c} {ts} {cs} p d s) e = let h = refusal-none t ts e in (d .0 (h .0), none-refuses s (h .1))
+
 module _ {R : Type 0} (refuse : ℕ → R) where
   pub guarded-past : (t : Test) (ts : List Test) (r : R) → t .passes ≡ true → guarded refuse (t ∷ ts) r ≡ guarded refuse ts r
   unfolding guarded

@@ -28,7 +28,7 @@ use Rattle.calling.specs.Commands.{pin-form, lift-form, call-of, command
 use Rattle.calling.specs.Sessions.{input-size, input-call}
 use Rattle.planning.specs.Claims.{Keeping}
 use Rattle.calling.specs.Claims.{no-more, one-more, Ending, none-left, not-read, not-taken, CommandsClaim, Commands, Inputs, InputRefusals}
-use Rattle.planning.proofs.DemandThree.{demand-three}
+use Rattle.planning.proofs.DemandThree.{calls-three}
 use Rattle.planning.proofs.Refusals.{keeps, refuse-keeps, guarded-keeps}
 
 -- a command that is read takes some of the bytes
@@ -117,7 +117,7 @@ inputs b j k table entries parsed h q room space =
     let c = commands b .then-commands j k parsed in
     record {
       commands = c;
-      planning = rw (input-plans b table entries h q, ← c .held) (demand-three b j k parsed (c .calls) .planning total late table entries room space);
+      planning = rw (input-plans b table entries h q, ← c .held) (calls-three b j k parsed (c .calls) .planning total late table entries room space);
     }
 
 pub input-refusals : InputRefusals

@@ -29,7 +29,7 @@ use Rattle.pinning.specs.PinSet.{PinSet, lines}
 use Rattle.pinning.specs.Check.{Matches}
 use Rattle.pinning.specs.Calls.{open-call, run}
 use Rattle.pinning.proofs.Agree.{passes-matches, matched}
-use Rattle.pinning.proofs.History.{history, fresh-pins}
+use Rattle.pinning.proofs.History.{call-history, fresh-pins}
 use Rattle.pinning.proofs.Archive.{archived-sets}
 use Rattle.format.proofs.Places.{well-read}
 use Rattle.format.proofs.Bounds.{limited, within, two-doors, drains-told, told-drains}
@@ -42,7 +42,7 @@ use Rattle.replaying.specs.Claims.{InShape, DemandTwo}
 use Rattle.replaying.proofs.Reports as replaying
 use Rattle.planning.specs.Calls.{Planned, plan-call}
 use Rattle.planning.specs.Claims.{PlanClaim}
-use Rattle.planning.proofs.DemandThree.{demand-three}
+use Rattle.planning.proofs.DemandThree.{calls-three}
 use Rattle.planning.proofs.Refusals as planning
 use Rattle.calling.specs.Commands.{calls-of, calls-tests}
 use Rattle.calling.specs.Sessions.{made, answer-number, numbers, aim-named, order-named, asked-tests, answers-tests, calls-refusal, calls-call, Session, refuse, session-tests, plan-refusal, planned-after, session-call, replay-refusal, replay-session}
@@ -73,11 +73,11 @@ named = record { total-is = refl; even-is = refl; early-is = refl; late-is = ref
 module _ (b : List ℕ) (j : Job) (k : ℕ) (parsed : parse opening b ≡ took j k) (calls : List ℕ) where
   numbers-are : numbers b calls ≡ book-numbers j calls
   unfolding numbers made
-  numbers-are = ap (map answer-number) (history b j k parsed (calls-of calls) .answered)
+  numbers-are = ap (map answer-number) (call-history b j k parsed (calls-of calls) .answered)
 
   set-matches : Matches j (made opening b calls .set)
   unfolding made
-  set-matches = passes-matches opening b j k parsed _ (history b j k parsed (calls-of calls) .passes)
+  set-matches = passes-matches opening b j k parsed _ (call-history b j k parsed (calls-of calls) .passes)
 
 pub call-sessions : CallSessions
 unfolding calls-call answers-tests
@@ -89,7 +89,7 @@ call-sessions b calls answers =
     ))
   where
     done : (j : Job) (k : ℕ) → parse opening b ≡ took j k → _≡_ {A = Ended PinTotals} (record { answer = gives (made opening b calls .set .totals); list = over (numbers b calls) answers }) (record { answer = gives (pin-totals j (book-pins j calls)); list = over (book-numbers j calls) answers })
-    done j k e = unfold made in (ap₂ (λ (t : PinTotals) (l : List ℕ). record { answer = gives t; list = over l answers }) (history b j k e (calls-of calls) .totals) (numbers-are b j k e calls))
+    done j k e = unfold made in (ap₂ (λ (t : PinTotals) (l : List ℕ). record { answer = gives t; list = over l answers }) (call-history b j k e (calls-of calls) .totals) (numbers-are b j k e calls))
 
 -- with planning
 module _ (b calls : List ℕ) (aim order : ℕ) (answers table entries : List ℕ) where
@@ -99,7 +99,7 @@ module _ (b calls : List ℕ) (aim order : ℕ) (answers table entries : List �
 
     claim : PlanClaim j (book-pins j calls) (aim-named aim) (order-named order) 0 (j .start) table entries planned
     unfolding made planned
-    claim = demand-three b j k parsed (calls-of calls) .planning (aim-named aim) (order-named order) table entries room space
+    claim = calls-three b j k parsed (calls-of calls) .planning (aim-named aim) (order-named order) table entries room space
 
     session-claim : SessionClaim j calls aim order answers table entries (planned-after b calls aim order answers table entries)
     unfolding planned-after planned
@@ -180,7 +180,7 @@ module _ (b : List ℕ) (j : Job) (k : ℕ) (parsed : parse archive b ≡ took j
   archive-lines = go (drained-or j its-limits)
     where
       go : Drains opening j ⊎ (Drains opening j → ⊥) → lines (length (j .units)) (run b (open-call archive b .set) (calls-of calls) .set .pins) ≡ archive-pins j calls
-      go (inl d) = rw (archived-sets b j k parsed .as-opening d) (history b j k (two-doors b j k .opening-iff .1 (parsed, d)) (calls-of calls) .pins) ∙ sym (replay-pins j calls .drained its-limits d)
+      go (inl d) = rw (archived-sets b j k parsed .as-opening d) (call-history b j k (two-doors b j k .opening-iff .1 (parsed, d)) (calls-of calls) .pins) ∙ sym (replay-pins j calls .drained its-limits d)
       go (inr f) = ap (λ (s : PinSet). lines (length (j .units)) (s .pins)) (archived-sets b j k parsed .unchanged f (open-call archive b .set) (calls-of calls)) ∙ fresh-lines ∙ sym (replay-pins j calls .idle its-limits f)
         where
           fresh-lines : lines (length (j .units)) (open-call archive b .set .pins) ≡ no-pins (length (j .units))

@@ -7,7 +7,7 @@ use native.Mathlib.Omega.{arith}
 use lib.ListN.{length, getD, drop, take-append-drop}
 use lib.Seq.{length-take-le}
 use Rattle.model.specs.Job.{Bucket, bucketAt, Coding, Job, intervals, nothing, codingAt, coding, ChoiceFits, waits, decodes}
-use Rattle.model.specs.Table.{Bounded}
+use Rattle.model.specs.Table.{InLayer, Bounded}
 use Rattle.format.specs.Limits.{AllKept}
 use Rattle.format.specs.Parser.{took, Each}
 use Rattle.format.specs.Parser as P
@@ -251,6 +251,10 @@ two-doors b j n = record {
 -- what opening reads, the archive reads
 pub archived : (d : Door) (b : List ℕ) (j : Job) (n : ℕ) → parse d b ≡ took j n → parse archive b ≡ took j n
 archived d b j n e = other-door d archive b j n e tt
+
+-- the starting levels are in the layer
+pub start-inside : (j : Job) → InLimits j → InLayer (j .line) (j .start)
+start-inside j k = record { decoder = k .level; count = k .buckets .2; buckets = k .fills }
 
 -- what the table law asks of a job
 pub bounded : (j : Job) → WellFormed j → Bounded j

@@ -58,6 +58,30 @@ unfoldable pub answers : ℕ → PinMap → List Call → List (Option ℕ)
 answers choices m [] = []
 answers choices m (k ∷ ks) = note choices m k .refused ∷ answers choices (note choices m k .map) ks
 
+-- a call as an editor makes it: by itself, or with so many words lent for a table that it brings up to date (document 02, E9)
+pub data Click : Type 0 where
+  plain : Call → Click
+  sees : Call → ℕ → Click
+
+-- what was lent is too short: a call that the book takes is refused by 11 then, and no line changes
+unfoldable pub note-short : PinMap → Option ℕ → Noted
+note-short m none = record { refused = some 11; map = m }
+note-short m (some n) = record { refused = some n; map = m }
+
+-- one click of the book, where a table has so many words
+unfoldable pub note-click : ℕ → ℕ → PinMap → Click → Noted
+note-click words choices m (plain k) = note choices m k
+note-click words choices m (sees k n) = if leb words n then note choices m k else note-short m (note choices m k .refused)
+
+-- the map after a list of clicks, and each one's answer
+unfoldable pub clicks-after : ℕ → ℕ → PinMap → List Click → PinMap
+clicks-after words choices m [] = m
+clicks-after words choices m (k ∷ ks) = clicks-after words choices (note-click words choices m k .map) ks
+
+unfoldable pub click-answers : ℕ → ℕ → PinMap → List Click → List (Option ℕ)
+click-answers words choices m [] = []
+click-answers words choices m (k ∷ ks) = note-click words choices m k .refused ∷ click-answers words choices (note-click words choices m k .map) ks
+
 -- how many units are pinned, and the sums of the sizes and of the distortions that their pins give them
 pub record PinTotals : Type 0 where
   pub count : ℕ

@@ -16,7 +16,7 @@ use Rattle.model.specs.Job.{Coding, Job, codingAt}
 use Rattle.model.specs.Pins.{PinTotals, totals-to}
 use Rattle.base.proofs.All.{all-each}
 use Rattle.model.proofs.PinTotals.{totals-agree}
-use Rattle.format.specs.Parser.{refused, took, on-read, Looks}
+use Rattle.format.specs.Parser.{Result, refused, took, on-read, Looks}
 use Rattle.format.specs.JobBytes.{Header, header-in, Door, parse, same-header}
 use Rattle.format.specs.Claims.{InLimits}
 use Rattle.format.proofs.Bounds.{limited}
@@ -116,6 +116,18 @@ module _ (d : Door) (b : List ℕ) (j : Job) (k : ℕ) (parsed : parse d b ≡ t
         go false f e = refl
         go true false e = refl
         go true true e = ap (same-totals (s .totals)) (totals-agree-in e)
+
+pub checked-parsed : (d : Door) (b : List ℕ) (s : PinSet) (j : Job) (k : ℕ) → checked d b s ≡ took j k → parse d b ≡ took j k
+unfolding checked accept if_then_else_
+checked-parsed d b s j k e = go (parse d b) e
+  where
+    by-test : (t : Bool) (i : Job) (n : ℕ) → (if t then took i n else refused 6) ≡ took j k → took i n ≡ took j k
+    by-test true i n q = q
+    by-test false i n q = not-took q
+
+    go : (r : Result Job) → accept s r ≡ took j k → r ≡ took j k
+    go (refused n) q = not-took q
+    go (took i n) q = by-test (fits (codingAt i) (header-in i) s) i n q
 
 pub checked-refused : (d : Door) (b : List ℕ) (s : PinSet) (n : ℕ) → parse d b ≡ refused n → checked d b s ≡ refused n
 unfolding checked accept

@@ -9,7 +9,7 @@ use lib.ListN.{length}
 use native.Mathlib.Omega.{arith}
 use lib.Dec.{eqb}
 use borrow.Author.Tests.{ltb-true, lt-ltb, eqb-true, eqb-false, eq-eqb, ne-eqb}
-use Rattle.base.proofs.Refusals.{no-more, one-more, Guarded, was-refused, was-done, guarded-is}
+use Rattle.base.proofs.Refusals.{Decides, no-more, one-more, Guarded, was-refused, was-done, guarded-is}
 use Rattle.model.specs.Job.{Job}
 use Rattle.model.specs.Pins.{Call, pin, lift, outside}
 use Rattle.format.specs.Parser.{Result, refused, took, on-read}
@@ -17,7 +17,7 @@ use Rattle.format.specs.Choices.{no-choice}
 use Rattle.pinning.specs.PinSet.{PinSet}
 use Rattle.pinning.specs.Check.{checked}
 use Rattle.pinning.specs.Calls.{Handed, refuse, take-in, pin-of, call-tests, called, call-in, call}
-use Rattle.pinning.specs.Claims.{Refusals, Refusing}
+use Rattle.pinning.specs.Claims.{CallAsks, Refusals, Refusing}
 use Rattle.pinning.proofs.Inside.{inside, within}
 use Rattle.pinning.proofs.Agree.{looks-checked}
 
@@ -54,7 +54,11 @@ unit-decides j u = (λ e. inside (length (j .units)) u (not-true _ e), λ h. rw 
 pin-decides : (x : ℕ) → (not (eqb x no-choice) ≡ true) ↔ (x ≡ no-choice → ⊥)
 pin-decides x = (λ e. eqb-false x no-choice (not-true _ e), λ h. rw (ne-eqb x no-choice h))
 
+pub call-decides : (j : Job) (s : PinSet) (k : Call) → Decides (call-tests j s k) (CallAsks j s k)
+unfolding call-tests
+call-decides j s (pin u x) = one-more refl (unit-decides j u) (one-more refl (ltb-true x (j .choices), lt-ltb x (j .choices)) (one-more refl (eqb-true (pin-of s u) no-choice, eq-eqb (pin-of s u) no-choice) no-more))
+call-decides j s (lift u) = one-more refl (unit-decides j u) (one-more refl (pin-decides (pin-of s u)) no-more)
+
 pub refusals : Refusals
-unfolding call call-in call-tests
-refusals b s (pin u x) = looks-checked (refuse s) opening b s (λ j. call-tests j s (pin u x)) _ (λ j. take-in (called j s (pin u x))) (λ j r. r ≡ take-in (called j s (pin u x))) (λ j k e m. (one-more refl (unit-decides j u) (one-more refl (ltb-true x (j .choices), lt-ltb x (j .choices)) (one-more refl (eqb-true (pin-of s u) no-choice, eq-eqb (pin-of s u) no-choice) no-more)), λ a. refl))
-refusals b s (lift u) = looks-checked (refuse s) opening b s (λ j. call-tests j s (lift u)) _ (λ j. take-in (called j s (lift u))) (λ j r. r ≡ take-in (called j s (lift u))) (λ j k e m. (one-more refl (unit-decides j u) (one-more refl (pin-decides (pin-of s u)) no-more), λ a. refl))
+unfolding call call-in
+refusals b s k = looks-checked (refuse s) opening b s (λ j. call-tests j s k) (λ j. CallAsks j s k) (λ j. take-in (called j s k)) (λ j r. r ≡ take-in (called j s k)) (λ j n e m. (call-decides j s k, λ a. refl))

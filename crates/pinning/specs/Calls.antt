@@ -2,13 +2,14 @@
 use Prim.Native.Nat.{ℕ, _+_, _-_}
 use mathlib.Core.Bool.{not}
 use mathlib.Core.Option.{Option, none, some}
-use mathlib.Core.List.{List, [], _∷_}
-use lib.Dec.{ltb, eqb}
+use mathlib.Core.List.{List, [], _∷_, _++_}
+use lib.Dec.{leb, ltb, eqb}
 use lib.ListN.{length, getD, set}
 use Rattle.base.specs.Answer.{Answer, refused, gives}
 use Rattle.base.specs.Refusals.{Test, test, guarded}
 use Rattle.model.specs.Job.{Coding, Job, codingAt}
-use Rattle.model.specs.Pins.{Call, pin, lift, outside}
+use Rattle.model.specs.Pins.{Call, pin, lift, Click, plain, sees, outside}
+use Rattle.model.specs.Table.{words}
 use Rattle.format.specs.Parser.{Result, on-read}
 use Rattle.format.specs.Parser as P
 use Rattle.format.specs.JobBytes.{no-header, header-in, Door, opening, parse}
@@ -85,6 +86,21 @@ call-in j s k = guarded (refuse s) (call-tests j s k) (take-in (called j s k))
 unfoldable pub call : List ℕ → PinSet → Call → Handed
 call b s k = on-read (refuse s) (checked opening b s) (λ j. call-in j s k)
 
+-- a click, which is a call by itself or one that sees (document 02, E9): where it sees, its own tests are followed by that of the table, 11
+unfoldable pub call-of : Click → Call
+call-of (plain k) = k
+call-of (sees k n) = k
+
+unfoldable pub click-tests : Job → PinSet → Click → List Test
+click-tests j s (plain k) = call-tests j s k
+click-tests j s (sees k n) = call-tests j s k ++ (test 11 (leb (words j) n) ∷ [])
+
+unfoldable pub click-in : Job → PinSet → Click → Handed
+click-in j s k = guarded (refuse s) (click-tests j s k) (take-in (called j s (call-of k)))
+
+unfoldable pub click : List ℕ → PinSet → Click → Handed
+click b s k = on-read (refuse s) (checked opening b s) (λ j. click-in j s k)
+
 -- a list of calls with the bytes of one job, each given the set that the last handed back: their answers, and the last set
 pub record CallsMade : Type 0 where
   pub answers : List (Option ℕ)
@@ -96,3 +112,7 @@ after o r = record { answers = o ∷ r .answers; set = r .set }
 unfoldable pub run : List ℕ → PinSet → List Call → CallsMade
 run b s [] = record { answers = []; set = s }
 run b s (k ∷ ks) = after (call b s k .refused) (run b (call b s k .set) ks)
+
+unfoldable pub run-clicks : List ℕ → PinSet → List Click → CallsMade
+run-clicks b s [] = record { answers = []; set = s }
+run-clicks b s (k ∷ ks) = after (click b s k .refused) (run-clicks b (click b s k .set) ks)

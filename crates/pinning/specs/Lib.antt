@@ -2,4 +2,6 @@
 pub mod PinSet
 pub mod Check
 pub mod Calls
+pub mod Numbers
 pub mod Claims
+pub mod NumberClaims

@@ -41,7 +41,7 @@ pub struct Handed {
 }
 
 // A header that no job has.
-fn no_header() -> Header
+pub fn no_header() -> Header
     ensures { λ r. ⌜ plain r ≡ no-header ⌝ }
 {
     let bucket = Bucket {

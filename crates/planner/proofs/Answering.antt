@@ -23,7 +23,7 @@ use Rattle.model.proofs.Lines.{own-line, intervals-on, bounded-on}
 use Rattle.format.specs.Parser as P
 use Rattle.format.specs.Parser.{on-read}
 use Rattle.format.specs.JobBytes.{Header, opening, job-in, Opens}
-use Rattle.format.proofs.Bounds.{bounded}
+use Rattle.format.proofs.Bounds.{bounded, start-inside}
 use Rattle.format.proofs.Opened.{job-formed, job-limits, units-are, intervals-are, few-intervals, start-is}
 use Rattle.pinning.specs.PinSet.{PinSet, lines}
 use Rattle.pinning.specs.Check.{checked, Ready}
@@ -41,13 +41,6 @@ use Rattle.table.specs.declared.Limit.the-variants as limit
 use Rattle.table.specs.Answers.{job-on, limit-of, open-of, words-over, LineOf}
 use Rattle.best.specs.Answers.{Tabled, Standing, PlanRead}
 use Rattle.planner.specs.Answers.{PlansFrom, Searches, table-for, LimitFor}
-
-module _ (b : List ℕ) (h : Header) (o : Opens b h) where
-  -- the starting levels are in the layer
-  pub start-inside : InLayer (job-in b .line) (job-in b .start)
-  start-inside =
-      let k = job-limits b h o in
-      record { decoder = k .level; count = k .buckets .2; buckets = k .fills }
 
 -- over any line, from any place and levels there
 module _ (b : List ℕ) (h : Header) (l : Line) (pins : List ℕ) (first : ℕ) (s : Levels) (from : PlansFrom b h l pins first s) (table : List ℕ) (room : words (job-on b l) ≤ length table) where
@@ -234,7 +227,7 @@ module _ (b : List ℕ) (h : Header) (s : PinSet) (r : Ready b h s) (l : Line) (
   plans-from pins n = record {
     starts = record { opens = r .opens; line = is .fits; pins-size = n };
     few = omega arith;
-    inside = rw (is .is, begins) (start-inside b h (r .opens));
+    inside = rw (is .is, begins) (start-inside (job-in b) (job-limits b h (r .opens)));
   }
 
   pub plan-from-start : (a : Aim) (o : Order) (table entries : List ℕ) → plan-in (job-on b l) (lines (h .units) (s .pins)) a o 0 start table entries ≡ plan-all (job-in b) s a o table entries

@@ -1,5 +1,4 @@
--- Every list of calls with the planning after it: `DemandThree`.
-use Rattle.format.specs.JobBytes.{opening}
+-- Every list of clicks with the planning after it: `DemandThree`; so every list of pins and lifts: `CallsThree`.
 use Prim.Native.Nat.{ℕ, _+_, _-_, _*_, _≤_}
 use mathlib.Core.Path.{_≡_, refl, _∙_}
 use mathlib.Core.Option.{Option, none, some}
@@ -11,7 +10,8 @@ use lib.Dec.{leb}
 use borrow.Author.Tests.{le-leb}
 use Rattle.base.specs.Refusals.{test}
 use Rattle.base.proofs.Refusals.{guarded-past, guarded-last}
-use Rattle.format.specs.Parser.{on-read}
+use Rattle.format.specs.Parser.{took, on-read}
+use Rattle.format.specs.JobBytes.{opening, parse}
 use Rattle.model.specs.Job.{Levels, Job, Entry, intervals}
 use Rattle.model.specs.Pins.{PinMap}
 use Rattle.model.specs.Best.{Order, Open, unlimited, least-total, best-plan, Aim, open-for}
@@ -23,14 +23,16 @@ use Rattle.model.proofs.Walks.{fits-length}
 use Rattle.model.proofs.Evenness.{aims}
 use Rattle.format.proofs.Bounds.{limited}
 use Rattle.format.proofs.Places.{well-read}
-use Rattle.pinning.proofs.History.{history}
+use Rattle.pinning.specs.Calls.{CallsMade}
+use Rattle.pinning.specs.Claims.{HistoryClaim}
+use Rattle.pinning.proofs.History.{history, call-history}
 use Rattle.format.specs.Choices.{no-choice}
 use Rattle.replaying.specs.Entries.{entry-size, entry-bytes}
 use Rattle.base.specs.Lent.{over}
 use Rattle.replaying.proofs.Entries.{bytes-size, bytes-back}
 use Rattle.base.proofs.Lent.{over-length, over-rest}
 use Rattle.planning.specs.Calls.{refuse, searched, search-in, plan-tests, plan-in, plan-call}
-use Rattle.planning.specs.Claims.{BestWritten, PlanClaim, DemandThree}
+use Rattle.planning.specs.Claims.{BestWritten, PlanClaim, Demand, DemandThree, CallsThree}
 use Rattle.planning.proofs.Layers.{from-before, from-rest, from-length, from-table}
 
 -- where neither list is too short, planning is what the search finds
@@ -98,13 +100,19 @@ module _ (j : Job) (m : PinMap) (a : Aim) (o : Order) (s : ℕ) (start : Levels)
   pub plan-claim : PlanClaim j m a o s start table entries (plan-in j m a o s start table entries)
   plan-claim = rw (plan-searches j m a o s start table entries room space) search-claim
 
-pub demand-three : DemandThree
+-- whatever calls were made: a history of the set is enough
+demanded : (b : List ℕ) (j : Job) (n : ℕ) → parse opening b ≡ took j n → (answers : List (Option ℕ)) (m : PinMap) (r : CallsMade) → HistoryClaim b j n answers m r → Demand b j n answers m r
 unfolding plan-call on-read
-demand-three b j n parsed calls =
-    let h = history b j n parsed calls in
+demanded b j n parsed answers m r h =
     let k = limited j (well-read opening b j n parsed .well-formed) in
     record {
       history = h;
       planning = λ a o table entries room space.
           rw (h .passes, h .pins) (plan-claim j _ a o 0 (j .start) (omega (arith, k .choices)) (omega (arith, k .rates)) (omega arith) table entries room (omega (arith, space)));
     }
+
+pub demand-three : DemandThree
+demand-three b j n parsed clicks = demanded b j n parsed _ _ _ (history b j n parsed clicks)
+
+pub calls-three : CallsThree
+calls-three b j n parsed calls = demanded b j n parsed _ _ _ (call-history b j n parsed calls)

@@ -8,4 +8,6 @@ pub mod Refilling
 pub mod Reading
 pub mod DemandThree
 pub mod Refusals
+pub mod Seeing
+pub mod Sittings
 pub mod Cases

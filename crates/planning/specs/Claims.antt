@@ -9,7 +9,7 @@ use lib.ListN.{length, getD, take, drop}
 use Rattle.base.specs.Answer.{refused, gives}
 use Rattle.base.specs.Refusals.{condition}
 use Rattle.model.specs.Job.{Line, Coding, Levels, Job, Entry, intervals}
-use Rattle.model.specs.Pins.{PinMap, Call, no-pins, pins-after}
+use Rattle.model.specs.Pins.{PinMap, Call, Click, no-pins, pins-after, answers, clicks-after, click-answers}
 use Rattle.model.specs.Admissible.{Admissible}
 use Rattle.model.specs.Replay.{greatest-distortion, totals}
 use Rattle.model.specs.Best.{Order, unlimited, Aim, total, even}
@@ -20,7 +20,7 @@ use Rattle.format.specs.JobBytes.{header-in, parse, opening, archive}
 use Rattle.format.specs.Claims.{Drains}
 use Rattle.pinning.specs.PinSet.{PinSet, lines}
 use Rattle.pinning.specs.Check.{Matches, checked}
-use Rattle.pinning.specs.Calls.{Handed, open-call, call, run}
+use Rattle.pinning.specs.Calls.{Handed, CallsMade, open-call, call, run, run-clicks}
 use Rattle.pinning.specs.Claims.{HistoryClaim}
 use Rattle.replaying.specs.Entries.{entry-bytes, plan-from, plan-of, shaped}
 use Rattle.planning.specs.Rule.{Allowed, layer-from}
@@ -54,10 +54,10 @@ module _ (j : Job) (m : PinMap) (a : Aim) (o : Order) (s : ℕ) (start : Levels)
     pub table-rest : drop (words j) (r .table) ≡ drop (words j) table
     pub table-size : length (r .table) ≡ length table
 
--- demand 3 of one list of calls, refused ones included, from the set that opening answers: the set holds what the book of document 01 holds, and planning then, by either aim and in either order, is as claimed for the book's lines
-pub record Demand (b : List ℕ) (j : Job) (n : ℕ) (calls : List Call) : Type 0 where
-  pub history : HistoryClaim b j n calls (run b (open-call opening b .set) calls)
-  pub planning : (a : Aim) (o : Order) (table entries : List ℕ) → words j ≤ length table → 3 * intervals j ≤ length entries → PlanClaim j (pins-after (j .choices) (no-pins (length (j .units))) calls) a o 0 (j .start) table entries (plan-call b (run b (open-call opening b .set) calls .set) a o table entries)
+-- demand 3 of calls from the set that opening answers, refused ones included, with the book beside it, which gave these answers and has these lines: the set holds what the book holds, and planning then, by either aim and in either order, is as claimed for the book's lines
+pub record Demand (b : List ℕ) (j : Job) (n : ℕ) (answers : List (Option ℕ)) (m : PinMap) (r : CallsMade) : Type 0 where
+  pub history : HistoryClaim b j n answers m r
+  pub planning : (a : Aim) (o : Order) (table entries : List ℕ) → words j ≤ length table → 3 * intervals j ≤ length entries → PlanClaim j m a o 0 (j .start) table entries (plan-call b (r .set) a o table entries)
 
 -- a refusal leaves both lists as they came, 13 the table aside
 pub record Keeping (table entries : List ℕ) (r : Planned) : Type 0 where
@@ -66,9 +66,13 @@ pub record Keeping (table entries : List ℕ) (r : Planned) : Type 0 where
 
 -- The claims.
 
--- demand 3, whole, of every job that opening takes: one claim about every list of calls with the planning after it
+-- demand 3, whole, of every job that opening takes: one claim about every list of clicks, calls by themselves and calls that see, with the planning after it
 abbrev pub DemandThree : Type 0
-DemandThree = (b : List ℕ) (j : Job) (n : ℕ) → parse opening b ≡ took j n → (calls : List Call) → Demand b j n calls
+DemandThree = (b : List ℕ) (j : Job) (n : ℕ) → parse opening b ≡ took j n → (clicks : List Click) → Demand b j n (click-answers (words j) (j .choices) (no-pins (length (j .units))) clicks) (clicks-after (words j) (j .choices) (no-pins (length (j .units))) clicks) (run-clicks b (open-call opening b .set) clicks)
+
+-- so of every list of pins and lifts, with document 01's book
+abbrev pub CallsThree : Type 0
+CallsThree = (b : List ℕ) (j : Job) (n : ℕ) → parse opening b ≡ took j n → (calls : List Call) → Demand b j n (answers (j .choices) (no-pins (length (j .units))) calls) (pins-after (j .choices) (no-pins (length (j .units))) calls) (run b (open-call opening b .set) calls)
 
 -- demands 1 and 3, of planning with any set: the job, 1 to 5 and 17, then the set, the table and the list for the entries; where nothing of these refuses it, 13 or a best plan
 abbrev pub PlanCalls : Type 0

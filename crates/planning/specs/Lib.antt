@@ -4,5 +4,7 @@ pub mod Passes
 pub mod Prices
 pub mod Words
 pub mod Calls
+pub mod See
 pub mod Claims
+pub mod Seeing
 pub mod Cases

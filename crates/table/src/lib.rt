@@ -155,7 +155,7 @@ fn fill_last(part: &mut [u32], size: usize)
 }
 
 // Fills the layers from `first` on, up to the one before `last`, each from the one behind it: the last of them from what stands in layer `last`, whatever that is. One interval's layer is a part of the table that starts at the layer's first word.
-fn fill_layers(
+pub fn fill_layers(
     job: &[u8],
     header: Header,
     line: Line,
