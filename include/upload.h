@@ -374,8 +374,8 @@ uint32_t upload_lift_and_see(const uint8_t *job, size_t job_len,
    order:   one of enum upload_order.
    table, entries, values: written as upload_plan writes them.
 
-   Refusals in order: 1 to 5, with 17 directly after 3; 2 for another aim, then
-   for another order; 6; 11; 12 where `entries` or `values` is too short; 13,
+   Refusals in order: 1 to 5, with 17 directly after 3; 6; 2 for another aim,
+   then for another order; 11; 12 where `entries` or `values` is too short; 13,
    which leaves `table` written, and `entries` and `values` as they were. */
 uint32_t upload_plan_set(const uint8_t *job, size_t job_len,
                          const uint32_t *set, size_t set_len,

@@ -16,10 +16,11 @@ use Rattle.model.specs.Table.{words}
 use Rattle.format.specs.Parser.{on-read, refusal-in}
 use Rattle.format.specs.JobBytes.{parse, Door, opening, archive}
 use Rattle.pinning.specs.PinSet.{PinSet}
+use Rattle.pinning.specs.Check.{checked}
 use Rattle.pinning.specs.Calls.{CallsMade, open-call, run}
 use Rattle.replaying.specs.Entries.{entry-size}
 use Rattle.replaying.specs.Calls.{Replayed, replay-tests, replay-call}
-use Rattle.planning.specs.Calls.{Planned, plan-call}
+use Rattle.planning.specs.Calls.{Planned, plan-tests, plan-call}
 use Rattle.planning.specs.Calls as plan
 use Rattle.calling.specs.Commands.{commands-call, calls-of, calls-tests}
 
@@ -52,9 +53,13 @@ aim-named n = if eqb n 1 then even else total
 unfoldable pub order-named : ℕ → Order
 order-named n = if eqb n 1 then late else early
 
+-- a number that names no aim, then one that names no order is 2
+abbrev pub named-tests : ℕ → ℕ → List Test
+named-tests aim order = test 2 (leb aim 1) ∷ test 2 (leb order 1) ∷ []
+
 -- what is asked, by numbers: aim and order, 2, then the calls, 2 or 1
 unfoldable pub asked-tests : List ℕ → ℕ → ℕ → List Test
-asked-tests calls aim order = test 2 (leb aim 1) ∷ test 2 (leb order 1) ∷ calls-tests calls
+asked-tests calls aim order = named-tests aim order ++ calls-tests calls
 
 -- The calls and the planning after them: what planning answers and leaves, and the list for the calls' numbers.
 pub record Session : Type 0 where
@@ -97,3 +102,13 @@ input-size = 32768
 -- what the program plans: 15 first, then a job and commands to the end of the bytes, the first refusal ending it, then planning for the least total, in document 01's order
 unfoldable pub input-call : List ℕ → List ℕ → List ℕ → Planned
 input-call b table entries = guarded (plan.refuse table entries) (test 15 (leb (length b) input-size) ∷ []) (unless (plan.refuse table entries) (commands-call b .refused) (plan-call b (commands-call b .set) total late table entries))
+
+-- With a set in place of calls: what refuses planning before the search, and a replay: the job by its door, the set, 6, aim and order, 2, then the lists.
+unfoldable pub set-plan-tests : Job → ℕ → ℕ → ℕ → ℕ → List Test
+set-plan-tests j aim order table entries = named-tests aim order ++ plan-tests j 0 table entries
+
+unfoldable pub set-plan-refusal : List ℕ → PinSet → ℕ → ℕ → ℕ → ℕ → Option ℕ
+set-plan-refusal b s aim order table entries = refusal-in (checked opening b s) (λ j. set-plan-tests j aim order table entries)
+
+unfoldable pub set-replay-refusal : List ℕ → PinSet → List ℕ → ℕ → Option ℕ
+set-replay-refusal b s entries levels = refusal-in (checked archive b s) (λ j. replay-tests j entries levels)

@@ -1,3 +1,5 @@
 -- What the exported calls answer and leave, and what is claimed of them.
 pub mod Exports
+pub mod Sets
 pub mod Claims
+pub mod SetClaims
