@@ -5,7 +5,7 @@ ghost use Rattle.replay.specs.Answers.{ended};
 ghost use Rattle.base.specs.Refusals.{refusal};
 ghost use Rattle.planner.specs.Answers.{aim-is};
 ghost use Rattle.best.specs.Answers.{order-is};
-ghost use Rattle.calling.specs.Sessions.{aim-named, order-named, asked-tests, plan-refusal, session-call, replay-refusal, replay-session};
+ghost use Rattle.calling.specs.Sessions.{aim-named, order-named, named-tests, asked-tests, plan-refusal, session-call, replay-refusal, replay-session};
 ghost use Rattle.session.specs.Answers.{session-is};
 use best::Order;
 use header::Door;
@@ -20,7 +20,7 @@ const EVEN: u32 = 1;
 
 const LATE: u32 = 1;
 
-fn aim_named(aim: u32) -> Aim
+pub fn aim_named(aim: u32) -> Aim
     ensures { λ r. ⌜ aim-is r ≡ aim-named aim ⌝ }
 {
     if aim == EVEN {
@@ -29,7 +29,7 @@ fn aim_named(aim: u32) -> Aim
     Aim::Total
 }
 
-fn order_named(order: u32) -> Order
+pub fn order_named(order: u32) -> Order
     ensures { λ r. ⌜ order-is r ≡ order-named order ⌝ }
 {
     if order == LATE {
@@ -38,15 +38,25 @@ fn order_named(order: u32) -> Order
     Order::Early
 }
 
-// What is asked, by numbers: one that names no aim, then one that names no order is 2; then the calls, 2 or 1.
-fn asked_verdict(calls: &[u16], aim: u32, order: u32) -> Verdict
-    ensures { λ r. ⌜ verdict r ≡ refusal (asked-tests (now (calls .entry)) aim order) ⌝ }
+// A number that names no aim, then one that names no order is 2.
+pub fn named_verdict(aim: u32, order: u32) -> Verdict
+    ensures { λ r. ⌜ verdict r ≡ refusal (named-tests aim order) ⌝ }
 {
     if EVEN < aim {
         return Verdict::Refused(header::refusal::NOT_DUE);
     }
     if LATE < order {
         return Verdict::Refused(header::refusal::NOT_DUE);
+    }
+    Verdict::Fits
+}
+
+// What is asked, by numbers: aim and order, then the calls, 2 or 1.
+fn asked_verdict(calls: &[u16], aim: u32, order: u32) -> Verdict
+    ensures { λ r. ⌜ verdict r ≡ refusal (asked-tests (now (calls .entry)) aim order) ⌝ }
+{
+    if let Verdict::Refused(n) = named_verdict(aim, order) {
+        return Verdict::Refused(n);
     }
     calls::calls_verdict(calls)
 }
