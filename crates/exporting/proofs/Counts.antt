@@ -27,6 +27,7 @@ use Rattle.pinning.specs.Check.{checked, accept, fits}
 use Rattle.model.proofs.Drains.{zip-length}
 use Rattle.replaying.specs.Calls.{Replayed, totals-are, replayed, played, replay-call}
 use Rattle.replaying.specs.Entries.{plan-of}
+use Rattle.pinning.proofs.Agree.{checked-parsed}
 use Rattle.planning.specs.Calls as p
 use Rattle.planning.specs.Calls.{searched, search-in, plan-in, plan-call}
 use Rattle.calling.specs.Sessions as s
@@ -43,16 +44,6 @@ Counts n a = (t : Totals) → a ≡ gives t → length (t .unused) ≡ n
 
 no-count : (n m : ℕ) → Counts n (refused m)
 no-count n m t e = absurd (not-refused (sym e))
-
--- a job that the set matches was read
-was-read : (d : Door) (b : List ℕ) (s : PinSet) (q : P.Result Job) (j : Job) (k : ℕ) → parse d b ≡ q → accept s q ≡ P.took j k → parse d b ≡ P.took j k
-unfolding accept
-was-read d b s (P.refused n) j k e a = absurd (let z : _≡_ {A = ℕ} 0 1 = cc in omega arith)
-was-read d b s (P.took i m) j k e a = e ∙ go (fits _ _ s) a
-  where
-    go : (t : Bool) → (if t then P.took i m else P.refused 6) ≡ P.took j k → P.took i m ≡ P.took j k
-    go true a = unfold if_then_else_ in a
-    go false a = absurd (let z : _≡_ {A = ℕ} 0 1 = unfold if_then_else_ in cc in omega arith)
 
 -- what holds of every refusal and of the work holds of the answer
 guarded-all : {R : Type 0} (Q : R → Type 0) (refuse : ℕ → R) (ts : List Test) (work : R) → ((n : ℕ) → Q (refuse n)) → Q work → Q (guarded refuse ts work)
@@ -80,12 +71,12 @@ search-counts j m a o table entries e = go (least-total j (open-for a j m 0 (j .
     go (some v) = unfold searched in (λ t q. ap (λ (x : Totals). length (x .unused)) (sym (gives-same q)) ∙ totals-count j (j .start) _ e)
 
 module _ (b : List ℕ) where
-  plan-counts : (set : PinSet) (a : Aim) (o : Order) (table entries : List ℕ) → Counts (buckets-in b) (plan-call b set a o table entries .answer)
-  unfolding plan-call plan-in p.refuse checked
+  pub plan-counts : (set : PinSet) (a : Aim) (o : Order) (table entries : List ℕ) → Counts (buckets-in b) (plan-call b set a o table entries .answer)
+  unfolding plan-call plan-in p.refuse
   plan-counts set a o table entries =
       read-all (λ (x : p.Planned). Counts (buckets-in b) (x .answer)) (p.refuse table entries) (checked opening b set) _ (λ n. no-count _ n)
       (λ j k e.
-      let q : parse opening b ≡ P.took j k = was-read opening b set (parse opening b) j k refl e in
+      let q : parse opening b ≡ P.took j k = checked-parsed opening b set j k e in
       guarded-all (λ (x : p.Planned). Counts (buckets-in b) (x .answer)) (p.refuse table entries) _ _ (λ n. no-count _ n)
       (subst (λ (n : ℕ). Counts n (search-in j (lines (length (j .units)) (set .pins)) a o 0 (j .start) table entries .answer)) (of-job opening b j k q) (search-counts j _ a o table entries (well-read opening b j k q .well-formed .fills))))
 
@@ -113,12 +104,16 @@ module _ (b : List ℕ) where
           same a = unfold replayed in cc
       go (stopped n v) a = absurd (let z : _≡_ {A = ℕ} 0 1 = unfold replayed in cc in omega arith)
 
+  pub set-counts : (set : PinSet) (entries levels : List ℕ) → ReplayCounts (replay-call b set entries levels .answer)
+  unfolding replay-call lent.refuse
+  set-counts set entries levels =
+      read-all (λ (x : lent.Ended Replayed). ReplayCounts (x .answer)) (lent.refuse levels) (checked archive b set) _ no-replay
+      (λ j k e.
+      let q : parse archive b ≡ P.took j k = checked-parsed archive b set j k e in
+      guarded-all (λ (x : lent.Ended Replayed). ReplayCounts (x .answer)) (lent.refuse levels) _ _ no-replay (played-counts j _ entries levels (of-job archive b j k q) (well-read archive b j k q .well-formed .fills)))
+
   pub replay-counts : (calls entries levels : List ℕ) → ReplayCounts (replay-session b calls entries levels .answer)
-  unfolding replay-session replay-call lent.refuse checked
+  unfolding replay-session lent.refuse
   replay-counts calls entries levels =
       read-all (λ (x : lent.Ended Replayed). ReplayCounts (x .answer)) (lent.refuse levels) (parse archive b) _ no-replay
-      (λ j k e. guarded-all (λ (x : lent.Ended Replayed). ReplayCounts (x .answer)) (lent.refuse levels) _ _ no-replay
-      (read-all (λ (x : lent.Ended Replayed). ReplayCounts (x .answer)) (lent.refuse levels) (checked archive b (made archive b calls .set)) _ no-replay
-      (λ i m f.
-      let q : parse archive b ≡ P.took i m = was-read archive b (made archive b calls .set) (parse archive b) i m refl f in
-      guarded-all (λ (x : lent.Ended Replayed). ReplayCounts (x .answer)) (lent.refuse levels) _ _ no-replay (played-counts i _ entries levels (of-job archive b i m q) (well-read archive b i m q .well-formed .fills)))))
+      (λ j k e. guarded-all (λ (x : lent.Ended Replayed). ReplayCounts (x .answer)) (lent.refuse levels) _ _ no-replay (set-counts (made archive b calls .set) entries levels))
