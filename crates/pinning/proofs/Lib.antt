@@ -7,3 +7,4 @@ pub mod History
 pub mod Archive
 pub mod Refusals
 pub mod Loops
+pub mod Numbers
