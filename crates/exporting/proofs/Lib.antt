@@ -2,4 +2,5 @@
 pub mod Fields
 pub mod Rooms
 pub mod Counts
+pub mod SetRooms
 pub mod Exports

@@ -31,6 +31,7 @@ use Rattle.pinset.proofs.Answering.{ready}
 use Rattle.table.specs.Answers.{table-words}
 use Rattle.table.proofs.Words.{words-are}
 use Rattle.planning.specs.See.{Seen, keep, unit-of, renewed, seen, see-in, see-call}
+use Rattle.planning.specs.Seeing.{refused-by}
 use Rattle.see.specs.Answers.{Renews, Renewed}
 
 -- a call for a job that the set matches
@@ -129,6 +130,11 @@ module _ (b : List ℕ) (s : PinSet) (k : Call) where
       short-seen l = rw (a .checks) (see-short j s k table (a .passes) (omega (arith, words-told)))
 
       module _ (room : table-words (t .header) ≤ length table) where
+        -- with room for the table nothing refuses it
+        pub not-short : refused-by (see-call b s k table .answer) ≡ none
+        unfolding see-call on-read seen refused-by
+        not-short = rw (a .checks, ← see-done j s k table (a .passes) (omega (arith, words-told))) refl
+
         pub renews : Renews b (t .header) t u table
         renews = record {
           ready = new-ready;

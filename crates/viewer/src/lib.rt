@@ -1,6 +1,9 @@
 // Pins and lifts that see, with a set of pins as numbers: the set, the table and the least total in lists that an editor's tool lends.
 ghost use mathlib.Core.Path.{_≡_};
+ghost use Prim.Native.Nat.{_≤_};
+ghost use mathlib.Core.List.{[], _∷_};
 ghost use lib.ListN.{length};
+ghost use Rattle.base.specs.Lent.{over};
 ghost use Rattle.model.specs.Pins.{pin, lift};
 ghost use Rattle.pins.specs.Answers.{handed};
 ghost use Rattle.exporting.specs.Sets.{seen, see-export};
@@ -32,6 +35,14 @@ fn unseen(made: Handed, table: usize) -> u32
     }
 }
 
+// The word of the starting levels.
+fn put_word(values: &mut [u64], word: u32)
+    requires { ⌜ 1 ≤ length (now values) ⌝ }
+    ensures { λ _. ⌜ now (values .exit) ≡ over (word ∷ []) (now (values .entry)) ⌝ }
+{
+    values[0] = word as u64;
+}
+
 // The number of what was seen; where the call was taken, the set that it left and the word are written.
 fn tell(sight: Seen, set: &mut [u32], values: &mut [u64]) -> u32
     requires { ⌜ Room sight (length (now set)) (length (now values)) ⌝ }
@@ -43,7 +54,7 @@ fn tell(sight: Seen, set: &mut [u32], values: &mut [u64]) -> u32
         Sight::Refused(n) => n as u32,
         Sight::Word(word) => {
             numbers::put_set(new, set);
-            values[0] = word as u64;
+            put_word(values, word);
             DONE
         }
     }

@@ -1,0 +1,2 @@
+-- The parts of a set's numbers.
+pub mod Parts
