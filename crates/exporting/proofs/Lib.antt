@@ -3,3 +3,4 @@ pub mod Fields
 pub mod Rooms
 pub mod Counts
 pub mod Exports
+pub mod Sets
