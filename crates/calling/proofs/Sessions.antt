@@ -45,7 +45,7 @@ use Rattle.planning.specs.Claims.{PlanClaim}
 use Rattle.planning.proofs.DemandThree.{calls-three}
 use Rattle.planning.proofs.Refusals as planning
 use Rattle.calling.specs.Commands.{calls-of, calls-tests}
-use Rattle.calling.specs.Sessions.{made, answer-number, numbers, aim-named, order-named, asked-tests, answers-tests, calls-refusal, calls-call, Session, refuse, session-tests, plan-refusal, planned-after, session-call, replay-refusal, replay-session}
+use Rattle.calling.specs.Sessions.{made, answer-number, numbers, aim-named, order-named, named-tests, asked-tests, answers-tests, calls-refusal, calls-call, Session, refuse, session-tests, plan-refusal, planned-after, session-call, replay-refusal, replay-session}
 use Rattle.calling.specs.Claims.{Either, Named, AllKinds, Whole, book-numbers, book-pins, archive-pins, ReplayPins, SessionClaim, SessionKeeping, CallSessions, Sessions, SessionKeeps, ReplaySessions, ReplaySessionKeeps}
 use Rattle.calling.proofs.Numbers.{calls-decide}
 
@@ -61,9 +61,12 @@ one-of-two n = (λ e. go n (leb-true n 1 e), λ e. le-leb n 1 (low e))
     low (inl e) = omega arith
     low (inr e) = omega arith
 
+pub named-decide : (aim order : ℕ) → Decides (named-tests aim order) (condition 2 (Either aim) ∷ condition 2 (Either order) ∷ [])
+named-decide aim order = one-more refl (one-of-two aim) (one-more refl (one-of-two order) no-more)
+
 asked-decide : (calls : List ℕ) (aim order : ℕ) → Decides (asked-tests calls aim order) (condition 2 (Either aim) ∷ condition 2 (Either order) ∷ condition 2 (AllKinds calls) ∷ condition 1 (Whole calls) ∷ [])
 unfolding asked-tests
-asked-decide calls aim order = one-more refl (one-of-two aim) (one-more refl (one-of-two order) (calls-decide calls))
+asked-decide calls aim order = decides-join (named-decide aim order) (calls-decide calls)
 
 pub named : Named
 unfolding aim-named order-named if_then_else_

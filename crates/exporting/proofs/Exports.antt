@@ -1,7 +1,7 @@
 -- The claims of the exported calls, composed from those of the calls within them: `Opening`, `Calling`, `Plans`, `Replays`, `Reports`, `Turns` and `Writes`.
 use Prim.Native.Nat.{ℕ, _+_, _*_, _/_, _≤_}
 use mathlib.Core.Path.{_≡_, refl, sym, _∙_, ap, ap₂, subst}
-use mathlib.Core.Logic.{_⊎_}
+use mathlib.Core.Logic.{_⊎_, _↔_}
 use mathlib.Core.Option.{Option, none, some}
 use mathlib.Core.List.{List, [], _∷_, _++_}
 use native.Mathlib.Omega.{arith}
@@ -13,8 +13,10 @@ use Rattle.base.specs.Lent.{over, put}
 use Rattle.base.specs.Lent as lent
 use Rattle.base.proofs.Refusals.{Decides, no-more, one-more, decides-join, AllHold, in-order, guarded-here, guarded-last, unless-some, unless-none}
 use Rattle.base.proofs.Lent.{put-given, put-refused}
-use Rattle.model.specs.Job.{Job, intervals}
-use Rattle.model.specs.Pins.{pin-totals}
+use Rattle.model.specs.Job.{Job, Entry, intervals}
+use Rattle.model.specs.Pins.{PinMap, pin-totals}
+use Rattle.model.specs.Admissible.{Admissible}
+use Rattle.model.specs.Best.{Aim, Order}
 use Rattle.model.specs.Replay.{Totals}
 use Rattle.model.specs.Table.{words}
 use Rattle.format.specs.Parser.{Looks, on-read, on-took, refusal-in}
@@ -29,6 +31,8 @@ use Rattle.replaying.specs.Calls.{Replayed, totals-are, violated, report-call, 
 use Rattle.replaying.proofs.Reports.{replay-decides, reports}
 use Rattle.replaying.specs.Former.{turn-call}
 use Rattle.replaying.proofs.Former.{turns}
+use Rattle.planning.specs.Calls as planning
+use Rattle.planning.specs.Claims.{PlanClaim}
 use Rattle.writing.specs.Calls.{write-refusal, write-call}
 use Rattle.format.specs.Places.{job-size}
 use Rattle.writing.specs.Claims.{Asks}
@@ -48,31 +52,31 @@ use Rattle.replaying.specs.Claims.{InShape, DemandTwo, Reported, WasPlan, Turne
 use Rattle.replaying.specs.Entries.{plan-of}
 
 -- room for so many values
-room-decides : (least : ℕ) (values : List ℕ) → Decides (room-for least values) (condition 12 (least ≤ length values) ∷ [])
+pub room-decides : (least : ℕ) (values : List ℕ) → Decides (room-for least values) (condition 12 (least ≤ length values) ∷ [])
 room-decides least values = one-more refl (leb-true least (length values), le-leb least (length values)) no-more
 
 -- a call whose refusal is found first, then room for its values
-module _ {R : Type 0} (refuse : ℕ → R) (d : Door) (b : List ℕ) (tests : Job → List Test) (least : ℕ) (values : List ℕ) (work : R) where
-  abbrev whole : R
-  whole = unless refuse (first (refusal-in (parse d b) tests) (refusal (room-for least values))) work
+module _ {R : Type 0} (refuse : ℕ → R) (reading : P.Result Job) (tests : Job → List Test) (least : ℕ) (values : List ℕ) (work : R) where
+  abbrev pub whole : R
+  whole = unless refuse (first (refusal-in reading tests) (refusal (room-for least values))) work
 
-  all-tests : whole ≡ on-read refuse (parse d b) (λ j. guarded refuse (tests j ++ room-for least values) work)
-  all-tests = ap (λ (o : Option ℕ). unless refuse o work) (refusal-in-join (parse d b) tests (room-for least values)) ∙ read-refusal refuse (parse d b) (λ j. tests j ++ room-for least values) work
+  pub all-tests : whole ≡ on-read refuse reading (λ j. guarded refuse (tests j ++ room-for least values) work)
+  all-tests = ap (λ (o : Option ℕ). unless refuse o work) (refusal-in-join reading tests (room-for least values)) ∙ read-refusal refuse reading (λ j. tests j ++ room-for least values) work
 
-  looks : (conditions : Job → List Condition) (Else : Job → R → Type 0) → ((j : Job) (k : ℕ) → parse d b ≡ P.took j k → Decides (tests j) (conditions j) × (AllHold (conditions j ++ (condition 12 (least ≤ length values) ∷ [])) → Else j work)) → Looks whole refuse (parse d b) (λ j. conditions j ++ (condition 12 (least ≤ length values) ∷ [])) (λ j. Else j whole)
+  looks : (conditions : Job → List Condition) (Else : Job → R → Type 0) → ((j : Job) (k : ℕ) → reading ≡ P.took j k → Decides (tests j) (conditions j) × (AllHold (conditions j ++ (condition 12 (least ≤ length values) ∷ [])) → Else j work)) → Looks whole refuse reading (λ j. conditions j ++ (condition 12 (least ≤ length values) ∷ [])) (λ j. Else j whole)
   looks conditions Else f =
       rw all-tests
-      (looks-read refuse (parse d b) (λ j. tests j ++ room-for least values) (λ j. conditions j ++ (condition 12 (least ≤ length values) ∷ [])) (λ j. work) Else
+      (looks-read refuse reading (λ j. tests j ++ room-for least values) (λ j. conditions j ++ (condition 12 (least ≤ length values) ∷ [])) (λ j. work) Else
       (λ j k e. let h = f j k e in (decides-join (h .0) (room-decides least values), h .1)))
 
 -- the same with the room said of the job that was read
-of-job : {R : Type 0} (r : R) (refuse : ℕ → R) (d : Door) (b : List ℕ) (conditions : Job → List Condition) (values : List ℕ) (Else : Job → Type 0) (least : ℕ) (most : Job → ℕ) → ((j : Job) (k : ℕ) → parse d b ≡ P.took j k → least ≡ most j) → Looks r refuse (parse d b) (λ j. conditions j ++ (condition 12 (least ≤ length values) ∷ [])) Else → Looks r refuse (parse d b) (λ j. conditions j ++ (condition 12 (most j ≤ length values) ∷ [])) Else
+pub of-job : {R : Type 0} (r : R) (refuse : ℕ → R) (d : Door) (b : List ℕ) (conditions : Job → List Condition) (values : List ℕ) (Else : Job → Type 0) (least : ℕ) (most : Job → ℕ) → ((j : Job) (k : ℕ) → parse d b ≡ P.took j k → least ≡ most j) → Looks r refuse (parse d b) (λ j. conditions j ++ (condition 12 (least ≤ length values) ∷ [])) Else → Looks r refuse (parse d b) (λ j. conditions j ++ (condition 12 (most j ≤ length values) ∷ [])) Else
 of-job r refuse d b conditions values Else least most q l = (
   l .0,
   λ j k e. subst (λ (n : ℕ). InOrder r refuse (conditions j ++ (condition 12 (n ≤ length values) ∷ [])) (Else j)) (q j k e) (l .1 j k e),
 )
 
-counted : (d : Door) (b : List ℕ) (j : Job) (k : ℕ) → parse d b ≡ P.took j k → buckets-in b ≡ length (j .line .buckets)
+pub counted : (d : Door) (b : List ℕ) (j : Job) (k : ℕ) → parse d b ≡ P.took j k → buckets-in b ≡ length (j .line .buckets)
 counted d b j k e = ap (λ (i : Job). length (i .line .buckets)) (held-job d b j k e)
 
 -- a number that is no refusal's
@@ -80,6 +84,31 @@ number-none : {A : Type 0} (a : Answer A) (n : ℕ) → number-of a ≡ n → (n
 unfolding number-of
 number-none (refused m) n e f = rw e
 number-none (gives a) n e f = absurd (f (sym e))
+
+thirteen : {A : Type 0} (a : Answer A) → number-of a ≡ 13 → a ≡ refused 13
+thirteen a e = number-none a 13 e (λ z. omega arith)
+
+is-thirteen : {A : Type 0} (a : Answer A) → a ≡ refused 13 → number-of a ≡ 13
+unfolding number-of
+is-thirteen a e = rw e
+
+-- what the number tells of planning of which demand 3 holds, and which values it writes
+module _ (j : Job) (m : PinMap) (a : Aim) (o : Order) (table entries values : List ℕ) (r : planning.Planned) (c : PlanClaim j m a o 0 (j .start) table entries r) where
+  pub number-iff : (number-of (r .answer) ≡ 13) ↔ ((p : List Entry) → Admissible j m 0 (j .start) p → ⊥)
+  number-iff = (λ e. c .none-iff .0 (thirteen (r .answer) e), λ f. is-thirteen (r .answer) (c .none-iff .1 f))
+
+  pub number-kept : number-of (r .answer) ≡ 13 → (r .entries ≡ entries) × (put (r .answer) totals-list values ≡ values)
+  number-kept e = let none-is = thirteen (r .answer) e in (c .none-kept none-is, put-refused (r .answer) 13 totals-list values none-is)
+
+  pub number-else : (number-of (r .answer) ≡ 13 → ⊥) → number-of (r .answer) ≡ 0
+  number-else f = zero (c .else-best (λ e. f (is-thirteen (r .answer) e)) .totals-are)
+    where
+      zero : {t : Totals} → r .answer ≡ gives t → number-of (r .answer) ≡ 0
+      zero e = unfold number-of in (rw e)
+
+pub totals-put : (x : Answer Totals) (t : Totals) (values : List ℕ) → x ≡ gives t → put x totals-list values ≡ over (t .distortion ∷ t .source ∷ t .channel ∷ t .unused) values
+unfolding totals-list
+totals-put x t values e = put-given x t totals-list values e
 
 -- the values of a job that opens
 values-of : (d : Door) (b : List ℕ) (j : Job) (k : ℕ) → parse d b ≡ P.took j k → opened-values k (header-in j) ≡ k ∷ length (j .units) ∷ intervals j ∷ words j ∷ []
@@ -98,7 +127,7 @@ opening d b values = (
 pub calling : Calling
 unfolding calls-export calls-refusal
 calling b calls answers values =
-    looks (λ n. called n answers values) format.opening b (λ j. answers-tests calls (length answers)) 3 values (after-calls (calls-call b calls answers) values) (λ j. CallConditions calls ++ (condition 12 (length calls / 3 ≤ length answers) ∷ [])) (λ j r. r ≡ called 0 (over (book-numbers j calls) answers) (over (pins-list (pin-totals j (book-pins j calls))) values))
+    looks (λ n. called n answers values) (parse format.opening b) (λ j. answers-tests calls (length answers)) 3 values (after-calls (calls-call b calls answers) values) (λ j. CallConditions calls ++ (condition 12 (length calls / 3 ≤ length answers) ∷ [])) (λ j r. r ≡ called 0 (over (book-numbers j calls) answers) (over (pins-list (pin-totals j (book-pins j calls))) values))
     (λ j k e. (
       unfold answers-tests in (decides-join (calls-decide calls) (one-more refl (leb-true (length calls / 3) (length answers), le-leb (length calls / 3) (length answers)) no-more)),
       λ h. done j (call-sessions b calls answers .1 j k e .1 (h .0) .1 (h .1 .0) .1 (h .1 .1 .0)),
@@ -108,35 +137,24 @@ calling b calls answers values =
     done j q = unfold after-calls number-of put in (rw q)
 
 -- what is exported of a session of which demand 3 holds
-module _ (j : Job) (calls : List ℕ) (aim order : ℕ) (answers table entries values : List ℕ) (s : Session) (c : SessionClaim j calls aim order answers table entries s) where
-  thirteen : number-of (s .planned .answer) ≡ 13 → s .planned .answer ≡ refused 13
-  thirteen e = number-none (s .planned .answer) 13 e (λ z. omega arith)
-
-  is-thirteen : s .planned .answer ≡ refused 13 → number-of (s .planned .answer) ≡ 13
-  unfolding number-of
-  is-thirteen e = rw e
-
-  exported : Planning j calls aim order answers table entries values (after-session s values)
-  unfolding after-session
-  exported = record {
-    session = s;
-    claim = c;
-    is = unfold after-session in refl;
-    lists = (refl, refl, refl);
-    values-are = λ t e. unfold totals-list in (put-given (s .planned .answer) t totals-list values e);
-    none-iff = (λ e. c .planning .none-iff .0 (thirteen e), λ f. is-thirteen (c .planning .none-iff .1 f));
-    none-kept = λ e. (c .none-kept (thirteen e), c .planning .none-kept (thirteen e), put-refused (s .planned .answer) 13 totals-list values (thirteen e));
-    else-done = λ f. zero (c .planning .else-best (λ e. f (is-thirteen e)) .totals-are);
-  }
-    where
-      zero : {t : Totals} → s .planned .answer ≡ gives t → number-of (s .planned .answer) ≡ 0
-      zero e = unfold number-of in (rw e)
+exported : (j : Job) (calls : List ℕ) (aim order : ℕ) (answers table entries values : List ℕ) (s : Session) → SessionClaim j calls aim order answers table entries s → Planning j calls aim order answers table entries values (after-session s values)
+unfolding after-session
+exported j calls aim order answers table entries values s c = record {
+  session = s;
+  claim = c;
+  is = unfold after-session in refl;
+  lists = (refl, refl, refl);
+  values-are = λ t e. totals-put (s .planned .answer) t values e;
+  none-iff = number-iff j _ _ _ table entries values (s .planned) (c .planning);
+  none-kept = λ e. let kept = number-kept j _ _ _ table entries values (s .planned) (c .planning) e in (c .none-kept (thirteen (s .planned .answer) e), kept .0, kept .1);
+  else-done = number-else j _ _ _ table entries values (s .planned) (c .planning);
+}
 
 pub plans : Plans
 unfolding plan-export plan-refusal
 plans b calls aim order answers table entries values =
     of-job _ (λ n. planned n answers table entries values) format.opening b (λ j. PlanConditions j calls aim order answers table entries) values _ (3 + buckets-in b) (λ j. 3 + length (j .line .buckets)) (λ j k e. ap (λ (n : ℕ). 3 + n) (counted format.opening b j k e))
-    (looks (λ n. planned n answers table entries values) format.opening b (λ j. session-tests j calls aim order (length answers) (length table) (length entries)) (3 + buckets-in b) values (after-session (session-call b calls aim order answers table entries) values) (λ j. PlanConditions j calls aim order answers table entries) (λ j r. Planning j calls aim order answers table entries values r)
+    (looks (λ n. planned n answers table entries values) (parse format.opening b) (λ j. session-tests j calls aim order (length answers) (length table) (length entries)) (3 + buckets-in b) values (after-session (session-call b calls aim order answers table entries) values) (λ j. PlanConditions j calls aim order answers table entries) (λ j r. Planning j calls aim order answers table entries values r)
     (λ j k e. (
       session-decides b calls aim order answers table entries j,
       λ h. exported j calls aim order answers table entries values (session-call b calls aim order answers table entries) (sessions b calls aim order answers table entries .1 j k e .1 (h .0) .1 (h .1 .0) .1 (h .1 .1 .0) .1 (h .1 .1 .1 .0) .1 (h .1 .1 .1 .1 .0) .1 (h .1 .1 .1 .1 .1 .0) .1 (h .1 .1 .1 .1 .1 .1 .0)),
@@ -158,18 +176,18 @@ pub replays : Replays
 unfolding replay-export replay-refusal
 replays b calls entries levels values =
     of-job _ (λ n. replayed n levels values) archive b (λ j. ReplayConditions j calls entries levels) values _ (5 + buckets-in b) (λ j. 5 + length (j .line .buckets)) (λ j k e. ap (λ (n : ℕ). 5 + n) (counted archive b j k e))
-    (looks (λ n. replayed n levels values) archive b (λ j. calls-tests calls ++ replay-tests j entries (length levels)) (5 + buckets-in b) values (after-replay (buckets-in b) (replay-session b calls entries levels) values) (λ j. ReplayConditions j calls entries levels) (λ j r. Replaying j calls entries levels values r)
+    (looks (λ n. replayed n levels values) (parse archive b) (λ j. calls-tests calls ++ replay-tests j entries (length levels)) (5 + buckets-in b) values (after-replay (buckets-in b) (replay-session b calls entries levels) values) (λ j. ReplayConditions j calls entries levels) (λ j r. Replaying j calls entries levels values r)
     (λ j k e. (
       decides-join (calls-decide calls) (replay-decides b j k e entries levels),
       λ h. exported-replay j calls entries levels values (buckets-in b) (counted archive b j k e) (replay-session b calls entries levels) (replay-sessions b calls entries levels .1 j k e .1 (h .0) .1 (h .1 .0) .1 (h .1 .1 .0) .1 (h .1 .1 .1 .0)),
     )))
 
 -- an order of refusals, seen through what is exported of a call
-in-order-through : {R S : Type 0} (f : R → S) (r : R) (refuse : ℕ → R) (out : ℕ → S) (cs : List Condition) (A B : Type 0) → ((n : ℕ) → f (refuse n) ≡ out n) → (A → B) → InOrder r refuse cs A → InOrder (f r) out cs B
+pub in-order-through : {R S : Type 0} (f : R → S) (r : R) (refuse : ℕ → R) (out : ℕ → S) (cs : List Condition) (A B : Type 0) → ((n : ℕ) → f (refuse n) ≡ out n) → (A → B) → InOrder r refuse cs A → InOrder (f r) out cs B
 in-order-through f r refuse out [] A B e g p = g p
 in-order-through f r refuse out (c ∷ cs) A B e g p = (λ h. ap f (p .0 h) ∙ e (c .number), λ h. in-order-through f r refuse out cs A B e g (p .1 h))
 
-looks-through : {R S : Type 0} (f : R → S) (r : R) (refuse : ℕ → R) (out : ℕ → S) (reading : P.Result Job) (conditions : Job → List Condition) (A B : Job → Type 0) → ((n : ℕ) → f (refuse n) ≡ out n) → ((j : Job) → A j → B j) → Looks r refuse reading conditions A → Looks (f r) out reading conditions B
+pub looks-through : {R S : Type 0} (f : R → S) (r : R) (refuse : ℕ → R) (out : ℕ → S) (reading : P.Result Job) (conditions : Job → List Condition) (A B : Job → Type 0) → ((n : ℕ) → f (refuse n) ≡ out n) → ((j : Job) → A j → B j) → Looks r refuse reading conditions A → Looks (f r) out reading conditions B
 looks-through f r refuse out reading conditions A B e g l = (λ n q. ap f (l .0 n q) ∙ e n, λ j k q. in-order-through f r refuse out (conditions j) (A j) (B j) e (g j) (l .1 j k q))
 
 refusal-shown : (list : List ℕ) (n : ℕ) → done-export (lent.refuse list n) ≡ filled n list

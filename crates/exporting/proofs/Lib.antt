@@ -4,3 +4,4 @@ pub mod Rooms
 pub mod Counts
 pub mod SetRooms
 pub mod Exports
+pub mod Sets

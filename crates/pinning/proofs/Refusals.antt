@@ -1,22 +1,25 @@
--- A pin or a lift is refused in document 01's order, and then hands back the set as it came: `Refusals` and `Refusing`.
+-- A pin or a lift is refused in document 01's order, and then hands back the set as it came: `Refusals` and `Refusing`; and what refuses a click: `click-refusal`.
 use Rattle.format.specs.JobBytes.{opening}
 use Prim.Native.Nat.{ℕ, _≤_}
 use mathlib.Core.Path.{_≡_, refl}
 use mathlib.Core.Logic.{_↔_}
 use mathlib.Core.Bool.{Bool, true, false, not}
-use mathlib.Core.Option.{some, Option·none-ne-some}
+use mathlib.Core.Option.{Option, none, some, Option·none-ne-some}
+use mathlib.Core.List.{List, [], _∷_, _++_}
 use lib.ListN.{length}
 use native.Mathlib.Omega.{arith}
 use lib.Dec.{eqb}
-use borrow.Author.Tests.{ltb-true, lt-ltb, eqb-true, eqb-false, eq-eqb, ne-eqb}
-use Rattle.base.proofs.Refusals.{Decides, no-more, one-more, Guarded, was-refused, was-done, guarded-is}
+use borrow.Author.Tests.{leb-true, le-leb, ltb-true, lt-ltb, eqb-true, eqb-false, eq-eqb, ne-eqb}
+use Rattle.base.specs.Refusals.{refusal, unless, guarded, condition}
+use Rattle.base.proofs.Refusals.{Decides, no-more, one-more, decides-join, Guarded, was-refused, was-done, guarded-is}
 use Rattle.model.specs.Job.{Job}
-use Rattle.model.specs.Pins.{Call, pin, lift, outside}
-use Rattle.format.specs.Parser.{Result, refused, took, on-read}
+use Rattle.model.specs.Pins.{Call, pin, lift, Click, sees, outside}
+use Rattle.model.specs.Table.{words}
+use Rattle.format.specs.Parser.{Result, refused, took, on-read, refusal-in}
 use Rattle.format.specs.Choices.{no-choice}
 use Rattle.pinning.specs.PinSet.{PinSet}
 use Rattle.pinning.specs.Check.{checked}
-use Rattle.pinning.specs.Calls.{Handed, refuse, take-in, pin-of, call-tests, called, call-in, call}
+use Rattle.pinning.specs.Calls.{Handed, refuse, take-in, pin-of, call-tests, called, call-in, call, call-of, click-tests, click-in, click}
 use Rattle.pinning.specs.Claims.{CallAsks, Refusals, Refusing}
 use Rattle.pinning.proofs.Inside.{inside, within}
 use Rattle.pinning.proofs.Agree.{looks-checked}
@@ -62,3 +65,21 @@ call-decides j s (lift u) = one-more refl (unit-decides j u) (one-more refl (pin
 pub refusals : Refusals
 unfolding call call-in
 refusals b s k = looks-checked (refuse s) opening b s (λ j. call-tests j s k) (λ j. CallAsks j s k) (λ j. take-in (called j s k)) (λ j r. r ≡ take-in (called j s k)) (λ j n e m. (call-decides j s k, λ a. refl))
+
+-- what a call that sees is tested for
+pub sees-decides : (j : Job) (s : PinSet) (k : Call) (n : ℕ) → Decides (click-tests j s (sees k n)) (CallAsks j s k ++ (condition 11 (words j ≤ n) ∷ []))
+unfolding click-tests
+sees-decides j s k n = decides-join (call-decides j s k) (one-more refl (leb-true (words j) n, le-leb (words j) n) no-more)
+
+-- a click is refused by the job, the set and its own tests
+pub click-refusal : (b : List ℕ) (s : PinSet) (k : Click) → click b s k .refused ≡ refusal-in (checked opening b s) (λ j. click-tests j s k)
+unfolding click
+click-refusal b s k = of-reading (checked opening b s)
+  where
+    of-tests : (o : Option ℕ) (t : PinSet) → unless (refuse s) o (take-in t) .refused ≡ o
+    of-tests none t = unfold unless take-in in refl
+    of-tests (some n) t = unfold unless refuse in refl
+
+    of-reading : (r : Result Job) → on-read (refuse s) r (λ j. click-in j s k) .refused ≡ refusal-in r (λ j. click-tests j s k)
+    of-reading (refused n) = unfold on-read refuse refusal-in in refl
+    of-reading (took j n) = unfold on-read click-in guarded refusal-in in (of-tests (refusal (click-tests j s k)) (called j s (call-of k)))

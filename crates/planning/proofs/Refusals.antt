@@ -12,7 +12,7 @@ use borrow.Author.Tests.{leb-true, le-leb}
 use Rattle.base.specs.Answer as base
 use Rattle.base.specs.Refusals.{Test, refusal, unless, guarded, condition}
 use Rattle.base.proofs.Answers.{refused-same, not-refused}
-use Rattle.base.proofs.Refusals.{not-none, no-more, one-more, Guarded, was-refused, was-done, guarded-is}
+use Rattle.base.proofs.Refusals.{not-none, Decides, no-more, one-more, Guarded, was-refused, was-done, guarded-is}
 use Rattle.model.specs.Job.{Levels, Job, Entry, intervals}
 use Rattle.model.specs.Pins.{PinMap}
 use Rattle.model.specs.Admissible.{Admissible}
@@ -31,17 +31,22 @@ use Rattle.planning.specs.Calls.{Planned, refuse, searched, search-in, p
 use Rattle.planning.specs.Claims.{PlanClaim, Keeping, PlanCalls, NeverPlanned, Keeps, NoPlanAlike, NoPlanAnyhow}
 use Rattle.planning.proofs.DemandThree.{search-claim, plan-searches}
 
+-- what planning of a whole job is tested for
+pub plan-decides : (j : Job) (table entries : List ℕ) → Decides (plan-tests j 0 (length table) (length entries)) (condition 11 (words j ≤ length table) ∷ condition 12 (entry-size * intervals j ≤ length entries) ∷ [])
+unfolding plan-tests
+plan-decides j table entries = one-more refl (leb-true (words j) (length table), le-leb (words j) (length table)) (one-more refl entries-decide no-more)
+  where
+    entries-decide : (leb (entry-size * (intervals j - 0)) (length entries) ≡ true) ↔ (entry-size * intervals j ≤ length entries)
+    entries-decide = (λ q. omega (arith, leb-true (entry-size * (intervals j - 0)) (length entries) q), λ q. le-leb (entry-size * (intervals j - 0)) (length entries) (omega arith))
+
 pub plan-calls : PlanCalls
-unfolding plan-call plan-in plan-tests
+unfolding plan-call plan-in
 plan-calls b s a o table entries =
     looks-checked (refuse table entries) opening b s (λ j. plan-tests j 0 (length table) (length entries)) (λ j. condition 11 (words j ≤ length table) ∷ condition 12 (entry-size * intervals j ≤ length entries) ∷ []) (λ j. search-in j (lines (length (j .units)) (s .pins)) a o 0 (j .start) table entries) (λ j r. PlanClaim j (lines (length (j .units)) (s .pins)) a o 0 (j .start) table entries r)
     (λ j k e m. (
-      one-more refl (leb-true (words j) (length table), le-leb (words j) (length table)) (one-more refl (entries-decide j) no-more),
+      plan-decides j table entries,
       λ h. search-claim j (lines (length (j .units)) (s .pins)) a o 0 (j .start) (omega (arith, limited j (well-read opening b j k e .well-formed) .choices)) (omega (arith, limited j (well-read opening b j k e .well-formed) .rates)) (omega arith) table entries (h .0) (omega (arith, h .1)),
     ))
-  where
-    entries-decide : (j : Job) → (leb (entry-size * (intervals j - 0)) (length entries) ≡ true) ↔ (entry-size * intervals j ≤ length entries)
-    entries-decide j = (λ q. omega (arith, leb-true (entry-size * (intervals j - 0)) (length entries) q), λ q. le-leb (entry-size * (intervals j - 0)) (length entries) (omega arith))
 
 module _ (table entries : List ℕ) where
   pub refuse-keeps : (n : ℕ) → Keeping table entries (refuse table entries n)

@@ -9,11 +9,11 @@ use native.Mathlib.Omega.{arith}
 use lib.Dec.{leb}
 use lib.ListN.{length, getD}
 use lib.Seq.{getD-set-other}
-use borrow.Author.Tests.{leb-true, le-leb, lt-leb}
+use borrow.Author.Tests.{le-leb, lt-leb}
 use Rattle.base.specs.Answer.{refused, gives}
 use Rattle.base.specs.If.{if_then_else_}
 use Rattle.base.specs.Refusals.{Test, refusal, unless, guarded, Condition, condition}
-use Rattle.base.proofs.Refusals.{no-more, one-more, decides-join, AllHold}
+use Rattle.base.proofs.Refusals.{AllHold}
 use Rattle.trellis.specs.Table.{charge}
 use Rattle.trellis.specs.Trellis.{Combines}
 use Rattle.model.specs.Job.{Job, intervals}
@@ -30,7 +30,7 @@ use Rattle.pinning.specs.Calls.{Handed, refuse, take-in, with-pin, without-pin,
 use Rattle.pinning.specs.Claims.{CallAsks}
 use Rattle.pinning.proofs.Agree.{looks-checked}
 use Rattle.pinning.proofs.Lines.{lines-set}
-use Rattle.pinning.proofs.Refusals.{call-decides}
+use Rattle.pinning.proofs.Refusals.{sees-decides}
 use Rattle.planning.specs.Rule.{layer-from, allowed-in, refilled}
 use Rattle.planning.specs.Passes.{charged}
 use Rattle.planning.specs.Words.{layer}
@@ -66,11 +66,11 @@ module _ (j : Job) (s : PinSet) (k : Call) (table : List ℕ) (few : unit-of k �
       }
 
 pub see-calls : SeeCalls
-unfolding see-call see-in click-tests
+unfolding see-call see-in
 see-calls b s k table =
     looks-checked (keep s table) opening b s (λ j. click-tests j s (sees k (length table))) (λ j. CallAsks j s k ++ (condition 11 (words j ≤ length table) ∷ [])) (λ j. seen j (called j s k) (unit-of k) table) (λ j r. SeeClaim j s k table r)
     (λ j n e m. (
-      decides-join (call-decides j s k) (one-more refl (leb-true (words j) (length table), le-leb (words j) (length table)) no-more),
+      sees-decides j s k (length table),
       λ h. let a = asks-unit j s k _ h in see-claim j s k table (a .1) (a .2 .0),
     ))
 

@@ -7,9 +7,8 @@ use native.Mathlib.Omega.{arith}
 use lib.Dec.{leb}
 use lib.ListN.{length, take, drop, replicate, length-replicate, take-append-drop}
 use lib.Seq.{take-at, drop-at, drop-append-le, length-take-le}
-use borrow.Author.Tests.{leb-true, le-leb}
 use Rattle.base.specs.Refusals.{refusal, unless, guarded, condition}
-use Rattle.base.proofs.Refusals.{no-more, one-more, decides-join, none-refuses}
+use Rattle.base.proofs.Refusals.{none-refuses}
 use Rattle.trellis.proofs.Optimality.{sum-combines}
 use Rattle.model.specs.Job.{Job, intervals}
 use Rattle.model.specs.Pins.{PinMap, Call, sees, note-click}
@@ -26,7 +25,7 @@ use Rattle.pinning.specs.Check.{checked}
 use Rattle.pinning.specs.Calls.{refuse, take-in, called, call-of, click-tests, click-in, click, after, run-clicks}
 use Rattle.pinning.proofs.Agree.{checked-parsed, passes-matches}
 use Rattle.pinning.proofs.History.{Holds, matches-holds, click-follows, holds-checked}
-use Rattle.pinning.proofs.Refusals.{call-decides}
+use Rattle.pinning.proofs.Refusals.{sees-decides}
 use Rattle.replaying.specs.Entries.{entry-size}
 use Rattle.planning.specs.Rule.{refilled}
 use Rattle.planning.specs.Words.{layer, layers, table-from}
@@ -112,10 +111,7 @@ module _ (b : List ℕ) (j : Job) (n : ℕ) where
       -- a call that is taken
       module _ (passes : refusal (click-tests j s (sees k size)) ≡ none) where
         asked : (1 ≤ unit-of k) × (unit-of k ≤ length (j .units)) × (words j ≤ size)
-        unfolding click-tests
-        asked =
-            let h = asks-unit j s k (condition 11 (words j ≤ size) ∷ []) (none-refuses (decides-join (call-decides j s k) (one-more refl (leb-true (words j) size, le-leb (words j) size) no-more)) passes) in
-            (h .0, h .1, h .2 .0)
+        asked = let h = asks-unit j s k (condition 11 (words j ≤ size) ∷ []) (none-refuses (sees-decides j s k size) passes) in (h .0, h .1, h .2 .0)
 
         new-holds : Holds j (pins-of j (called j s k)) (called j s k)
         unfolding click-in guarded unless call-of take-in
