@@ -1,67 +1,70 @@
+-- `planned::set_refusal` meets its contract.
+use mathlib.Core.Path.{_≡_, sym, _∙_, ap}
+use native.Mathlib.Omega.{arith}
+use Rattle.header.specs.Answers.{plain, verdict, door-of}
+use Rattle.pinset.specs.Answers.{set-of}
+use Rattle.job.proofs.Answers.{answer-took, answer-refused}
+use Rattle.planned.proofs.Answering.{not-read, by-names, by-table, by-entries, not-refused}
 use borrow.Author.Needs.{needs}
 use Rattle.planned.proofs.set_refusal.Statement.{statement}
 use Rattle.planned.proofs.set_refusal.Tie as tie
-use Rattle.planned.proofs.set_refusal.Reads as reads
-use Rattle.planned.proofs.set_refusal.Lts as lts
-use Rattle.entry.proofs.intervals.Reads as intervals-reads
-use Rattle.pinset.proofs.check.Reads as check-reads
-use Rattle.session.proofs.named_verdict.Reads as named-verdict-reads
-use Rattle.table.proofs.table_words.Reads as table-words-reads
 
--- src/lib.rt:78:11
 check-requires : tie.Need-check-requires
 check-requires c κs = search needs
 
--- src/lib.rt:79:26
 enum-known-n : tie.Need-enum-known-n
 enum-known-n c = search needs
 
--- src/lib.rt:80:25
 enum-known-header : tie.Need-enum-known-header
 enum-known-header c = search needs
 
--- src/lib.rt:81:42
 named-verdict-requires : tie.Need-named-verdict-requires
 named-verdict-requires c κs = search needs
 
--- src/lib.rt:81:37
 enum-known-n-2 : tie.Need-enum-known-n-2
 enum-known-n-2 c = search needs
 
--- src/lib.rt:82:17
 returns : tie.Need-returns
-returns c = ?
+unfolding verdict door-of set-of
+returns c =
+    let check = c .before .before .before .before .before .before .before .check in
+    by-names _ _ _ _ _ _ _ _ (answer-took _ (check .result) _ _ (check .ensures .1) (c .before .before .before .before .before .header .given .1)) (check .ensures .0) _ (ap verdict (sym (c .before .n2 .given .1)) ∙ c .before .before .before .named-verdict .ensures)
 
 enum-told : tie.Need-enum-told
 enum-told c = search needs
 
--- src/lib.rt:84:24
 table-words-requires : tie.Need-table-words-requires
 table-words-requires c κs = search needs
 
--- src/lib.rt:85:17
 returns-2 : tie.Need-returns-2
-returns-2 c = ?
+unfolding verdict door-of set-of
+returns-2 c =
+    let check = c .before .before .before .before .before .before .before .before .check in
+    by-table _ _ _ _ _ _ _ _ (answer-took _ (check .result) _ _ (check .ensures .1) (c .before .before .before .before .before .before .header .given .1)) (check .ensures .0) (ap verdict (sym (c .before .before .enum-told .given .1)) ∙ c .before .before .before .before .named-verdict .ensures) (omega (arith, c .before .table-words .ensures, c .if1 .taken))
 
--- src/lib.rt:87:40
 intervals-requires : tie.Need-intervals-requires
 intervals-requires c κs = search needs
 
--- src/lib.rt:87:26
 mul-if2 : tie.Need-mul-if2
 mul-if2 c = search needs
 
--- src/lib.rt:88:17
 returns-3 : tie.Need-returns-3
-returns-3 c = ?
+unfolding verdict plain door-of set-of
+returns-3 c =
+    let check = c .before .before .before .before .before .before .before .before .before .before .check in
+    by-entries _ _ _ _ _ _ _ _ (answer-took _ (check .result) _ _ (check .ensures .1) (c .before .before .before .before .before .before .before .before .header .given .1)) (check .ensures .0) (ap verdict (sym (c .before .before .before .before .enum-told .given .1)) ∙ c .before .before .before .before .before .before .named-verdict .ensures) (omega (arith, c .before .before .before .table-words .ensures, c .before .before .if1 .left)) (omega (arith, c .before .intervals .ensures, c .if2 .taken))
 
--- src/lib.rt:68:1
 returns-4 : tie.Need-returns-4
-returns-4 c = ?
+unfolding verdict door-of set-of
+returns-4 c =
+    let check = c .before .before .before .check in
+    not-read _ _ _ _ _ _ _ (answer-refused _ (check .result) _ (check .ensures .1) (c .before .n .given .1))
 
--- src/lib.rt:68:1
 returns-5 : tie.Need-returns-5
-returns-5 c = ?
+unfolding verdict plain door-of set-of
+returns-5 c =
+    let check = c .before .before .before .before .before .before .before .before .before .before .check in
+    not-refused _ _ _ _ _ _ _ _ (answer-took _ (check .result) _ _ (check .ensures .1) (c .before .before .before .before .before .before .before .before .header .given .1)) (check .ensures .0) (ap verdict (sym (c .before .before .before .before .enum-told .given .1)) ∙ c .before .before .before .before .before .before .named-verdict .ensures) (omega (arith, c .before .before .before .table-words .ensures, c .before .before .if1 .left)) (omega (arith, c .before .intervals .ensures, c .if2 .left))
 
 pub set-refusal-spec : {M : Type 1} → statement M
 set-refusal-spec =

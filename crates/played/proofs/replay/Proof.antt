@@ -1,63 +1,55 @@
+-- `played::replay` meets its contract: what refuses, the room for the values, the replay.
+use mathlib.Core.Path.{sym, _∙_, ap}
+use native.Mathlib.Omega.{arith}
+use Rattle.header.specs.Answers.{verdict}
+use Rattle.played.proofs.Answering.{replay-before, replay-12, replay-told, replay-room}
+use Rattle.values.proofs.Buckets.{few-buckets}
 use borrow.Author.Needs.{needs}
 use Rattle.played.proofs.replay.Statement.{statement}
 use Rattle.played.proofs.replay.Tie as tie
-use Rattle.played.proofs.replay.Reads as reads
-use Rattle.played.proofs.replay.Lts as lts
-use Rattle.played.proofs.tell.Reads as tell-reads
-use Rattle.session.proofs.replay_after.Reads as replay-after-reads
-use Rattle.session.proofs.replay_refusal.Reads as replay-refusal-reads
-use Rattle.values.proofs.buckets_in.Reads as buckets-in-reads
 
--- src/lib.rt:54:34
 replay-refusal-requires : tie.Need-replay-refusal-requires
 replay-refusal-requires c κs = search needs
 
--- src/lib.rt:54:29
 enum-known-n : tie.Need-enum-known-n
 enum-known-n c = search needs
 
--- src/lib.rt:55:16
 cast-result : tie.Need-cast-result
 cast-result c = search needs
 
--- src/lib.rt:55:9
 returns : tie.Need-returns
-returns c = ?
+unfolding verdict
+returns c = replay-before _ _ _ _ _ _ (ap verdict (sym (c .before .n .given .1)) ∙ c .before .before .before .replay-refusal .ensures)
 
 enum-told : tie.Need-enum-told
 enum-told c = search needs
 
--- src/lib.rt:57:9
 buckets-in-requires : tie.Need-buckets-in-requires
 buckets-in-requires c κs = search needs
 
--- src/lib.rt:58:23
 add-if1 : tie.Need-add-if1
-add-if1 c = ?
+add-if1 c = record { fits = omega (arith, few-buckets (c .before .before .before .before .before .before .before .before .before .args .job .now), c .buckets-in .ensures) }
 
--- src/lib.rt:59:9
 returns-2 : tie.Need-returns-2
-returns-2 c = ?
+unfolding verdict
+returns-2 c = replay-12 _ _ _ _ _ (ap verdict (sym (c .before .before .enum-told .given .1)) ∙ c .before .before .before .before .replay-refusal .ensures) (rw (← c .before .buckets-in .ensures) (c .if1 .taken))
 
--- src/lib.rt:61:9
 replay-after-requires : tie.Need-replay-after-requires
 replay-after-requires c κs = search needs
 
--- src/lib.rt:62:5
 tell-requires : tie.Need-tell-requires
-tell-requires c κs = ?
+tell-requires c κs = rw (c .before .before .before .before .before .before .buckets-in .ensures) (replay-room _ _ _ _ _ _ (c .before .before .before .replay-after .ensures) _ (rw (← c .before .before .before .before .before .before .buckets-in .ensures) (c .before .before .before .before .before .if1 .left)))
 
--- src/lib.rt:45:1
 same-length : tie.Need-same-length
 same-length c = search needs
 
--- src/lib.rt:45:1
 same-length-2 : tie.Need-same-length-2
 same-length-2 c = search needs
 
--- src/lib.rt:45:1
 returns-3 : tie.Need-returns-3
-returns-3 c = ?
+unfolding verdict
+returns-3 c =
+    replay-told _ _ _ _ _ (ap verdict (sym (c .before .before .before .before .before .before .before .before .before .before .enum-told .given .1)) ∙ c .before .before .before .before .before .before .before .before .before .before .before .before .replay-refusal .ensures) (rw (← c .before .before .before .before .before .before .before .before .before .buckets-in .ensures) (c .before .before .before .before .before .before .before .before .if1 .left)) (c .before .before .before .before .before .before .replay-after .result) _ (c .before .before .before .before .before .before .replay-after .ensures) _ _ (rw (c .before .before .before .before .before .before .before .before .before .buckets-in .ensures) at (c .before .before .tell .ensures))
 
 pub replay-spec : {M : Type 1} → statement M
 replay-spec =

@@ -1,63 +1,54 @@
+-- `played::tell` meets its contract.
+use mathlib.Core.Path.{refl}
+use Rattle.base.specs.Lent.{put}
+use Rattle.replay.specs.Answers.{answered}
+use Rattle.values.specs.Lists.{totals-values, replayed-list}
+use Rattle.exporting.specs.Exports.{number-of}
+use Rattle.played.proofs.Answering.{zero-room, violated-told}
 use borrow.Author.Needs.{needs}
 use Rattle.played.proofs.tell.Statement.{statement}
 use Rattle.played.proofs.tell.Tie as tie
-use Rattle.played.proofs.tell.Reads as reads
-use Rattle.played.proofs.tell.Lts as lts
-use Rattle.values.proofs.no_totals.Reads as no-totals-reads
-use Rattle.values.proofs.put_replayed.Reads as put-replayed-reads
-use Rattle.values.proofs.violation_number.Reads as violation-number-reads
 
--- src/lib.rt:28:27
 enum-known-outcome : tie.Need-enum-known-outcome
 enum-known-outcome c = search needs
 
--- src/lib.rt:28:33
 cast-result : tie.Need-cast-result
 cast-result c = search needs
 
--- src/lib.rt:29:25
 enum-known-outcome-2 : tie.Need-enum-known-outcome-2
 enum-known-outcome-2 c = search needs
 
--- src/lib.rt:30:13
 put-replayed-requires : tie.Need-put-replayed-requires
-put-replayed-requires c κs = ?
+put-replayed-requires c κs = c .before .before .before .before .before .pre .totals _ (c .before .before .outcome2 .given .1)
 
--- src/lib.rt:34:13
 enum-known-outcome-3 : tie.Need-enum-known-outcome-3
 enum-known-outcome-3 c = search needs
 
--- src/lib.rt:37:17
 violation-number-requires : tie.Need-violation-number-requires
 violation-number-requires c κs = search needs
 
--- src/lib.rt:38:60
 no-totals-requires : tie.Need-no-totals-requires
-no-totals-requires c κs = search needs
+no-totals-requires c κs = c .before .before .before .before .before .before .pre .some-bucket
 
--- src/lib.rt:38:13
 put-replayed-requires-2 : tie.Need-put-replayed-requires-2
-put-replayed-requires-2 c κs = ?
+put-replayed-requires-2 c κs = zero-room _ _ _ (c .no-totals .ensures) (c .before .before .before .before .before .before .before .pre .zeros)
 
--- src/lib.rt:23:1
 returns : tie.Need-returns
-returns c = ?
+unfolding answered number-of put
+returns c = rw (c .before .outcome .given .1) (record { number = refl; values = refl })
 
--- src/lib.rt:23:1
 same-length : tie.Need-same-length
 same-length c = search needs
 
--- src/lib.rt:23:1
 returns-2 : tie.Need-returns-2
-returns-2 c = ?
+unfolding answered number-of put replayed-list totals-values
+returns-2 c = rw (c .before .before .before .before .before .outcome2 .given .1) (record { number = refl; values = c .before .before .put-replayed .ensures })
 
--- src/lib.rt:23:1
 same-length-2 : tie.Need-same-length-2
 same-length-2 c = search needs
 
--- src/lib.rt:23:1
 returns-3 : tie.Need-returns-3
-returns-3 c = ?
+returns-3 c = violated-told _ _ _ (c .before .before .before .before .before .before .before .outcome3 .given .1) _ _ (c .before .before .before .before .before .violation-number .ensures) _ (c .before .before .before .no-totals .ensures) _ _ (c .before .before .put-replayed2 .ensures)
 
 pub tell-spec : {M : Type 1} → statement M
 tell-spec =
