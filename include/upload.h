@@ -54,13 +54,15 @@
        upload_open      opening    17
        upload_calls     opening    17
        upload_plan      opening    17
-       upload_set, and all that take a set but upload_replay_set
+       upload_set, upload_pin, upload_lift, upload_pin_and_see,
+       upload_lift_and_see, upload_plan_set
                         opening    17
        upload_archive   archive    opened, with the values that another drain has
        upload_replay    archive    replayed without pins: each call is refused
        upload_replay_set
-                        archive    replayed with the set's pins, but upload_set
-                                   gives out no set of such a job
+                        archive    replayed without pins: no call pins a unit
+       upload_archive_set
+                        archive    its set without a pin is written, for replay
        upload_report    archive    reported as with another drain
        upload_turn      archive    turned as with another drain */
 
@@ -307,6 +309,15 @@ uint32_t upload_replay(const uint8_t *job, size_t job_len,
    short. */
 uint32_t upload_set(const uint8_t *job, size_t job_len,
                     uint32_t *set, size_t set_len);
+
+/* Opens a stored job, whose line may never drain, as upload_archive does, and
+   writes its set without a pin, which serves replay.
+
+   set: UPLOAD_SET_NUMBERS numbers written.
+
+   Refusals in order: 1 to 5; 12 where `set` is too short. */
+uint32_t upload_archive_set(const uint8_t *job, size_t job_len,
+                            uint32_t *set, size_t set_len);
 
 /* Pins a unit at a choice.
 

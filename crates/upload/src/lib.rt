@@ -2,6 +2,8 @@
 // The job's refusals come first. A list for values that is too short is refused with 12, behind the other lists.
 ghost use mathlib.Core.Path.{_≡_};
 ghost use Rattle.format.specs.JobBytes.{opening, archive};
+ghost use Rattle.model.specs.Pins.{pin, lift};
+ghost use Rattle.exporting.specs.Sets.{set-export, call-export, seen, see-export, set-planned, set-plan-export, set-replay-export};
 ghost use Rattle.exporting.specs.Exports.{opened, open-export, called, calls-export, planned, plan-export, replayed, replay-export, filled, report-export, turn-export, written, write-export};
 use header::Door;
 
@@ -65,6 +67,97 @@ pub extern "C" fn upload_replay(
     ensures { λ r. ⌜ replayed r (now (levels .exit)) (now (values .exit)) ≡ replay-export (now (job .entry)) (now (calls .entry)) (now (entries .entry)) (now (levels .entry)) (now (values .entry)) ⌝ }
 {
     played::replay(job, calls, entries, levels, values)
+}
+
+// Opens a job and writes its set without a pin: 528 numbers, which the calls below read and bring up to date.
+#[no_mangle]
+pub extern "C" fn upload_set(job: &[u8], set: &mut [u32]) -> u32
+    ensures { λ r. ⌜ filled r (now (set .exit)) ≡ set-export opening (now (job .entry)) (now (set .entry)) ⌝ }
+{
+    editor::open(job, Door::Opening, set)
+}
+
+// Opens a stored job for what the archive serves and writes its set without a pin, for replay.
+#[no_mangle]
+pub extern "C" fn upload_archive_set(job: &[u8], set: &mut [u32]) -> u32
+    ensures { λ r. ⌜ filled r (now (set .exit)) ≡ set-export archive (now (job .entry)) (now (set .entry)) ⌝ }
+{
+    editor::open(job, Door::Archive, set)
+}
+
+// Pins a unit, counted from 1, at a choice, counted from 0.
+#[no_mangle]
+pub extern "C" fn upload_pin(job: &[u8], set: &mut [u32], unit: u16, choice: u16) -> u32
+    ensures { λ r. ⌜ filled r (now (set .exit)) ≡ call-export (now (job .entry)) (now (set .entry)) (pin unit choice) ⌝ }
+{
+    editor::pin(job, set, unit, choice)
+}
+
+// Lifts the pin of a unit.
+#[no_mangle]
+pub extern "C" fn upload_lift(job: &[u8], set: &mut [u32], unit: u16) -> u32
+    ensures { λ r. ⌜ filled r (now (set .exit)) ≡ call-export (now (job .entry)) (now (set .entry)) (lift unit) ⌝ }
+{
+    editor::lift(job, set, unit)
+}
+
+// Pins a unit at a choice and brings the lent table up to date. Values: the word of layer 0 at the starting levels, which is the least total where the table was the set's own, and the mark where there is no plan.
+#[no_mangle]
+pub extern "C" fn upload_pin_and_see(
+    job: &[u8],
+    set: &mut [u32],
+    unit: u16,
+    choice: u16,
+    table: &mut [u32],
+    values: &mut [u64],
+) -> u32
+    ensures { λ r. ⌜ seen r (now (set .exit)) (now (table .exit)) (now (values .exit)) ≡ see-export (now (job .entry)) (now (set .entry)) (pin unit choice) (now (table .entry)) (now (values .entry)) ⌝ }
+{
+    viewer::pin_and_see(job, set, unit, choice, table, values)
+}
+
+// Lifts the pin of a unit and brings the lent table up to date. Values: as `upload_pin_and_see` gives them.
+#[no_mangle]
+pub extern "C" fn upload_lift_and_see(
+    job: &[u8],
+    set: &mut [u32],
+    unit: u16,
+    table: &mut [u32],
+    values: &mut [u64],
+) -> u32
+    ensures { λ r. ⌜ seen r (now (set .exit)) (now (table .exit)) (now (values .exit)) ≡ see-export (now (job .entry)) (now (set .entry)) (lift unit) (now (table .entry)) (now (values .entry)) ⌝ }
+{
+    viewer::lift_and_see(job, set, unit, table, values)
+}
+
+// Plans with the pins of a set, by the aim and in the order that numbers name: 0 the least total, 1 even pictures; 0 early, 1 late. 13 writes the table alone. Values: as `upload_plan` gives them.
+#[no_mangle]
+pub extern "C" fn upload_plan_set(
+    job: &[u8],
+    set: &[u32],
+    aim: u32,
+    order: u32,
+    table: &mut [u32],
+    entries: &mut [u8],
+    values: &mut [u64],
+) -> u32
+    ensures { λ r. ⌜ set-planned r (now (table .exit)) (now (entries .exit)) (now (values .exit)) ≡ set-plan-export (now (job .entry)) (now (set .entry)) aim order (now (table .entry)) (now (entries .entry)) (now (values .entry)) ⌝ }
+{
+    planned::plan_set(job, set, aim, order, table, entries, values)
+}
+
+// Replays a plan with the pins of a set. Values: as `upload_replay` gives them.
+#[no_mangle]
+pub extern "C" fn upload_replay_set(
+    job: &[u8],
+    set: &[u32],
+    entries: &[u8],
+    levels: &mut [u16],
+    values: &mut [u64],
+) -> u32
+    ensures { λ r. ⌜ replayed r (now (levels .exit)) (now (values .exit)) ≡ set-replay-export (now (job .entry)) (now (set .entry)) (now (entries .entry)) (now (levels .entry)) (now (values .entry)) ⌝ }
+{
+    played::replay_set(job, set, entries, levels, values)
 }
 
 // The effective buffer sizes of a plan: N + 1 sums.
