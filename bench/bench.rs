@@ -1160,10 +1160,10 @@ const CLICKS: usize = 40;
 /// the first, the middle one or the last. A click that is seen fills u + d of the T layers
 /// that planning fills, and the ratio is to show it.
 fn sitting_tables(with_full: bool) {
-    println!("\na sitting of {CLICKS} clicks, unit u pinned and lifted in turn; a click seen at once");
-    println!("beside one planned anew: the library alone, the least of up to seven sittings in");
-    println!("turn; the ratio is to be about that of the layers filled, (u + d) / T, or less for");
-    println!("early units, since the first d layers decode nothing");
+    println!("\na sitting of {CLICKS} clicks, unit u pinned and lifted in turn: a click seen at");
+    println!("once beside one planned anew, the library alone, the least of up to seven sittings");
+    println!("in turn; the ratio is to be about that of the layers filled, (u + d) / T, or less");
+    println!("for early units, since the first d layers decode nothing");
     println!("  {:<48} {:>10} {:>10} {:>7} {:>7}", "", "anew", "seen", "ratio", "layers");
     let base = Size { units: 300, delay: 8, ..FEWER };
     let square = |grains: usize| {
