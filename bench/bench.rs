@@ -9,7 +9,8 @@
 //! Planning stands beside two plain programs: four nested loops, with a second
 //! bucket five, and the two passes of the library written plainly. All three must
 //! give the same table, plan and least distortion. Loops over 1,000 choices would
-//! take minutes, and are left out. Even pictures stand beside the least total.
+//! take minutes, and are left out. Even pictures stand beside the least total, and
+//! a sitting of pins and lifts, seen at once, beside planning anew after each.
 
 use std::hint::black_box;
 use std::time::{Duration, Instant};
@@ -1152,6 +1153,131 @@ fn greatest_of(job: &[u8], entries: &[u8]) -> u32 {
     units.map(lost).max().expect("a unit")
 }
 
+/// How many clicks a sitting has.
+const CLICKS: usize = 40;
+
+/// A sitting beside planning anew, the library alone: a unit is pinned and lifted in turn,
+/// the first, the middle one or the last. A click that is seen fills u + d of the T layers
+/// that planning fills, and the ratio is to show it.
+fn sitting_tables(with_full: bool) {
+    println!("\na sitting of {CLICKS} clicks, unit u pinned and lifted in turn: a click seen at");
+    println!("once beside one planned anew, the library alone, the least of up to seven sittings");
+    println!("in turn; the ratio is to be about that of the layers filled, (u + d) / T, or less");
+    println!("for early units, since the first d layers decode nothing");
+    println!("  {:<48} {:>10} {:>10} {:>7} {:>7}", "", "anew", "seen", "ratio", "layers");
+    let base = Size { units: 300, delay: 8, ..FEWER };
+    let square = |grains: usize| {
+        let size = Size { decoder: grains, bucket: grains, ..base };
+        (format!("decoder and bucket of {grains}"), draft_of(&size))
+    };
+    let many = Size { decoder: 60, bucket: 60, choices: 1000, ..base };
+    let double = Size { decoder: 31, bucket: 31, rates: 8, choices: 8, ..base };
+    let mut jobs = vec![
+        square(127),
+        square(60),
+        square(25),
+        square(12),
+        ("1,000 choices, 60".to_string(), spread_draft(&many, 1000)),
+        ("buckets of 31 and 15".to_string(), draft_of(&double).doubled(half_full(15, 30))),
+    ];
+    if with_full {
+        jobs.insert(0, square(255));
+    }
+    for (name, draft) in jobs {
+        let job = draft.bytes();
+        for unit in [1, base.units / 2, base.units] {
+            let [seen, anew] = time_sitting(&job, unit as u16);
+            let ratio = format!("{:.3}", seen / anew);
+            let layers = format!("{:.3}", (unit + base.delay) as f64 / base.intervals() as f64);
+            let name = format!("{} units, {name}: unit {unit}", base.units);
+            let [seen, anew] = [seen, anew].map(shown);
+            println!("  {name:<48} {anew:>10} {seen:>10} {ratio:>7} {layers:>7}");
+        }
+    }
+}
+
+/// What is kept from click to click.
+#[derive(PartialEq)]
+struct Sitting<'a> {
+    job: &'a [u8],
+    set: Vec<u32>,
+    table: Vec<u32>,
+    entries: Vec<u8>,
+}
+
+impl Sitting<'_> {
+    /// Without a pin, and with the table of that.
+    fn new(job: &[u8]) -> Sitting<'_> {
+        let opened = upload_planner::open(job).expect("a job");
+        let mut set = vec![0; numbers::SET_NUMBERS];
+        assert!(numbers::set(job, &mut set) == 0, "no set");
+        let table = vec![0; opened.table_words];
+        let mut sitting = Sitting { job, set, table, entries: vec![0; opened.plan_bytes()] };
+        sitting.planned();
+        sitting
+    }
+
+    /// Plans with the pins that stand; the least total.
+    fn planned(&mut self) -> u64 {
+        let Sitting { job, set, table, entries } = self;
+        let mut values = [0; numbers::PLAN_VALUES_MOST];
+        let (aim, order) = (numbers::TOTAL, numbers::LATE);
+        let answer = numbers::plan_set(job, set, aim, order, table, entries, &mut values);
+        assert!(answer == 0, "no plan");
+        values[0]
+    }
+
+    /// Pins the unit, or lifts it where no choice is given, then plans all.
+    fn anew(&mut self, unit: u16, choice: Option<u16>) -> u64 {
+        let Sitting { job, set, .. } = self;
+        let answer = match choice {
+            Some(choice) => numbers::pin(job, set, unit, choice),
+            None => numbers::lift(job, set, unit),
+        };
+        assert!(answer == 0, "the click is refused");
+        self.planned()
+    }
+
+    /// The same in one call that fills what the unit has a part in.
+    fn seen(&mut self, unit: u16, choice: Option<u16>) -> u64 {
+        let Sitting { job, set, table, .. } = self;
+        let mut values = [0; numbers::SEE_VALUES];
+        let answer = match choice {
+            Some(choice) => numbers::pin_and_see(job, set, unit, choice, table, &mut values),
+            None => numbers::lift_and_see(job, set, unit, table, &mut values),
+        };
+        assert!(answer == 0, "the click is refused");
+        values[0]
+    }
+}
+
+/// The times of a click that is seen and of one that is planned anew. Both must have the
+/// same pins, table and total after the first pin and lift, and at the end.
+fn time_sitting(job: &[u8], unit: u16) -> [f64; 2] {
+    let last = plain_open(job).expect("a job").header[8] as u16 - 1;
+    let clicks = || [Some(last), None].into_iter().cycle().take(CLICKS);
+    let (mut seen, mut anew) = (Sitting::new(job), Sitting::new(job));
+    let start = Instant::now();
+    for choice in clicks().take(2) {
+        assert!(seen.seen(unit, choice) == anew.anew(unit, choice), "the totals differ");
+        assert!((&seen.set, &seen.table) == (&anew.set, &anew.table), "the tables differ");
+    }
+    // What takes seconds is timed once.
+    let sitting = start.elapsed().as_secs_f64() * CLICKS as f64 / 2.0;
+    let rounds = (3.0 / sitting).ceil().min(7.0) as usize;
+    let times = in_turn(
+        rounds,
+        || {
+            black_box(clicks().map(|choice| seen.seen(unit, choice)).sum::<u64>());
+        },
+        || {
+            black_box(clicks().map(|choice| anew.anew(unit, choice)).sum::<u64>());
+        },
+    );
+    assert!(seen == anew, "the tables differ at the end");
+    times.map(|time| time / CLICKS as f64)
+}
+
 /// Opening, a pin and a replay take as long for each byte of the largest job as for each
 /// byte of a job of half its bytes or a quarter of them.
 fn largest_tables() {
@@ -1242,17 +1368,22 @@ fn time_report(size: &Size, job: &[u8]) -> [f64; 2] {
 }
 
 fn main() {
-    let (mut with_full, mut all, mut choices_alone) = (true, true, false);
+    let (mut with_full, mut all) = (true, true);
+    let (mut choices_alone, mut sitting_alone) = (false, false);
     for argument in std::env::args().skip(1) {
         match argument.as_str() {
             "--no-full" => with_full = false,
             "--planning" => all = false,
             "--choices" => choices_alone = true,
+            "--sitting" => sitting_alone = true,
             _ => {
-                println!("usage: bench/run [--planning | --choices] [--no-full]");
+                println!("usage: bench/run [--planning | --choices | --sitting] [--no-full]");
                 std::process::exit(2);
             }
         }
+    }
+    if sitting_alone {
+        return sitting_tables(with_full);
     }
     println!("ratio: the library's time over that of a plain program; below 1 it is faster");
     if all && !choices_alone {
@@ -1266,6 +1397,7 @@ fn main() {
         plan_tables(with_full);
         two_bucket_tables(with_full);
         even_tables(with_full);
+        sitting_tables(with_full);
     }
     many_choice_tables();
 }

@@ -4,7 +4,8 @@
 //! every clean replay the balance of each bucket is asked besides, of even pictures
 //! that the least total gives them too once all choices above the greatest distortion
 //! are gone, of the report that a long delay takes little more time than a short one,
-//! and of the archive that it takes what opening takes with another drain.
+//! of the archive that it takes what opening takes with another drain, and of a sitting
+//! that it comes to the set, the table and the plans of a fresh one with its pins.
 //!
 //! Build and run, where DIR holds libupload.a:
 //!
@@ -139,6 +140,11 @@ impl<T: Number> Lent<T> {
     fn list(&mut self) -> &mut [T] {
         let end = self.all.len() - self.side;
         &mut self.all[self.side..end]
+    }
+
+    /// The list as it is, to be read alone.
+    fn held(&self) -> &[T] {
+        &self.all[self.side..self.all.len() - self.side]
     }
 
     /// The list begins with `due`, and all else is as it was.
@@ -472,7 +478,13 @@ fn send_last(best: &mut [u32], from: &[u32], rise: i64) {
 
 /// The first plan in order whose every entry attains the table's word.
 fn read_off(job: &Job, pins: &Pins, table: &[u32]) -> Option<Plan> {
+    read_off_in(Order::Late, job, pins, table)
+}
+
+fn read_off_in(order: Order, job: &Job, pins: &Pins, table: &[u32]) -> Option<Plan> {
     let word = |t: usize, decoder: i64, levels: &Levels| table[job.word(t, decoder, levels)];
+    let mut rates: Vec<(usize, i64)> = job.rates.iter().copied().enumerate().collect();
+    rates.sort_by_key(|&(rate, _)| order.place(job, rate));
     let (mut decoder, mut levels) = (job.start_decoder, job.start_levels());
     if word(0, decoder, &levels) == NEVER {
         return None;
@@ -481,7 +493,7 @@ fn read_off(job: &Job, pins: &Pins, table: &[u32]) -> Option<Plan> {
     for t in 1..=job.intervals() {
         let due = word(t - 1, decoder, &levels);
         let mut taken = None;
-        for (rate, &sent) in job.rates.iter().enumerate() {
+        for &(rate, sent) in &rates {
             for (choice, grains, distortion) in options(job, pins, t) {
                 let Some(level) = by_peak(job, decoder, sent, grains) else { continue };
                 let Some(after) = filled(job, &levels, sent) else { continue };
@@ -3734,6 +3746,12 @@ fn check_bytes(rng: &mut Rng, bytes: &[u8]) -> Result<[Refusal; 2], String> {
     same("bytes taken", taken, job_bytes(&job))?;
     let asked = Asked::with(bytes.to_vec(), job, calls.to_vec());
     check_open(rng, &asked)?;
+    if opened.is_ok() {
+        let mut desk = Desk::lent(rng, bytes.to_vec(), asked.job.clone(), 0)?;
+        for (call, number) in asked.calls.chunks(3).zip(&asked.answers) {
+            same("a call for a set", *number, desk.make([call[0], call[1], call[2]])?)?;
+        }
+    }
     if opened.is_err() {
         let plan = random_plan(rng, &asked.job, &asked.pins);
         check_never(rng, &asked, &plan)?;
@@ -3802,7 +3820,49 @@ fn check_not_opened(
     same("plan", number, lent.plan_for(aim, bytes, calls))?;
     lent.kept()?;
     let found = upload_planner::best_plan(bytes, &typed, typed_aim(rng.pick(&AIMS)));
-    same("owned plan", Some(number), found.err().map(|refusal| refusal.number()))
+    same("owned plan", Some(number), found.err().map(|refusal| refusal.number()))?;
+    check_no_sitting(rng, bytes, number, table, planned)
+}
+
+/// No set is made of these bytes, and none that is lent is looked at; `table` and
+/// `values` are the lengths of lists.
+fn check_no_sitting(
+    rng: &mut Rng,
+    bytes: &[u8],
+    number: u32,
+    table: usize,
+    values: usize,
+) -> Checked {
+    let length = if rng.one_in(20) { SET_NUMBERS } else { rng.from(0, 3) };
+    let mut set: Lent<u32> = Lent::new(rng, length);
+    let mut table: Lent<u32> = Lent::new(rng, table);
+    let mut entries: Lent<u8> = Lent::new(rng, values);
+    let mut values: Lent<u64> = Lent::new(rng, values);
+    let (unit, choice) = (rng.from(0, 2) as u16, rng.from(0, 2) as u16);
+    let (aim, order) = (rng.pick(&[TOTAL, EVEN, 2]), rng.pick(&[EARLY, LATE, 2]));
+    let found = [
+        numbers::set(bytes, set.list()),
+        numbers::pin(bytes, set.list(), unit, choice),
+        numbers::lift(bytes, set.list(), unit),
+        numbers::pin_and_see(bytes, set.list(), unit, choice, table.list(), values.list()),
+        numbers::lift_and_see(bytes, set.list(), unit, table.list(), values.list()),
+        numbers::plan_set(
+            bytes,
+            set.held(),
+            aim,
+            order,
+            table.list(),
+            entries.list(),
+            values.list(),
+        ),
+    ];
+    same("calls that make or take a set", [number; 6], found)?;
+    set.kept("set")?;
+    table.kept("table")?;
+    entries.kept("entries")?;
+    values.kept("values")?;
+    let found = upload_planner::Session::open(bytes).err().map(|refusal| refusal.number());
+    same("typed session", Some(number), found)
 }
 
 /// Every other function that takes a job refuses these bytes.
@@ -3827,6 +3887,11 @@ fn check_not_stored(
     let typed: Vec<Call> = calls.chunks_exact(3).map(typed_call).collect();
     let found = upload_planner::replayed(bytes, &typed, &entries);
     same("owned replay", Some(number), found.err().map(|refusal| refusal.number()))?;
+    let set = vec![7; if rng.one_in(20) { SET_NUMBERS } else { rng.from(0, 3) }];
+    let found = numbers::replay_set(bytes, &set, &entries, levels.list(), values.list());
+    same("replay with a set", number, found)?;
+    levels.kept("levels with a set")?;
+    values.kept("values of replay with a set")?;
 
     let mut sums: Lent<u32> = Lent::new(rng, sums);
     same("report", number, numbers::report(bytes, &entries, sums.list()))?;
@@ -4845,6 +4910,2016 @@ fn check_alike(asked: &Asked, other: &Asked, plan: &Plan) -> Checked {
 }
 
 // ---------------------------------------------------------------------------
+// Layers made again.
+// ---------------------------------------------------------------------------
+
+/// The most that a total can be: 512 units at 1,000,000. A greater word is read as
+/// "cannot be completed".
+const MOST_TOTAL: u32 = 512_000_000;
+
+/// How a word of the next layer is read: `FAR` where nothing can be completed from it.
+type Reading = fn(u32) -> u32;
+
+/// Makes the layers below `upto` again, each from the next, and the last of them from
+/// what stands in layer `upto`.
+fn renewed(job: &Job, pins: &Pins, words: &[u32], upto: usize) -> Vec<u32> {
+    renewed_by(|word| if word > MOST_TOTAL { FAR } else { word }, job, pins, words, upto)
+}
+
+fn renewed_by(read: Reading, job: &Job, pins: &Pins, words: &[u32], upto: usize) -> Vec<u32> {
+    let (rows, width) = (job.decoder_size as usize + 1, job.width());
+    let layer = rows * width;
+    let mut table = words.to_vec();
+    for t in (1..=upto).rev() {
+        let (before, from) = table.split_at_mut(t * layer);
+        let next: Vec<u32> = from[..layer].iter().map(|&word| read(word)).collect();
+        let decoded = decode_layer(&options(job, pins, t), &next, width);
+        let made = send_layer(job, &decoded, rows, width);
+        let words = made.iter().map(|&value| if value >= FAR { NEVER } else { value });
+        before[(t - 1) * layer..].iter_mut().zip(words).for_each(|(word, value)| *word = value);
+    }
+    table
+}
+
+/// The same by plain loops over levels, rates and choices.
+fn renewed_by_loops(job: &Job, pins: &Pins, words: &[u32], upto: usize) -> Vec<u32> {
+    let mut table = words.to_vec();
+    let all_levels = job.all_levels();
+    for t in (1..=upto).rev() {
+        let options = options(job, pins, t);
+        for decoder in 0..=job.decoder_size {
+            for levels in &all_levels {
+                let mut least: Option<i64> = None;
+                for &sent in &job.rates {
+                    let Some(after) = filled(job, levels, sent) else { continue };
+                    for &(_, grains, distortion) in &options {
+                        let Some(level) = by_peak(job, decoder, sent, grains) else { continue };
+                        let rest = table[job.word(t, level, &after)];
+                        if rest <= MOST_TOTAL {
+                            let sum = distortion + rest as i64;
+                            least = Some(least.map_or(sum, |held| held.min(sum)));
+                        }
+                    }
+                }
+                let word = least.map_or(NEVER, |sum| sum as u32);
+                table[job.word(t - 1, decoder, levels)] = word;
+            }
+        }
+    }
+    table
+}
+
+// ---------------------------------------------------------------------------
+// Sets of pins: what is lent from call to call, and what it is to hold.
+// ---------------------------------------------------------------------------
+
+/// A job, a book of its pins, and the set and the table that are lent in every call.
+struct Desk {
+    bytes: Vec<u8>,
+    job: Job,
+    book: Book,
+    set: Lent<u32>,
+    table: Lent<u32>,
+    /// What the table holds.
+    words: Vec<u32>,
+    /// Whether that is what planning for the total makes with the pins of the book.
+    own: bool,
+}
+
+impl Desk {
+    /// The set without a pin, and a table in which anything stands.
+    fn new(rng: &mut Rng, draft: &Draft) -> Result<Desk, String> {
+        let Asked { bytes, job, .. } = Asked::new(rng, draft);
+        let room = job.words() + slack(rng);
+        Desk::lent(rng, bytes, job, room)
+    }
+
+    /// `room` is the length of the table; 0 for jobs of which none is made.
+    fn lent(rng: &mut Rng, bytes: Vec<u8>, job: Job, room: usize) -> Result<Desk, String> {
+        let more = slack(rng);
+        let mut set = Lent::new(rng, SET_NUMBERS + more);
+        same("set", 0, numbers::set(&bytes, set.list()))?;
+        let table = Lent::new(rng, room);
+        let words = table.held()[..room.min(job.words())].to_vec();
+        let desk = Desk { bytes, job, book: Book::new(), set, table, words, own: false };
+        desk.holds()?;
+        Ok(desk)
+    }
+
+    fn pins(&self) -> Pins {
+        pins_of(&self.job, &self.book)
+    }
+
+    /// The set and the table are as they are to be, and so is all around them.
+    fn holds(&self) -> Checked {
+        self.set.wrote("set", &set_numbers(&self.job, &self.book))?;
+        self.table.wrote("table", &self.words)
+    }
+
+    /// Puts the set of these pins in the place of the one held.
+    fn put_book(&mut self, book: Book) {
+        self.set.list()[..SET_NUMBERS].copy_from_slice(&set_numbers(&self.job, &book));
+        (self.book, self.own) = (book, false);
+    }
+
+    /// Puts these words in the place of those held.
+    fn put_words(&mut self, words: Vec<u32>) {
+        self.table.list()[..words.len()].copy_from_slice(&words);
+        (self.words, self.own) = (words, false);
+    }
+
+    /// The word of layer 0 at the starting levels.
+    fn total(&self) -> u32 {
+        self.words[self.job.word(0, self.job.start_decoder, &self.job.start_levels())]
+    }
+
+    /// How many layers a call for this unit makes again.
+    fn layers(&self, unit: u16) -> usize {
+        unit as usize + self.job.delay
+    }
+
+    /// Pins or lifts, as the call says. Gives the number due.
+    fn make(&mut self, call: [u16; 3]) -> Result<Refusal, String> {
+        let due = step_book(&self.job, &mut self.book, call);
+        let [kind, unit, choice] = call;
+        let (job, set) = (&self.bytes, self.set.list());
+        let found = match kind {
+            6 => numbers::pin(job, set, unit, choice),
+            _ => numbers::lift(job, set, unit),
+        };
+        let what = format!("call {call:?}");
+        same(&what, due as u32, found)?;
+        self.own &= due > 0;
+        self.holds().map_err(|trouble| format!("{what}: {trouble}"))?;
+        Ok(due)
+    }
+
+    /// Pins or lifts and sees, with a table that is so many words short and a list of
+    /// this length for values. Gives the number due.
+    fn see(
+        &mut self,
+        rng: &mut Rng,
+        call: [u16; 3],
+        short: usize,
+        room: usize,
+    ) -> Result<Refusal, String> {
+        let mut book = self.book.clone();
+        let refused = step_book(&self.job, &mut book, call);
+        let due = first_of(&[(refused > 0, refused), (short > 0, 11), (room < 1, 12)]);
+        let whole = self.table.list().len();
+        let length = if short > 0 { self.job.words() - short } else { whole };
+        let mut values = Lent::new(rng, room);
+        let [kind, unit, choice] = call;
+        let (job, set, table) = (&self.bytes, self.set.list(), &mut self.table.list()[..length]);
+        let found = match kind {
+            6 => numbers::pin_and_see(job, set, unit, choice, table, values.list()),
+            _ => numbers::lift_and_see(job, set, unit, table, values.list()),
+        };
+        let what = format!("call {call:?} that sees, {short} words short, {room} values");
+        same(&what, due, found)?;
+        if due == 0 {
+            self.book = book;
+            let pins = self.pins();
+            self.words = match self.own {
+                true => fast_table(&self.job, &pins),
+                false => renewed(&self.job, &pins, &self.words, self.layers(unit)),
+            };
+        }
+        let total = [self.total() as u64];
+        let wrote = values.wrote("value", if due == 0 { &total } else { &[] });
+        wrote.and_then(|_| self.holds()).map_err(|trouble| format!("{what}: {trouble}"))?;
+        Ok(due as Refusal)
+    }
+
+    /// Plans, before that with one of the lists one short. Gives the plan due.
+    fn plan(&mut self, rng: &mut Rng, aim: Aim, order: Order) -> Result<Option<Plan>, String> {
+        let due = due_for(aim, &self.job, &self.pins());
+        let plan = due.plan_in(order).clone();
+        self.plan_due(rng, aim, order, due.table, &plan)
+            .map_err(|trouble| format!("{aim:?}, {order:?}: {trouble}"))?;
+        Ok(plan)
+    }
+
+    fn plan_due(
+        &mut self,
+        rng: &mut Rng,
+        aim: Aim,
+        order: Order,
+        table: Vec<u32>,
+        plan: &Option<Plan>,
+    ) -> Checked {
+        let needs = [table.len(), ENTRY_BYTES * self.job.intervals(), plan_values(&self.job)];
+        let lengths = one_short(needs, rng.from(0, 2)).expect("needed");
+        let lists = self.plan_in(rng, aim.number(), order.number(), lengths);
+        let (number, entries, values) = lists;
+        same("plan, a list one short", if lengths[0] < needs[0] { 11 } else { 12 }, number)?;
+        entries.kept("entries")?;
+        values.kept("values")?;
+        self.holds()?;
+
+        let lengths = [self.table.list().len(), needs[1] + slack(rng), needs[2] + slack(rng)];
+        let lists = self.plan_in(rng, aim.number(), order.number(), lengths);
+        let (number, entries, values) = lists;
+        same("plan", if plan.is_some() { 0 } else { 13 }, number)?;
+        (self.words, self.own) = (table, aim == Aim::Total || plan.is_none());
+        self.holds()?;
+        let Some(plan) = plan else {
+            entries.kept("entries")?;
+            return values.kept("values");
+        };
+        entries.wrote("entries", &plan_bytes(plan))?;
+        let totals = replay(&self.job, &self.pins(), plan, |_, _| ());
+        let totals = totals.ok_or("the plan due is not admissible")?.numbers();
+        let totals: Vec<u64> = totals.into_iter().map(|total| total as u64).collect();
+        values.wrote("values", &totals)
+    }
+
+    /// The answer of planning, its entries and its values. `lengths`: table, entries,
+    /// values.
+    fn plan_in(
+        &mut self,
+        rng: &mut Rng,
+        aim: u32,
+        order: u32,
+        lengths: [usize; 3],
+    ) -> (u32, Lent<u8>, Lent<u64>) {
+        let mut entries = Lent::new(rng, lengths[1]);
+        let mut values = Lent::new(rng, lengths[2]);
+        let table = &mut self.table.list()[..lengths[0]];
+        let (job, set) = (&self.bytes, self.set.held());
+        let number = numbers::plan_set(job, set, aim, order, table, entries.list(), values.list());
+        (number, entries, values)
+    }
+
+    /// The table, planned by calls that set the book's pins in any order.
+    fn plan_by_calls(&mut self, rng: &mut Rng) -> Checked {
+        let calls = fresh_calls(rng, &self.pins());
+        let asked = Asked::with(self.bytes.clone(), self.job.clone(), calls);
+        let [answers, _, entries, values] = asked.needs();
+        let number = numbers::plan(
+            &asked.bytes,
+            &asked.calls,
+            TOTAL,
+            &mut vec![0; answers],
+            self.table.list(),
+            &mut vec![0; entries],
+            &mut vec![0; values],
+        );
+        (self.words, self.own) = (fast_table(&self.job, &asked.pins), true);
+        same("plan by calls", if self.total() == NEVER { 13 } else { 0 }, number)?;
+        self.holds()
+    }
+
+    /// Follows a plan with the pins of the set, before that with a list one short. Gives
+    /// the values due.
+    fn replay(&self, rng: &mut Rng, plan: &Plan) -> Result<Vec<u64>, String> {
+        let due = follow(&self.job, &self.pins(), plan);
+        let entries = plan_bytes(plan);
+        let needs = [level_numbers(&self.job), replay_values(&self.job)];
+        let short = one_short(needs, rng.from(0, 1)).expect("needed");
+        for lengths in [short, needs.map(|need| need + slack(rng))] {
+            let number = if lengths == short { 12 } else { 0 };
+            let mut levels = Lent::new(rng, lengths[0]);
+            let mut values = Lent::new(rng, lengths[1]);
+            let (job, set) = (&self.bytes, self.set.held());
+            let found = numbers::replay_set(job, set, &entries, levels.list(), values.list());
+            same("replay with a set", number, found)?;
+            levels.wrote("levels", if number > 0 { &[] } else { &due.levels })?;
+            values.wrote("values of replay", if number > 0 { &[] } else { &due.values })?;
+            self.holds()?;
+        }
+        Ok(due.values)
+    }
+
+    /// What to type again to see a failure.
+    fn show(&self) -> String {
+        format!("job {}\n  pins {:?}", hex(&self.bytes), self.book)
+    }
+
+    fn failed(&self, seed: u64, index: usize, trouble: &str) -> String {
+        format!("seed {seed}, job {index}: {trouble}\n  {}", self.show())
+    }
+}
+
+/// The order in which planning by calls, which takes none, chooses.
+const ORDER_OF_CALLS: Order = Order::Late;
+
+/// What planning for an aim is to leave, and to give in either order.
+struct InOrders {
+    table: Vec<u32>,
+    /// As in `ORDERS`.
+    plans: [Option<Plan>; 2],
+}
+
+impl InOrders {
+    fn plan_in(&self, order: Order) -> &Option<Plan> {
+        &self.plans[order.number() as usize]
+    }
+}
+
+fn due_for(aim: Aim, job: &Job, pins: &Pins) -> InOrders {
+    let limit = match aim {
+        Aim::Total => None,
+        Aim::Even => least_greatest(job, pins),
+    };
+    let job = limit.map_or(job.clone(), |limit| limited(job, limit));
+    let table = fast_table(&job, pins);
+    let plans = ORDERS.map(|order| read_off_in(order, &job, pins, &table));
+    InOrders { table, plans }
+}
+
+/// A call of a sitting: about a third are refused.
+fn sitting_call(rng: &mut Rng, desk: &Desk, light: bool) -> [u16; 3] {
+    let pins = desk.pins();
+    if rng.one_in(3) {
+        bad_call(rng, &desk.job, &pins)
+    } else {
+        good_call(rng, &desk.job, &pins, light)
+    }
+}
+
+/// Some pins, at any choice.
+fn random_book(rng: &mut Rng, job: &Job) -> Book {
+    let rarely = rng.pick(&[1, 2, 4, 1000]);
+    let mut book = Book::new();
+    for unit in 1..=job.units.len() {
+        if rng.one_in(rarely) {
+            book.insert(unit, rng.from(0, job.choices() - 1));
+        }
+    }
+    book
+}
+
+// ---------------------------------------------------------------------------
+// Sets by hand, of every length, and with other numbers.
+// ---------------------------------------------------------------------------
+
+/// The numbers of Job A's sets, after every call of a list. What is pinned takes 4 or 2
+/// grains at 10 or 30 in unit 1, 5 or 2 at 12 or 40 in unit 2.
+fn sets_by_hand_group() -> Result<String, String> {
+    let mut rng = Rng(1);
+    let none = NO_PIN;
+    let rows: [([u16; 3], Refusal, [u32; 2], [u32; 3]); 22] = [
+        ([7, 1, 0], 10, [none, none], [0, 0, 0]),
+        ([6, 1, 0], 0, [0, none], [1, 4, 10]),
+        ([6, 1, 1], 9, [0, none], [1, 4, 10]),
+        ([6, 1, 2], 8, [0, none], [1, 4, 10]),
+        ([6, 0, 2], 7, [0, none], [1, 4, 10]),
+        ([6, 3, 0], 7, [0, none], [1, 4, 10]),
+        ([6, 2, 0xffff], 8, [0, none], [1, 4, 10]),
+        ([7, 2, 0], 10, [0, none], [1, 4, 10]),
+        ([6, 2, 1], 0, [0, 1], [2, 6, 50]),
+        ([7, 0, 0], 7, [0, 1], [2, 6, 50]),
+        ([7, 3, 0], 7, [0, 1], [2, 6, 50]),
+        ([7, 257, 0], 7, [0, 1], [2, 6, 50]),
+        ([7, 1, 9], 0, [none, 1], [1, 2, 40]),
+        ([7, 1, 9], 10, [none, 1], [1, 2, 40]),
+        ([6, 1, 256], 8, [none, 1], [1, 2, 40]),
+        ([6, 1, 1], 0, [1, 1], [2, 4, 70]),
+        ([7, 2, 0], 0, [1, none], [1, 2, 30]),
+        ([6, 2, 0], 0, [1, 0], [2, 7, 42]),
+        ([7, 1, 0], 0, [none, 0], [1, 5, 12]),
+        ([6, 512, 0], 7, [none, 0], [1, 5, 12]),
+        ([6, 513, 0], 7, [none, 0], [1, 5, 12]),
+        ([7, 2, 0], 0, [none, none], [0, 0, 0]),
+    ];
+    let a = job_a();
+    let other = Draft::new([64, 255, 254, 4095, 253, 252], &[1, 8, 4095], &a.units);
+    let lines: [(Draft, [u32; SET_PINS]); 4] = [
+        (a.clone(), [1, 2, 1, 4, 3, 2, 0, 0, 3, 2, 0, 0, 0]),
+        (a.doubled(SECOND_A), [8, 2, 1, 4, 3, 2, 0, 0, 3, 2, 2, 2, 0]),
+        (other.clone(), [1, 2, 64, 255, 254, 4095, 253, 252, 3, 2, 0, 0, 0]),
+        (other.doubled([63, 4094, 62]), [8, 2, 64, 255, 254, 4095, 253, 252, 3, 2, 63, 4094, 62]),
+    ];
+    let named = [numbers::SET_NUMBERS, numbers::SET_PINS, numbers::SET_TOTALS];
+    same("where a set's numbers stand", [528, 13, 525], named)?;
+    same("no pin", 65_535, numbers::NO_PIN)?;
+    same("orders", [0, 1], [numbers::EARLY, numbers::LATE])?;
+    let mut sets = 0;
+    for (draft, head) in &lines {
+        let Asked { bytes, job, .. } = Asked::new(&mut rng, draft);
+        let room = if job.words() < 1000 { job.words() } else { 0 };
+        let mut plain = Desk::lent(&mut rng, bytes.clone(), job.clone(), room)?;
+        let mut seeing = Desk::lent(&mut rng, bytes, job, room)?;
+        let due =
+            |pins: [u32; 2], totals: [u32; 3]| [&head[..], &pins, &[NO_PIN; 510], &totals].concat();
+        same("a set without a pin", &due([none; 2], [0; 3])[..], &plain.set.held()[..SET_NUMBERS])?;
+        for (call, number, pins, totals) in rows {
+            let due = due(pins, totals);
+            let what = format!("header {:?}, call {call:?}", draft.header);
+            same(&what, number, plain.make(call)?)?;
+            same(&what, &due[..], &plain.set.held()[..SET_NUMBERS])?;
+            if room > 0 {
+                same(&what, number, seeing.see(&mut rng, call, 0, 1)?)?;
+                same(&what, &due[..], &seeing.set.held()[..SET_NUMBERS])?;
+            }
+            sets += 1;
+        }
+    }
+
+    // 512 units, of which unit u takes u grains at a distortion of 1,000 u. At the end
+    // both sums are as large as they may be; 999 is the last of a thousand choices.
+    let units: Vec<_> = (1..=512).map(|unit| vec![(0, 7), (unit, 1000 * unit as u32)]).collect();
+    let draft = Draft::new(BARE, &[0], &units);
+    let largest = Draft::new(BARE, &[0], &vec![vec![(0, 0), (4095, 1_000_000)]; 512]);
+    let many = chosen_among(MOST_CHOICES, &[999]);
+    for (draft, units, choice, totals) in [
+        (&draft, 512, 1, [512, 131_328, 131_328_000]),
+        (&largest, 512, 1, [512, 2_096_640, 512_000_000]),
+        (&many, 1, 999, [1, 2, 5]),
+    ] {
+        let mut desk = Desk::new(&mut rng, draft)?;
+        for unit in (1..=units).rev() {
+            same("a pin of many", 0, desk.make([6, unit, choice])?)?;
+        }
+        let pins = &desk.set.held()[SET_PINS..SET_PINS + units as usize];
+        same("pins of many", &vec![choice as u32; units as usize][..], pins)?;
+        same("totals of many", &totals[..], &desk.set.held()[SET_TOTALS..SET_NUMBERS])?;
+        for unit in 1..=units {
+            same("a lift of many", 0, desk.make([7, unit, 0])?)?;
+        }
+        same("totals of none", &[0; 3][..], &desk.set.held()[SET_TOTALS..SET_NUMBERS])?;
+        sets += 2 * units as usize;
+    }
+    Ok(format!("{sets} sets"))
+}
+
+/// Every call that takes a set refuses these numbers with 6, whatever else it is given,
+/// and changes nothing.
+fn check_no_set(rng: &mut Rng, bytes: &[u8], job: &Job, list: &[u32]) -> Checked {
+    check_cut_set(rng, bytes, job, list, list.len())
+}
+
+/// The same of so many of the first numbers. The others stand behind them.
+fn check_cut_set(rng: &mut Rng, bytes: &[u8], job: &Job, list: &[u32], length: usize) -> Checked {
+    let mut set = lent_with(rng, list);
+    let (units, choices) = (job.units.len() as u16, job.choices() as u16);
+    let unit = rng.pick(&[0, 1, 1, units, units + 1, 0xffff]);
+    let choice = rng.pick(&[0, choices - 1, choices, 0xffff]);
+    let room = rng.pick(&[job.words(), job.words(), job.words() - 1, 0]);
+    let mut table: Lent<u32> = Lent::new(rng, room);
+    let room = rng.pick(&[0, 1, 7, 7]);
+    let mut values: Lent<u64> = Lent::new(rng, room);
+    let room = rng.pick(&[0, ENTRY_BYTES * job.intervals()]);
+    let mut entries: Lent<u8> = Lent::new(rng, room);
+    let room = rng.pick(&[0, level_numbers(job)]);
+    let mut levels: Lent<u16> = Lent::new(rng, room);
+    let (aim, order) = (rng.pick(&[TOTAL, EVEN]), rng.pick(&[EARLY, LATE]));
+    let plan: Plan = (1..=job.intervals()).map(|t| random_entry(rng, job, t)).collect();
+    let mut plan = plan_bytes(&plan);
+    plan.truncate(rng.pick(&[0, plan.len(), plan.len()]));
+    let (cut, last) = (&mut set.list()[..length], values.list());
+    let found = [
+        numbers::pin(bytes, cut, unit, choice),
+        numbers::lift(bytes, cut, unit),
+        numbers::pin_and_see(bytes, cut, unit, choice, table.list(), last),
+        numbers::lift_and_see(bytes, cut, unit, table.list(), last),
+        numbers::plan_set(bytes, cut, aim, order, table.list(), entries.list(), last),
+        numbers::replay_set(bytes, cut, &plan, levels.list(), last),
+    ];
+    same("no set of the job", [6; 6], found)?;
+    set.wrote("what is no set", list)?;
+    table.kept("table")?;
+    values.kept("values")?;
+    entries.kept("entries")?;
+    levels.kept("levels")
+}
+
+/// Lists for a set of every length, and sets that are cut.
+fn set_lengths_group() -> Result<String, String> {
+    let mut rng = Rng(1);
+    let mut lists = 0;
+    for draft in [job_a(), job_a().doubled(SECOND_A)] {
+        let asked = Asked::new(&mut rng, &draft);
+        let due = set_numbers(&asked.job, &Book::new());
+        let pinned = set_numbers(&asked.job, &Book::from([(1, 0), (2, 1)]));
+        // In a small run some of the shorter lengths alone.
+        let lengths = (0..=SET_NUMBERS + 3).filter(|n| !small() || n % 32 == 0 || *n > 523);
+        for length in lengths {
+            let mut set = Lent::new(&mut rng, length);
+            let number = if length < SET_NUMBERS { 12 } else { 0 };
+            let what = format!("a list of {length} for a set");
+            same(&what, number, numbers::set(&asked.bytes, set.list()))?;
+            set.wrote(&what, if number > 0 { &[] } else { &due })?;
+            if length < SET_NUMBERS {
+                check_no_set(&mut rng, &asked.bytes, &asked.job, &pinned[..length])
+                    .and_then(|_| {
+                        check_cut_set(&mut rng, &asked.bytes, &asked.job, &pinned, length)
+                    })
+                    .map_err(|trouble| format!("a set cut to {length}: {trouble}"))?;
+            }
+            lists += 1;
+        }
+    }
+    Ok(format!("{lists} lists"))
+}
+
+/// What may come of a number that is changed.
+const CHANGES: [fn(u32) -> u32; 9] = [
+    |number| number.wrapping_add(1),
+    |number| number.wrapping_sub(1),
+    |number| number.wrapping_add(256),
+    |number| number.wrapping_add(65_536),
+    |number| number ^ 0x8000_0000,
+    |_| u32::MAX,
+    |_| 0,
+    |_| 255,
+    |_| NO_PIN,
+];
+
+/// Every number of a set changed alone, on jobs in which no two pins have the same
+/// totals; and sets of other jobs.
+fn changed_sets_group() -> Result<String, String> {
+    let mut rng = Rng(1);
+    let mut sets = 0;
+    let a = job_a();
+    let units = |unit: usize| (0..3).map(|c| (c as u16, 10 * unit as u32 + c)).collect();
+    let units: Vec<_> = (1..=512).map(units).collect();
+    let long = Draft::new(BARE, &[0], &units);
+    let every: Book = (1..=512).map(|unit| (unit, unit % 3)).collect();
+    let few = [Book::new(), Book::from([(1, 0)]), Book::from([(1, 1), (2, 0)])];
+    let jobs = [
+        (a.clone(), &few[..], 1),
+        (a.doubled(SECOND_A), &few[..], 1),
+        (long.clone(), &[Book::new(), every.clone()][..], 5),
+        (long.doubled([0, 1, 0]), &[every][..], 5),
+    ];
+    for (draft, books, step) in &jobs {
+        let asked = Asked::new(&mut rng, draft);
+        for book in *books {
+            let right = set_numbers(&asked.job, book);
+            let more = if small() { 23 } else { 1 };
+            let first = rng.from(0, step - 1);
+            let ends = (0..SET_PINS + 4).chain(SET_TOTALS..SET_NUMBERS);
+            for at in ends.chain((first..SET_NUMBERS).step_by(step * more)) {
+                for change in CHANGES {
+                    let mut list = right.clone();
+                    list[at] = change(right[at]);
+                    if list == right {
+                        continue;
+                    }
+                    let what = format!("number {at} is {} in place of {}", list[at], right[at]);
+                    ensure!(read_set(&asked.job, &list).is_none(), "{what}: still a set");
+                    check_no_set(&mut rng, &asked.bytes, &asked.job, &list)
+                        .map_err(|trouble| format!("{what}: {trouble}\n  pins {book:?}"))?;
+                    sets += 1;
+                }
+            }
+        }
+    }
+
+    // Of a job with one other field in its header, or another number of buckets; of one
+    // with other codings, which shows in what the pins come to.
+    let asked = Asked::new(&mut rng, &a);
+    let double = Asked::new(&mut rng, &a.doubled(SECOND_A));
+    let pinned = Book::from([(1, 0)]);
+    let mut others: Vec<Draft> = vec![a.doubled(SECOND_A), a.doubled([0, 1, 0])];
+    for (field, value) in [
+        (DELAY, 2),
+        (DECODER, 5),
+        (BUCKET, 4),
+        (DRAIN, 3),
+        (START_DECODER, 1),
+        (START_BUCKET, 1),
+        (RATES, 2),
+    ] {
+        others.push(a.with(field, value));
+    }
+    for other in &mut others {
+        other.rates.truncate(other.header[RATES] as usize);
+    }
+    let mut one_more = a.clone();
+    one_more.units.push(one_more.units[0].clone());
+    one_more.header[UNITS] = 3;
+    let mut wider = a.clone();
+    wider.units.iter_mut().for_each(|unit| unit.push((1, 50)));
+    wider.header[CHOICES] = 3;
+    let mut finer = a.clone();
+    finer.units[0][0].1 = 9;
+    let mut smaller = a.clone();
+    smaller.units[0][0].0 = 3;
+    let mut turned = a.clone();
+    turned.units.swap(0, 1);
+    others.extend([one_more, wider, finer, smaller, turned]);
+    let seconds = [[3, 2, 0], [2, 3, 0], [2, 2, 1]].map(|second| a.doubled(second));
+    let pairs = others.iter().map(|other| (&asked, other));
+    for (asked, other) in pairs.chain(seconds.iter().map(|other| (&double, other))) {
+        let set = set_numbers(&Asked::new(&mut rng, other).job, &pinned);
+        ensure!(read_set(&asked.job, &set).is_none(), "header {:?}: a set", other.header);
+        check_no_set(&mut rng, &asked.bytes, &asked.job, &set)
+            .map_err(|trouble| format!("the set of another job, {:?}: {trouble}", other.header))?;
+        sets += 1;
+    }
+    Ok(format!("{sets} lists that are no set"))
+}
+
+/// Sets of random jobs with one number or a few changed. Some of them are sets of the
+/// job all the same, of other pins, and then a call goes on from these.
+fn harmed_sets_group(seed: u64, asks: bool) -> Result<String, String> {
+    let mut rng = Rng(seed);
+    let (mut refused, mut others, mut kept) = (0, 0, 0);
+    let inputs = scaled(2500);
+    for index in 1..=inputs {
+        let draft = match index % 2 {
+            0 => random_tiny_double(&mut rng),
+            _ => random_job(&mut rng, &TINY),
+        };
+        let mut desk = Desk::new(&mut rng, &draft)?;
+        let book = random_book(&mut rng, &desk.job);
+        let mut list = set_numbers(&desk.job, &book);
+        for _ in 0..rng.from(1, 3) {
+            harm_set(&mut rng, &desk.job, &mut list);
+        }
+        let read = read_set(&desk.job, &list);
+        let mut check = || -> Checked {
+            let Some(read) = read.clone() else {
+                return check_no_set(&mut rng, &desk.bytes, &desk.job, &list);
+            };
+            desk.put_book(read);
+            let light = rng.one_in(2);
+            for _ in 0..3 {
+                let call = sitting_call(&mut rng, &desk, light);
+                let (short, room) = (rng.one_in(8) as usize, rng.from(0, 2));
+                match rng.one_in(2) {
+                    true => desk.make(call)?,
+                    false => desk.see(&mut rng, call, short, room)?,
+                };
+            }
+            Ok(())
+        };
+        let checked = check();
+        checked.map_err(|t| desk.failed(seed, index, &format!("{t}\n  numbers {list:?}")))?;
+        match read {
+            None => refused += 1,
+            Some(read) if read == book => kept += 1,
+            Some(_) => others += 1,
+        }
+    }
+    let counts = format!(
+        "{inputs} lists, {refused} no set, {others} the set of other pins, {kept} as before"
+    );
+    let worthwhile = refused * 2 > inputs && others * 20 > inputs;
+    ensure!(worthwhile || !asks, "too little in it: {counts}");
+    Ok(counts)
+}
+
+/// Changes a number, or a pin with all or some of what goes with it.
+fn harm_set(rng: &mut Rng, job: &Job, list: &mut [u32]) {
+    let units = job.units.len();
+    let unit = rng.from(1, units);
+    let at = SET_PINS + unit - 1;
+    match rng.from(0, 7) {
+        0 => {
+            let at = rng.from(0, SET_PINS - 1);
+            list[at] = rng.pick(&CHANGES)(list[at]);
+        }
+        1 => {
+            let at = rng.from(SET_TOTALS, SET_NUMBERS - 1);
+            list[at] = rng.pick(&CHANGES)(list[at]);
+        }
+        2 => list[at] = rng.pick(&CHANGES)(list[at]),
+        3 => list[at] = rng.from(0, job.choices()) as u32,
+        // A unit that the job does not have, and perhaps the count with it.
+        4 if units < 512 => {
+            list[SET_PINS + rng.from(units, 511)] = rng.pick(&[0, 0, 1, 999]);
+            list[SET_TOTALS] += rng.from(0, 1) as u32;
+        }
+        // Another pin or none, with all three totals or without one of them.
+        _ => {
+            let taken = |pin: u32| job.units[unit - 1].get(pin as usize);
+            let numbers =
+                |pin: u32| taken(pin).map_or([0; 3], |c| [1, c.grains as u32, c.distortion as u32]);
+            let pin = match rng.from(0, job.choices()) {
+                choice if choice < job.choices() => choice as u32,
+                _ => NO_PIN,
+            };
+            let (before, after) = (numbers(list[at]), numbers(pin));
+            list[at] = pin;
+            let left = rng.from(0, 8);
+            for which in (0..3).filter(|which| *which != left) {
+                let total = &mut list[SET_TOTALS + which];
+                *total = total.wrapping_add(after[which]).wrapping_sub(before[which]);
+            }
+        }
+    }
+}
+
+/// Jobs of all sizes, with calls of which about a third are refused: the book, and every
+/// number of the set after each. Another session, in which the pins are set alone and in
+/// any order, comes to the same set.
+fn books_group(seed: u64, asks: bool) -> Result<String, String> {
+    let mut rng = Rng(seed);
+    let mut tally: BTreeMap<Refusal, usize> = BTreeMap::new();
+    let (mut calls, mut pins, mut wide) = (0, 0, 0);
+    let jobs = scaled(180);
+    for index in 1..=jobs {
+        let mut draft = match index % 30 {
+            7 if !small() => random_job(&mut rng, &LARGE),
+            _ => random_mixed_job(&mut rng, index),
+        };
+        if rng.one_in(2) {
+            draft = random_doubled(&mut rng, &draft, 63, 4095);
+        }
+        let Asked { bytes, job, .. } = Asked::new(&mut rng, &draft);
+        let mut desk = Desk::lent(&mut rng, bytes, job, 0)?;
+        let light = rng.one_in(2);
+        let mut check = || -> Checked {
+            for _ in 0..rng.pick(&[3, 30, 120]) {
+                let call = sitting_call(&mut rng, &desk, light);
+                *tally.entry(desk.make(call)?).or_default() += 1;
+                calls += 1;
+            }
+            let mut fresh = Desk::lent(&mut rng, desk.bytes.clone(), desk.job.clone(), 0)?;
+            for call in fresh_calls(&mut rng, &desk.pins()).chunks(3) {
+                same("a pin of a fresh session", 0, fresh.make([call[0], call[1], call[2]])?)?;
+            }
+            let sets = [&desk, &fresh].map(|desk| &desk.set.held()[..SET_NUMBERS]);
+            same("the set of a fresh session", sets[0], sets[1])
+        };
+        check().map_err(|trouble| desk.failed(seed, index, &trouble))?;
+        pins += desk.book.len();
+        wide += (desk.set.held()[SET_TOTALS + 1] > 65_535) as usize;
+    }
+    let each: Vec<String> =
+        tally.iter().map(|(number, count)| format!("{count} {number}")).collect();
+    let counts = format!(
+        "{jobs} jobs, {calls} calls by number ({}), {pins} pins held at the end, {wide} jobs with \
+         more than 65,535 grains in them",
+        each.join(", ")
+    );
+    let numbers = [0, 7, 8, 9, 10];
+    let worthwhile = numbers.iter().all(|number| tally.get(number).is_some_and(|c| c * 50 > calls))
+        && pins > jobs
+        && wide > 0;
+    ensure!(worthwhile || !asks, "too little in it: {counts}");
+    Ok(counts)
+}
+
+// ---------------------------------------------------------------------------
+// Refusals of sets in their order.
+// ---------------------------------------------------------------------------
+
+/// The set cut or with a wrong number, in one of four ways.
+fn wrong_set(set: &mut Vec<u32>, way: usize) {
+    match way {
+        0 => set.truncate(SET_NUMBERS - 1),
+        1 => set[SET_PINS + 2] = 0,
+        2 => set[SET_TOTALS + 2] += 1,
+        _ => set[0] = 9 - set[0],
+    }
+}
+
+/// A list with these numbers.
+fn lent_with(rng: &mut Rng, numbers: &[u32]) -> Lent<u32> {
+    let mut lent = Lent::new(rng, numbers.len());
+    lent.list().copy_from_slice(numbers);
+    lent
+}
+
+/// Every set of defects of Job A, its set, and what else is named and lent, on lines that
+/// drain and that never do. The first in order gives the number, and nothing is written.
+fn sets_order_group() -> Result<String, String> {
+    let mut rng = Rng(1);
+    let mut sets = 0;
+    for draft in &drains_of_a() {
+        let right = Asked::new(&mut rng, draft);
+        for wrong in 0..=5 {
+            let asked = Asked::with(wrong_job(draft, wrong), right.job.clone(), Vec::new());
+            // The wrong byte of 1 is the last one; only 2 and 3 are in the header.
+            let never = draft.never_drains() && wrong != 2 && wrong != 3;
+            let opened = if never { 17 } else { wrong };
+            let step = match (never, wrong) {
+                _ if small() => 37,
+                (true, _) => 7,
+                (false, 0) => 1,
+                (false, _) => 3,
+            };
+            for bits in (0..1 << 9).step_by(step) {
+                let has = |bit: usize| bits >> bit & 1 == 1;
+                let mut check = || -> Checked {
+                    check_set_order(&mut rng, &asked, opened, has)?;
+                    check_pin_order(&mut rng, &asked, opened, has)?;
+                    check_lift_order(&mut rng, &asked, opened, has)?;
+                    check_plan_set_order(&mut rng, &asked, opened, has)?;
+                    check_replay_set_order(&mut rng, &asked, wrong, has)
+                };
+                check().map_err(|trouble| {
+                    format!("header {:?}, job {wrong}, defects {bits:b}: {trouble}", draft.header)
+                })?;
+                sets += 1;
+            }
+        }
+    }
+    Ok(format!("{sets} sets of defects"))
+}
+
+fn check_set_order(
+    rng: &mut Rng,
+    asked: &Asked,
+    opened: Refusal,
+    has: impl Fn(usize) -> bool,
+) -> Checked {
+    let mut set = Lent::new(rng, cut_to(SET_NUMBERS, has(0), has(6)));
+    let due = first_of(&[(opened > 0, opened), (has(0), 12)]);
+    same("set", due, numbers::set(&asked.bytes, set.list()))?;
+    let numbers = set_numbers(&asked.job, &Book::new());
+    set.wrote("set", if due == 0 { &numbers } else { &[] })
+}
+
+/// The pins of `book` as the set, with a defect or without.
+fn faulty_set(
+    rng: &mut Rng,
+    asked: &Asked,
+    book: &Book,
+    has: impl Fn(usize) -> bool,
+) -> (Vec<u32>, Lent<u32>) {
+    let mut numbers = set_numbers(&asked.job, book);
+    if has(0) {
+        wrong_set(&mut numbers, has(7) as usize + 2 * has(8) as usize);
+    }
+    let lent = lent_with(rng, &numbers);
+    (numbers, lent)
+}
+
+/// Pins, alone and with a table.
+fn check_pin_order(
+    rng: &mut Rng,
+    asked: &Asked,
+    opened: Refusal,
+    has: impl Fn(usize) -> bool,
+) -> Checked {
+    let [set, unit, choice, taken, table, values, by_all] = std::array::from_fn(&has);
+    let mut book = Book::from([(2, 1)]);
+    book.extend(taken.then_some((1, 1)));
+    let call = [6, [1, 3, 0][unit as usize * (1 + by_all as usize)], if choice { 2 } else { 0 }];
+    let due = [
+        (opened > 0, opened),
+        (set, 6),
+        (unit, 7),
+        (choice, 8),
+        (taken, 9),
+        (table, 11),
+        (values, 12),
+    ];
+    let lengths = [cut_to(asked.job.words(), table, by_all), cut_to(1, values, by_all)];
+    let mut set = faulty_set(rng, asked, &book, &has);
+    let found = numbers::pin(&asked.bytes, set.1.list(), call[1], call[2]);
+    check_stepped(asked, &mut book.clone(), call, first_of(&due[..5]), found, &set)?;
+    set.1.list().copy_from_slice(&set.0);
+    check_seen(rng, asked, &mut book, call, first_of(&due), set, lengths)
+}
+
+/// Lifts, alone and with a table.
+fn check_lift_order(
+    rng: &mut Rng,
+    asked: &Asked,
+    opened: Refusal,
+    has: impl Fn(usize) -> bool,
+) -> Checked {
+    let [set, unit, other, free, table, values, by_all] = std::array::from_fn(&has);
+    let mut book = Book::from([(2, other as usize)]);
+    book.extend((!free).then_some((1, 1)));
+    let call = [7, [1, 3, 0][unit as usize * (1 + by_all as usize)], 0];
+    let due = [(opened > 0, opened), (set, 6), (unit, 7), (free, 10), (table, 11), (values, 12)];
+    let lengths = [cut_to(asked.job.words(), table, by_all), cut_to(1, values, by_all)];
+    let mut set = faulty_set(rng, asked, &book, &has);
+    let found = numbers::lift(&asked.bytes, set.1.list(), call[1]);
+    check_stepped(asked, &mut book.clone(), call, first_of(&due[..4]), found, &set)?;
+    set.1.list().copy_from_slice(&set.0);
+    check_seen(rng, asked, &mut book, call, first_of(&due), set, lengths)
+}
+
+/// The call was answered by `found`, and the set is that of the book after it.
+fn check_stepped(
+    asked: &Asked,
+    book: &mut Book,
+    call: [u16; 3],
+    due: u32,
+    found: u32,
+    (numbers, set): &(Vec<u32>, Lent<u32>),
+) -> Checked {
+    same(&format!("call {call:?}"), due, found)?;
+    if due > 0 {
+        return set.wrote("set", numbers);
+    }
+    same("the book", 0, step_book(&asked.job, book, call))?;
+    set.wrote("set", &set_numbers(&asked.job, book))
+}
+
+/// The same with a table in which anything stands. `lengths`: table, values.
+fn check_seen(
+    rng: &mut Rng,
+    asked: &Asked,
+    book: &mut Book,
+    call: [u16; 3],
+    due: u32,
+    mut set: (Vec<u32>, Lent<u32>),
+    lengths: [usize; 2],
+) -> Checked {
+    let (mut table, mut values) = (Lent::new(rng, lengths[0]), Lent::new(rng, lengths[1]));
+    let words = table.held().to_vec();
+    let (job, [kind, unit, choice]) = (&asked.bytes, call);
+    let (numbers, lent) = (set.1.list(), (table.list(), values.list()));
+    let found = match kind {
+        6 => numbers::pin_and_see(job, numbers, unit, choice, lent.0, lent.1),
+        _ => numbers::lift_and_see(job, numbers, unit, lent.0, lent.1),
+    };
+    check_stepped(asked, book, call, due, found, &set)?;
+    if due > 0 {
+        table.kept("table")?;
+        return values.kept("value");
+    }
+    let (job, pins) = (&asked.job, pins_of(&asked.job, book));
+    let words = renewed(job, &pins, &words, unit as usize + job.delay);
+    table.wrote("table", &words)?;
+    let start = job.word(0, job.start_decoder, &job.start_levels());
+    values.wrote("value", &[words[start] as u64])
+}
+
+fn check_plan_set_order(
+    rng: &mut Rng,
+    asked: &Asked,
+    opened: Refusal,
+    has: impl Fn(usize) -> bool,
+) -> Checked {
+    let [wrong, aim, order, table, entries, values, by_all] = std::array::from_fn(&has);
+    // A unit that the decoder cannot hold.
+    let no_plan = has(7);
+    let book = if no_plan { Book::from([(2, 0)]) } else { Book::from([(1, 0)]) };
+    let set = faulty_set(rng, asked, &book, |bit| if bit == 7 { by_all } else { has(bit) });
+    let due = first_of(&[
+        (opened > 0, opened),
+        (aim, 2),
+        (order, 2),
+        (wrong, 6),
+        (table, 11),
+        (entries, 12),
+        (values, 12),
+        (no_plan, 13),
+    ]);
+    let job = &asked.job;
+    let mut table = Lent::new(rng, cut_to(job.words(), table, by_all));
+    let mut entries = Lent::new(rng, cut_to(BEST_A.len(), entries, by_all));
+    let mut values = Lent::new(rng, cut_to(plan_values(job), values, by_all));
+    let named = [(aim, rng.pick(&[TOTAL, EVEN])), (order, rng.pick(&[EARLY, LATE]))];
+    let [aim, order] =
+        named.map(|(wrong, right)| if wrong { rng.pick(&WRONG_AIMS) } else { right });
+    let lists = (table.list(), entries.list(), values.list());
+    let found =
+        numbers::plan_set(&asked.bytes, set.1.held(), aim, order, lists.0, lists.1, lists.2);
+    same(&format!("plan for {aim} in order {order}"), due, found)?;
+    set.1.wrote("set", &set.0)?;
+    if due > 0 && due != 13 {
+        table.kept("table")?;
+    }
+    if due > 0 {
+        entries.kept("entries")?;
+        values.kept("values")?;
+    }
+    match due {
+        0 => {
+            let plan = if order == EARLY { &EARLY_A } else { &BEST_A };
+            entries.wrote("entries", plan)?;
+            // Unused grains of each bucket: the drain of the first interval, or none.
+            let totals: [u64; 5] = if order == EARLY { [50, 6, 8, 0, 0] } else { [50, 6, 6, 2, 2] };
+            values.wrote("values", &totals[..plan_values(job)])
+        }
+        13 => table.wrote("table", &fast_table(job, &pins_of(job, &book))),
+        _ => Ok(()),
+    }
+}
+
+/// Job A's best plan where as much as possible is sent early, and which comes to the same
+/// total: the first interval fills the decoder, the second sends nothing, and the third,
+/// in which unit 2 takes 2 grains, sends 4.
+const EARLY_A: [u8; 9] = [2, 255, 255, 0, 0, 0, 2, 1, 0];
+
+/// On a line that never drains too: there the plan is followed with the set's pins.
+fn check_replay_set_order(
+    rng: &mut Rng,
+    asked: &Asked,
+    wrong: Refusal,
+    has: impl Fn(usize) -> bool,
+) -> Checked {
+    let [faulty, shape, other, not_held, list, short, by_all] = std::array::from_fn(&has);
+    let job = &asked.job;
+    let book = if not_held { Book::from([(2, 0)]) } else { Book::from([(2, 1)]) };
+    let set = faulty_set(rng, asked, &book, &has);
+    let mut entries = BEST_A.to_vec();
+    if shape {
+        match other {
+            true => entries[3] = 3,
+            false => entries.truncate(8),
+        }
+    }
+    entries.shrink_to_fit();
+    let due = first_of(&[(wrong > 0, wrong), (faulty, 6), (shape, 14), (list, 12), (short, 12)]);
+    let mut levels = Lent::new(rng, cut_to(level_numbers(job), list, by_all));
+    let mut values = Lent::new(rng, cut_to(replay_values(job), short, by_all));
+    let lists = (levels.list(), values.list());
+    let found = numbers::replay_set(&asked.bytes, set.1.held(), &entries, lists.0, lists.1);
+    same("replay with a set", due, found)?;
+    set.1.wrote("set", &set.0)?;
+    if due > 0 {
+        levels.kept("levels")?;
+        return values.kept("values of replay");
+    }
+    let plan = read_plan(job, &BEST_A).expect("a plan");
+    let followed = follow(job, &pins_of(job, &book), &plan);
+    levels.wrote("levels", &followed.levels)?;
+    values.wrote("values of replay", &followed.values)
+}
+
+// ---------------------------------------------------------------------------
+// Pin and see.
+// ---------------------------------------------------------------------------
+
+/// Job A's totals after every call of a list, and some of its tables, by hand; the table
+/// of a job whose total is as large as it may be.
+fn seen_by_hand_group() -> Result<String, String> {
+    let mut rng = Rng(1);
+    // With unit 1 at choice 1, two grains are enough from everywhere. Unit 2 at choice 0
+    // takes five, which the decoder cannot hold.
+    let coarse = |layer: usize| [70, 70, 40, 0][layer];
+    let lost = |layer: usize| [NEVER, NEVER, NEVER, 0][layer];
+    let rows: [([u16; 3], Refusal, u32, Option<&dyn Fn(usize) -> u32>); 14] = [
+        ([6, 1, 1], 0, 70, Some(&coarse)),
+        ([6, 1, 0], 9, 70, Some(&coarse)),
+        ([6, 2, 1], 0, 70, Some(&coarse)),
+        ([7, 2, 0], 0, 70, Some(&coarse)),
+        ([7, 1, 0], 0, 50, None),
+        ([6, 1, 0], 0, 50, None),
+        ([6, 2, 0], 0, NEVER, Some(&lost)),
+        ([6, 2, 1], 9, NEVER, Some(&lost)),
+        ([7, 1, 0], 0, NEVER, Some(&lost)),
+        ([6, 1, 1], 0, NEVER, Some(&lost)),
+        ([7, 2, 0], 0, 70, Some(&coarse)),
+        ([7, 2, 0], 10, 70, Some(&coarse)),
+        ([7, 1, 0], 0, 50, None),
+        ([7, 3, 0], 7, 50, None),
+    ];
+    let mut calls = 0;
+    for Known { draft, table, totals, .. } in known_lines() {
+        let mut desk = Desk::new(&mut rng, &draft)?;
+        for (order, entries) in [(Order::Early, EARLY_A), (Order::Late, BEST_A)] {
+            let plan = desk.plan(&mut rng, Aim::Total, order)?.map(|plan| plan_bytes(&plan));
+            same(&format!("{order:?}"), Some(entries.to_vec()), plan)?;
+        }
+        same("Job A's table", &table, &desk.words)?;
+        for (call, number, total, layers) in rows {
+            let what = format!("{} words, call {call:?}", table.len());
+            same(&what, number, desk.see(&mut rng, call, 0, 1)?)?;
+            same(&what, total, desk.total())?;
+            if let Some(layers) = layers {
+                let each = table.len() / 4;
+                let due: Vec<u32> = (0..4).flat_map(|layer| vec![layers(layer); each]).collect();
+                same(&what, &due, &desk.words)?;
+            }
+            calls += 1;
+        }
+        same("Job A's table again", &table, &desk.words)?;
+        same("Job A's total again", totals[0], desk.total() as u64)?;
+    }
+
+    // Each unit loses nothing or 1,000,000. All are pinned at that, from the last on and
+    // then from the first on; what the first three layers read in the end is the most
+    // that a total can be.
+    let units = vec![vec![(0, 0), (0, 1_000_000)]; 512];
+    let one = Draft::new([3, 0, 0, 1, 0, 0], &[0], &units);
+    for (draft, falling) in [(one.clone(), true), (one.doubled([0, 1, 0]), false)] {
+        let mut desk = Desk::new(&mut rng, &draft)?;
+        let mut units: Vec<usize> = (1..=512).collect();
+        if falling {
+            units.reverse();
+        }
+        // In a small run all but the last calls are made beforehand.
+        let made = if small() { 500 } else { 0 };
+        desk.put_book(units[..made].iter().map(|&unit| (unit, 1)).collect());
+        desk.plan(&mut rng, Aim::Total, Order::Early)?;
+        for (count, &unit) in (1..).zip(&units).skip(made) {
+            same("a pin of 512", 0, desk.see(&mut rng, [6, unit as u16, 1], 0, 1)?)?;
+            same("a total of 512", 1_000_000 * count, desk.total())?;
+            calls += 1;
+        }
+        same("the first layers", &[MOST_TOTAL; 4][..], &desk.words[..4])?;
+    }
+    Ok(format!("{calls} calls"))
+}
+
+/// One unit that may lose 5 or 1,000,000, and a table of one word a layer: what a pin
+/// makes of the last word, by hand, without a delay and with one of two intervals.
+fn words_by_hand_group() -> Result<String, String> {
+    let mut rng = Rng(1);
+    let (most, never) = (MOST_TOTAL, NEVER);
+    // Each line: the last word; the choice, which loses 5 or 1,000,000; the word of the
+    // layer before the last; those before it, where the delay is.
+    let rows: [(u32, u16, u32, u32); 18] = [
+        (0, 0, 5, 5),
+        (0, 1, 1_000_000, 1_000_000),
+        (7, 0, 12, 12),
+        (most - 1_000_000, 1, most, most),
+        (most - 999_999, 1, most + 1, never),
+        (most - 6, 0, most - 1, most - 1),
+        (most - 5, 0, most, most),
+        (most - 4, 0, most + 1, never),
+        (most - 1, 0, most + 4, never),
+        (most, 0, most + 5, never),
+        (most, 1, most + 1_000_000, never),
+        (most + 1, 0, never, never),
+        (most + 1, 1, never, never),
+        (most + 1_000_000, 0, never, never),
+        (0x8000_0000, 0, never, never),
+        (never - 1_000_000, 1, never, never),
+        (never - 5, 0, never, never),
+        (never, 0, never, never),
+    ];
+    let units = [vec![(0, 5), (0, 1_000_000)]];
+    let one = Draft::new(BARE, &[0], &units);
+    for (draft, delay) in [(&one, 0), (&one, 2), (&one.doubled([0, 1, 0]), 2)] {
+        let draft = draft.with(DELAY, delay);
+        for (last, choice, word, before) in rows {
+            let mut desk = Desk::new(&mut rng, &draft)?;
+            let stood = desk.words.clone();
+            let put = |last: u32| [&stood[..delay as usize + 1], &[last]].concat();
+            desk.put_words(put(last));
+            let what = format!("delay {delay}, last word {last}, choice {choice}");
+            same(&what, 0, desk.see(&mut rng, [6, 1, choice], 0, 1)?)?;
+            let due = [&vec![before; delay as usize][..], &[word, last]].concat();
+            same(&what, &due, &desk.words)?;
+            same(&what, if delay > 0 { before } else { word }, desk.total())?;
+            // Without the pin the unit loses 5.
+            same(&what, 0, desk.see(&mut rng, [7, 1, 0], 0, 1)?)?;
+            let free = rows.iter().find(|row| row.0 == last && row.1 == 0);
+            if let Some(&(_, _, word, before)) = free {
+                let due = [&vec![before; delay as usize][..], &[word, last]].concat();
+                same(&what, &due, &desk.words)?;
+            }
+        }
+    }
+    Ok(format!("{} last words, each for three lines", rows.len()))
+}
+
+/// What came of calls that see.
+#[derive(Default)]
+struct Seen {
+    calls: usize,
+    by_number: BTreeMap<Refusal, usize>,
+    /// No plan holds the pins; and there is one again, or there is none any more.
+    never: usize,
+    turned: usize,
+    /// Words made again, those among them that changed, and words that were kept.
+    made: usize,
+    changed: usize,
+    kept: usize,
+}
+
+impl Seen {
+    /// A call by which the number `due` was answered, on these words.
+    fn count(&mut self, desk: &Desk, before: &[u32], unit: u16, due: Refusal) {
+        self.calls += 1;
+        *self.by_number.entry(due).or_default() += 1;
+        if due > 0 {
+            return;
+        }
+        let start = desk.job.word(0, desk.job.start_decoder, &desk.job.start_levels());
+        let layer = desk.words.len() / (desk.job.intervals() + 1);
+        let made = layer * desk.layers(unit);
+        self.never += (desk.words[start] == NEVER) as usize;
+        self.turned += ((desk.words[start] == NEVER) != (before[start] == NEVER)) as usize;
+        self.made += made;
+        self.changed += before.iter().zip(&desk.words).filter(|(a, b)| a != b).count();
+        self.kept += desk.words.len() - made;
+    }
+
+    fn show(&self) -> String {
+        let Seen { calls, by_number, never, turned, made, changed, kept } = self;
+        let each: Vec<String> =
+            by_number.iter().map(|(number, count)| format!("{count} {number}")).collect();
+        format!(
+            "{calls} calls that see by number ({}), {never} without a plan and {turned} that made \
+             or ended that; {made} words made again, {changed} changed, {kept} kept",
+            each.join(", ")
+        )
+    }
+
+    /// Whether each of these numbers was given, and there is enough of the rest.
+    fn worthwhile(&self, numbers: &[Refusal]) -> bool {
+        let Seen { calls, by_number, never, turned, made, changed, kept } = self;
+        let often = |number| by_number.get(number).is_some_and(|count| count * 100 > *calls);
+        let [never, turned] = [never * 30, turned * 100].map(|count| count > *calls);
+        numbers.iter().all(often) && never && turned && changed * 20 > *made && *kept > 0
+    }
+}
+
+/// A job of any size on which a table is soon made.
+fn random_seen_job(rng: &mut Rng, index: usize) -> Draft {
+    match index % 12 {
+        0 if index % 36 == 0 => random_long_job(rng),
+        0 if index % 36 == 12 => random_long_double(rng),
+        0 => random_many_job(rng, &MANY[1]),
+        1 => random_job(rng, &MEDIUM),
+        2 => random_medium_double(rng),
+        3 => random_tight_job(rng, &TIGHT[1]),
+        4 => random_double_job(rng, &DOUBLE[1]),
+        5 => random_level_job(rng, &EVEN_SHAPES[1]),
+        6 | 7 => random_tiny_double(rng),
+        8 => random_double_job(rng, &DOUBLE[0]),
+        9 => random_tight_job(rng, &TIGHT[0]),
+        _ => random_job(rng, &TINY),
+    }
+}
+
+/// Calls that see on planning's own tables, of jobs of all sizes. The table is the one
+/// that a fresh session has, and follows from the one before.
+fn seen_group(seed: u64, asks: bool) -> Result<String, String> {
+    let mut rng = Rng(seed);
+    let mut seen = Seen::default();
+    let jobs = scaled(240);
+    for index in 1..=jobs {
+        let draft = random_seen_job(&mut rng, index);
+        let mut desk = Desk::new(&mut rng, &draft)?;
+        let light = !rng.one_in(3);
+        let mut check = || -> Checked {
+            if rng.one_in(2) {
+                let book = random_book(&mut rng, &desk.job);
+                desk.put_book(book);
+            }
+            match rng.one_in(3) {
+                true => desk.plan_by_calls(&mut rng)?,
+                false => drop(desk.plan(&mut rng, Aim::Total, order_in_turn(index))?),
+            }
+            for _ in 0..8 {
+                let call = sitting_call(&mut rng, &desk, light);
+                let (short, room) = lent_amiss(&mut rng, &desk);
+                let before = desk.words.clone();
+                let due = desk.see(&mut rng, call, short, room)?;
+                seen.count(&desk, &before, call[1], due);
+                if due == 0 {
+                    let follows = renewed(&desk.job, &desk.pins(), &before, desk.layers(call[1]));
+                    ensure!(follows == desk.words, "call {call:?}: it does not follow");
+                }
+            }
+            Ok(())
+        };
+        check().map_err(|trouble| desk.failed(seed, index, &trouble))?;
+    }
+    let counts = format!("{jobs} jobs, {}", seen.show());
+    let worthwhile = seen.worthwhile(&[0, 7, 8, 9, 10, 11, 12]);
+    ensure!(worthwhile || !asks, "too little in it: {counts}");
+    Ok(counts)
+}
+
+/// The orders in turn.
+fn order_in_turn(index: usize) -> Order {
+    ORDERS[index % 2]
+}
+
+/// How many words the table is short of, mostly none, and the room for values.
+fn lent_amiss(rng: &mut Rng, desk: &Desk) -> (usize, usize) {
+    let short = match rng.from(1, 16) {
+        1 => 1,
+        2 => rng.from(1, desk.job.words()),
+        _ => 0,
+    };
+    (short, if rng.one_in(8) { 0 } else { rng.from(1, 3) })
+}
+
+// ---------------------------------------------------------------------------
+// Tables of any words.
+// ---------------------------------------------------------------------------
+
+/// What the words of a layer are drawn from.
+const MIXES: [&[u32]; 6] = [
+    &[MOST_TOTAL, MOST_TOTAL + 1],
+    &[MOST_TOTAL, MOST_TOTAL + 1, MOST_TOTAL + 1, NEVER],
+    &[MOST_TOTAL - 2, MOST_TOTAL - 1, MOST_TOTAL, MOST_TOTAL + 1, MOST_TOTAL + 2, NEVER],
+    &[0, 1, 7, 1_000_000, MOST_TOTAL, MOST_TOTAL + 1, NEVER],
+    &[
+        MOST_TOTAL - 1_000_000,
+        MOST_TOTAL + 1,
+        MOST_TOTAL + 1_000_000,
+        MOST_TOTAL + 1_000_001,
+        0x1fff_ffff,
+        0x2000_0000,
+        0x7fff_ffff,
+        0x8000_0000,
+        NEVER - 1_000_000,
+        NEVER - 999_999,
+        NEVER - 1,
+        NEVER,
+    ],
+    &[0, NEVER, NEVER, NEVER],
+];
+
+/// Each layer is drawn from a mix of its own, or from all numbers there are.
+fn random_words(rng: &mut Rng, job: &Job) -> Vec<u32> {
+    let mut words = Vec::new();
+    for _ in 0..=job.intervals() {
+        let mix = rng.from(0, MIXES.len() + 3);
+        for _ in 0..job.words() / (job.intervals() + 1) {
+            words.push(match MIXES.get(mix) {
+                Some(mix) => rng.pick(mix),
+                None if rng.one_in(2) => rng.from(0, 600_000_000) as u32,
+                None => rng.next() as u32,
+            });
+        }
+    }
+    words
+}
+
+/// A small job in which the levels of a state tell: a bucket drains little and may start
+/// filled. In most jobs an interval may send nothing and a unit take nothing, and in many
+/// the first unit is decoded in the first interval.
+fn random_words_job(rng: &mut Rng) -> Draft {
+    let shape = Shape { units: (1, 4), decoder: 5, heavy: &[8], commands: 0, ..TINY };
+    let mut draft = random_job(rng, &shape);
+    if !rng.one_in(4) {
+        draft.rates[0] = 0;
+        draft.units.iter_mut().filter_map(|unit| unit.last_mut()).for_each(|last| last.0 = 0);
+    }
+    let bucket = |rng: &mut Rng| {
+        let size = rng.from(1, 5);
+        let start = if rng.one_in(2) { size } else { rng.from(0, size) };
+        [size as u16, rng.pick(&[1, 1, 1, 2, 3, 9]), start as u16]
+    };
+    let ([size, drain, start], second) = (bucket(rng), bucket(rng));
+    let draft = draft.with(BUCKET, size).with(DRAIN, drain).with(START_BUCKET, start);
+    let draft = draft.with(DELAY, rng.pick(&[0, 0, 0, 0, 1, 1, 2, 3, 5, 9]));
+    if rng.one_in(2) {
+        draft.doubled(second)
+    } else {
+        draft
+    }
+}
+
+/// Calls that see on tables of any words, and on those that planning leaves for even
+/// pictures, for other pins or for another job. Of each the layers that a call makes
+/// again follow from what stands behind them.
+fn any_words_group(seed: u64, asks: bool) -> Result<String, String> {
+    let mut rng = Rng(seed);
+    let (mut seen, mut told) = (Seen::default(), Told::default());
+    let mut delays = [0; 4];
+    let jobs = scaled(360);
+    for index in 1..=jobs {
+        let draft = match index % 8 {
+            0 => random_seen_job(&mut rng, index / 8),
+            1 => random_level_job(&mut rng, &EVEN_SHAPES[0]),
+            _ => random_words_job(&mut rng),
+        };
+        let mut desk = Desk::new(&mut rng, &draft)?;
+        let tiny = index % 8 > 0;
+        let mut check = || -> Checked {
+            let book = random_book(&mut rng, &desk.job);
+            desk.put_book(book);
+            for step in 0..8 {
+                match step {
+                    // What the call before has left is gone on from.
+                    2 | 5 => (),
+                    3 => drop(desk.plan(&mut rng, Aim::Even, Order::Late)?),
+                    6 => {
+                        // Planning's own, for other pins.
+                        drop(desk.plan(&mut rng, Aim::Total, Order::Early)?);
+                        let book = random_book(&mut rng, &desk.job);
+                        desk.put_book(book);
+                    }
+                    7 => {
+                        let other = random_job(&mut rng, &MEDIUM);
+                        let words = fast_table(&Asked::new(&mut rng, &other).job, &vec![None; 20]);
+                        let words = words.into_iter().cycle().take(desk.job.words()).collect();
+                        desk.put_words(words);
+                    }
+                    _ => {
+                        let words = random_words(&mut rng, &desk.job);
+                        desk.put_words(words);
+                    }
+                }
+                let mut call = sitting_call(&mut rng, &desk, false);
+                if step > 5 {
+                    call = good_call(&mut rng, &desk.job, &desk.pins(), false);
+                }
+                let (short, room) = lent_amiss(&mut rng, &desk);
+                let (before, pins) = (desk.words.clone(), desk.pins());
+                let due = desk.see(&mut rng, call, short, room)?;
+                seen.count(&desk, &before, call[1], due);
+                if due > 0 {
+                    continue;
+                }
+                delays[desk.job.delay.min(3)] += 1;
+                if tiny {
+                    let (job, layers) = (&desk.job, desk.layers(call[1]));
+                    let loops = renewed_by_loops(job, &desk.pins(), &before, layers);
+                    ensure!(loops == desk.words, "call {call:?}: the loops come to others");
+                    told.add(&seen_mistakes(&desk, &pins, &before, call[1]));
+                }
+            }
+            Ok(())
+        };
+        check().map_err(|trouble| desk.failed(seed, index, &trouble))?;
+    }
+    let counts =
+        format!("{jobs} jobs, {}; delays 0, 1, 2, more {delays:?}{}", seen.show(), told.show());
+    let worthwhile = seen.worthwhile(&[0, 7, 8, 9, 10, 11, 12])
+        && told.each(150)
+        && delays.iter().all(|count| count * 20 > seen.calls);
+    ensure!(worthwhile || !asks, "too little in it: {counts}");
+    Ok(counts)
+}
+
+/// Mistaken ways to make the layers again, and whether a call for this unit tells them:
+/// from the pins and the words before it.
+fn seen_mistakes(
+    desk: &Desk,
+    before: &Pins,
+    words: &[u32],
+    unit: u16,
+) -> Vec<(&'static str, bool)> {
+    let (job, pins, layers) = (&desk.job, desk.pins(), desk.layers(unit));
+    let other = |pins: &Pins, layers: usize| renewed(job, pins, words, layers) != desk.words;
+    let read = |read: Reading| renewed_by(read, job, &pins, words, layers) != desk.words;
+    let mut alone: Pins = vec![None; pins.len()];
+    alone[unit as usize - 1] = pins[unit as usize - 1];
+    let (last, total) = (job.intervals(), desk.total());
+    let levels = job.start_levels();
+    let word = |decoder: i64, levels: Levels| desk.words[job.word(0, decoder, &levels)] != total;
+    vec![
+        ("one layer too few", other(&pins, layers - 1)),
+        ("one layer too many", other(&pins, (layers + 1).min(last))),
+        ("layer 0 alone", other(&pins, 1)),
+        ("the delay forgotten", other(&pins, unit as usize)),
+        ("every layer", other(&pins, last)),
+        ("the pins before the call", other(before, layers)),
+        ("no other pin", other(&alone, layers)),
+        ("512,000,001 read", read(|word| if word > MOST_TOTAL + 1 { FAR } else { word })),
+        ("512,000,000 not read", read(|word| if word >= MOST_TOTAL { FAR } else { word })),
+        ("29 bits read", read(|word| if word >> 29 > 0 { FAR } else { word })),
+        (
+            "all but 4,294,967,295 read",
+            read(|word| if word == NEVER { FAR } else { word.min(FAR - 1_000_001) }),
+        ),
+        (
+            "no sum over 512,000,000",
+            desk.words[..layers * words.len() / (last + 1)]
+                .iter()
+                .any(|word| *word > MOST_TOTAL && *word != NEVER),
+        ),
+        ("the total over 512,000,000 as none", total > MOST_TOTAL && total != NEVER),
+        ("the total before", words[job.word(0, job.start_decoder, &levels)] != total),
+        ("the first word", word(0, [0; MOST_BUCKETS])),
+        ("the word of an empty decoder", word(0, levels)),
+        ("the word of an empty bucket", word(job.start_decoder, [0, levels[1]])),
+        ("the word of an empty second bucket", word(job.start_decoder, [levels[0], 0])),
+    ]
+}
+
+// ---------------------------------------------------------------------------
+// Sittings.
+// ---------------------------------------------------------------------------
+
+/// A job for a long sitting.
+fn random_sitting_job(rng: &mut Rng, index: usize) -> Draft {
+    match index % 8 {
+        0 => random_long_job(rng),
+        1 => random_double_job(rng, &DOUBLE[1]),
+        2 => random_medium_double(rng),
+        3 => random_many_job(rng, &MANY[1]),
+        4 => random_level_job(rng, &Shape { units: (10, 30), bucket: 4, ..EVEN_SHAPES[1] }),
+        _ => random_job(rng, &SESSION),
+    }
+}
+
+/// How many calls a sitting has.
+fn sitting_length(rng: &mut Rng, desk: &Desk) -> usize {
+    match desk.job.words() {
+        _ if small() => 25,
+        0..=5000 => rng.from(150, 400),
+        _ => rng.from(30, 80),
+    }
+}
+
+/// Sittings of calls that see, begun on planning's own table: pins and lifts in any order,
+/// refused ones, and such as are lent too little. After every call the set, the table and
+/// the total are those of a fresh session with the same pins.
+fn sittings_group(seed: u64, asks: bool) -> Result<String, String> {
+    sittings(seed, asks, |rng, desk, light, seen| {
+        let call = sitting_call(rng, desk, light);
+        let (short, room) = lent_amiss(rng, desk);
+        let before = desk.words.clone();
+        let due = desk.see(rng, call, short, room)?;
+        seen.count(desk, &before, call[1], due);
+        Ok(())
+    })
+}
+
+/// The same with calls among them that do not see, after most of which a plan brings the
+/// table up to date; now and then one for even pictures, whose table is another, and
+/// calls that see go on from that.
+fn mixed_sittings_group(seed: u64, asks: bool) -> Result<String, String> {
+    sittings(seed, asks, |rng, desk, light, seen| {
+        let call = sitting_call(rng, desk, light);
+        let order = rng.pick(&ORDERS);
+        match rng.from(1, 12) {
+            1..=3 => {
+                for _ in 0..rng.from(0, 2) {
+                    let call = sitting_call(rng, desk, light);
+                    desk.make(call)?;
+                }
+                desk.make(call)?;
+                if !rng.one_in(4) {
+                    desk.plan(rng, Aim::Total, order)?;
+                }
+            }
+            4 if rng.one_in(3) => drop(desk.plan(rng, Aim::Even, order)?),
+            _ => {
+                let (short, room) = lent_amiss(rng, desk);
+                let before = desk.words.clone();
+                let due = desk.see(rng, call, short, room)?;
+                seen.count(desk, &before, call[1], due);
+            }
+        }
+        Ok(())
+    })
+}
+
+fn sittings(
+    seed: u64,
+    asks: bool,
+    step: impl Fn(&mut Rng, &mut Desk, bool, &mut Seen) -> Checked,
+) -> Result<String, String> {
+    let mut rng = Rng(seed);
+    let (mut seen, mut ends) = (Seen::default(), Ends::default());
+    let jobs = scaled(24);
+    for index in 1..=jobs {
+        let draft = random_sitting_job(&mut rng, index);
+        let mut desk = Desk::new(&mut rng, &draft)?;
+        let light = rng.one_in(2);
+        let mut check = || -> Checked {
+            match rng.one_in(2) {
+                true => desk.plan_by_calls(&mut rng)?,
+                false => drop(desk.plan(&mut rng, Aim::Total, order_in_turn(index))?),
+            }
+            for _ in 0..sitting_length(&mut rng, &desk) {
+                step(&mut rng, &mut desk, light, &mut seen)?;
+            }
+            // At the end of every second sitting most is lifted, so that there is a plan.
+            for unit in if index % 2 == 0 { desk.book.keys().copied().collect() } else { vec![] } {
+                if !rng.one_in(8) {
+                    let before = desk.words.clone();
+                    let due = desk.see(&mut rng, [7, unit as u16, 0], 0, 1)?;
+                    seen.count(&desk, &before, unit as u16, due);
+                }
+            }
+            check_end(&mut rng, &mut desk, &mut ends)
+        };
+        check().map_err(|trouble| desk.failed(seed, index, &trouble))?;
+    }
+    let Ends { plans, orders, not_held, other } = ends;
+    let counts = format!(
+        "{jobs} sittings, {}; at the end {plans} with a plan, {orders} with another in the other \
+         order; of those with another pin {not_held} do not hold it, {other} end otherwise",
+        seen.show()
+    );
+    let worthwhile = seen.worthwhile(&[0, 7, 8, 9, 10, 11, 12])
+        && plans * 4 > jobs
+        && orders * 10 > jobs
+        && not_held * 4 > plans;
+    ensure!(worthwhile || !asks, "too little in it: {counts}");
+    Ok(counts)
+}
+
+/// What came of the ends of sittings.
+#[derive(Default)]
+struct Ends {
+    plans: usize,
+    orders: usize,
+    not_held: usize,
+    other: usize,
+}
+
+/// The end of a sitting: a fresh session with its pins, its plans for both aims and in
+/// both orders, and their replays. By calls that set the same pins the plans are those of
+/// one order.
+fn check_end(rng: &mut Rng, desk: &mut Desk, ends: &mut Ends) -> Checked {
+    let (pins, words) = (desk.pins(), desk.job.words());
+    let calls = fresh_calls(rng, &pins);
+    let mut fresh = Desk::lent(rng, desk.bytes.clone(), desk.job.clone(), words)?;
+    for call in calls.chunks(3) {
+        same("a pin of a fresh session", 0, fresh.make([call[0], call[1], call[2]])?)?;
+    }
+    fresh.plan(rng, Aim::Total, Order::Late)?;
+    let sets = [&*desk, &fresh].map(|desk| &desk.set.held()[..SET_NUMBERS]);
+    same("a fresh session's set", sets[1], sets[0])?;
+    if desk.own {
+        let same = desk.table.held()[..words] == fresh.table.held()[..words];
+        ensure!(same, "a fresh session's table is another");
+    }
+
+    let asked = Asked::with(desk.bytes.clone(), desk.job.clone(), calls);
+    for aim in AIMS {
+        let [early, late] = ORDERS.map(|order| desk.plan(rng, aim, order));
+        let (early, late) = (early?, late?);
+        same("a plan in both orders", early.is_some(), late.is_some())?;
+        let due = planned_numbers_for(aim, &asked);
+        let found = set_planned(aim, ORDER_OF_CALLS, desk);
+        ensure!(due == found, "{aim:?}: by calls another plan than by the set");
+        for plan in early.iter().chain(&late) {
+            same("a plan's replay", 0, desk.replay(rng, plan)?[0])?;
+        }
+        let Some(plan) = late else { continue };
+        ends.plans += (aim == Aim::Total) as usize;
+        ends.orders += (aim == Aim::Total && early.as_ref() != Some(&plan)) as usize;
+        check_other_pin(rng, &mut fresh, &plan, ends)?;
+    }
+    Ok(())
+}
+
+/// What planning with a set gives, as `planned_numbers_for` has it.
+fn set_planned(aim: Aim, order: Order, desk: &Desk) -> PlannedNumbers {
+    let (mut table, mut entries) =
+        (vec![7; desk.job.words()], vec![7; ENTRY_BYTES * desk.job.intervals()]);
+    let mut values = vec![7; plan_values(&desk.job)];
+    let (job, set, aim, order) = (&desk.bytes, desk.set.held(), aim.number(), order.number());
+    let number = numbers::plan_set(job, set, aim, order, &mut table, &mut entries, &mut values);
+    (number, table, entries, values)
+}
+
+/// The plan under a set in which one unit has another pin than the plan's choice: what
+/// replay finds is what it finds after the same calls.
+fn check_other_pin(rng: &mut Rng, fresh: &mut Desk, plan: &Plan, ends: &mut Ends) -> Checked {
+    let choices = fresh.job.choices();
+    if choices < 2 {
+        return Ok(());
+    }
+    let unit = rng.from(1, fresh.job.units.len());
+    let chosen = plan[fresh.job.delay + unit - 1].1;
+    let mut book = fresh.book.clone();
+    book.insert(unit, (chosen + rng.from(1, choices - 1)) % choices);
+    let held = std::mem::take(&mut fresh.book);
+    fresh.put_book(book);
+    let values = fresh.replay(rng, plan)?;
+    let interval = (fresh.job.delay + unit) as u64;
+    match values[..2] {
+        [NOT_HELD, found] if found == interval => ends.not_held += 1,
+        _ => ends.other += 1,
+    }
+    let calls = fresh_calls(rng, &fresh.pins());
+    let found = replayed_numbers(fresh, &calls, plan);
+    let due = set_replayed(fresh, plan);
+    fresh.put_book(held);
+    same("a replay with a set, and after calls", due, found)
+}
+
+/// A replay's answer, levels and values.
+type ReplayedNumbers = (u32, Vec<u16>, Vec<u64>);
+
+fn set_replayed(desk: &Desk, plan: &Plan) -> ReplayedNumbers {
+    let mut levels = vec![7; level_numbers(&desk.job)];
+    let mut values = vec![7; replay_values(&desk.job)];
+    let (job, set, entries) = (&desk.bytes, desk.set.held(), plan_bytes(plan));
+    let number = numbers::replay_set(job, set, &entries, &mut levels, &mut values);
+    (number, levels, values)
+}
+
+fn replayed_numbers(desk: &Desk, calls: &[u16], plan: &Plan) -> ReplayedNumbers {
+    let mut levels = vec![7; level_numbers(&desk.job)];
+    let mut values = vec![7; replay_values(&desk.job)];
+    let (job, entries) = (&desk.bytes, plan_bytes(plan));
+    let number = numbers::replay(job, calls, &entries, &mut levels, &mut values);
+    (number, levels, values)
+}
+
+fn typed_order(order: Order) -> upload_planner::Order {
+    match order {
+        Order::Early => upload_planner::Order::Early,
+        Order::Late => upload_planner::Order::Late,
+    }
+}
+
+/// Sittings of the type [`upload_planner::Session`]: what it says after each call is what
+/// the numbers say.
+fn typed_sittings_group(seed: u64, asks: bool) -> Result<String, String> {
+    let mut rng = Rng(seed);
+    let (mut calls, mut refused, mut never, mut plans) = (0, 0, 0, 0);
+    let jobs = scaled(60);
+    for index in 1..=jobs {
+        let draft = random_seen_job(&mut rng, index);
+        let mut desk = Desk::new(&mut rng, &draft)?;
+        let light = rng.one_in(2);
+        let bytes = desk.bytes.clone();
+        let mut check = || -> Checked {
+            let opened = upload_planner::Session::open(&bytes);
+            let mut session = opened.map_err(|refusal| refusal.to_string())?;
+            desk.plan(&mut rng, Aim::Total, Order::Late)?;
+            check_typed_session(&session, &desk)?;
+            for _ in 0..12 {
+                let call = sitting_call(&mut rng, &desk, light);
+                let due = desk.see(&mut rng, call, 0, 1)?;
+                let [kind, unit, choice] = call;
+                let found = match kind {
+                    6 => session.pin(unit, choice),
+                    _ => session.lift(unit),
+                };
+                let found = found.err().map_or(0, |refusal| refusal.number());
+                same(&format!("typed call {call:?}"), due as u32, found)?;
+                check_typed_session(&session, &desk)?;
+                calls += 1;
+                refused += (due > 0) as usize;
+                never += (desk.total() == NEVER) as usize;
+            }
+            for (aim, order) in AIMS.iter().flat_map(|aim| ORDERS.map(|order| (*aim, order))) {
+                let plan = desk.plan(&mut rng, aim, order)?;
+                let found = session.plan(typed_aim(aim), typed_order(order));
+                let found = found.map_err(|refusal| refusal.number());
+                let (number, table, entries, values) = set_planned(aim, order, &desk);
+                same("a typed plan's number", number, found.as_ref().err().copied().unwrap_or(0))?;
+                if let (Ok(found), Some(plan)) = (found, plan) {
+                    same("typed entries", &entries, &found.entries)?;
+                    same("typed totals", typed_totals(&values), found.totals)?;
+                    ensure!(table == found.table, "the typed table is another");
+                    ensure!(found.answers.is_empty(), "answers without calls");
+                    check_typed_replay(&session, &desk, &plan)?;
+                    plans += 1;
+                }
+            }
+            let other = random_plan(&mut rng, &desk.job, &desk.pins());
+            check_typed_replay(&session, &desk, &other)?;
+            let (entries, how) = misshapen(&mut rng, &desk.job, &other);
+            let found = session.replay(&entries).err().map(|refusal| refusal.number());
+            same(how, Some(14), found)
+        };
+        check().map_err(|trouble| desk.failed(seed, index, &trouble))?;
+    }
+    let counts = format!(
+        "{jobs} sittings, {calls} calls, {refused} refused, {never} without a plan, {plans} plans"
+    );
+    let worthwhile = refused * 5 > calls && never * 20 > calls && plans > jobs;
+    ensure!(worthwhile || !asks, "too little in it: {counts}");
+    Ok(counts)
+}
+
+fn check_typed_session(session: &upload_planner::Session, desk: &Desk) -> Checked {
+    let total = desk.total();
+    same("typed total", (total != NEVER).then_some(total), session.best_total())?;
+    ensure!(session.table() == desk.words, "the typed table is another");
+    let pins: Vec<(u16, u16)> =
+        desk.book.iter().map(|(&unit, &choice)| (unit as u16, choice as u16)).collect();
+    same("typed pins", &pins, &session.pins().collect())?;
+    let units = desk.job.units.len();
+    for unit in [0, 1, units, units + 1, 512, 513, 0xffff] {
+        let choice = desk.book.get(&unit).map(|&choice| choice as u16);
+        same(&format!("typed pin of unit {unit}"), choice, session.pin_of(unit as u16))?;
+    }
+    let totals = pin_totals(&desk.job, &desk.pins());
+    same("typed totals of pins", typed_pins(totals), session.pin_totals())?;
+    let opened = session.opened();
+    same("typed words", desk.job.words(), opened.table_words)?;
+    same("the job's bytes", &desk.bytes[..], session.job())
+}
+
+fn check_typed_replay(session: &upload_planner::Session, desk: &Desk, plan: &Plan) -> Checked {
+    let due = follow(&desk.job, &desk.pins(), plan);
+    let found = session.replay(&plan_bytes(plan)).map_err(|refusal| refusal.number());
+    let levels = typed_levels(&desk.job, &due.levels);
+    same("typed replay", Ok((levels, typed_replay(&due.values))), found)
+}
+
+// ---------------------------------------------------------------------------
+// Plans and replays with a set.
+// ---------------------------------------------------------------------------
+
+/// Tiny jobs, both aims and both orders, against every plan there is.
+fn set_plans_group(seed: u64, asks: bool) -> Result<String, String> {
+    let mut rng = Rng(seed);
+    let (mut plans, mut orders, mut choices) = ([0; 2], [0; 2], 0);
+    let mut jobs = 0;
+    for index in 1..=scaled(500) {
+        let draft = match index % 4 {
+            0 => random_tiny_double(&mut rng),
+            1 => random_job(&mut rng, &TINY),
+            _ => random_level_job(&mut rng, &EVEN_SHAPES[0]),
+        };
+        let mut desk = Desk::new(&mut rng, &draft)?;
+        if desk.job.plans().map_or(true, |plans| plans > ENUMERATION_LIMIT) {
+            continue;
+        }
+        jobs += 1;
+        let calls = call_numbers(&mut rng, &draft.commands);
+        let asked = Asked::with(desk.bytes.clone(), desk.job.clone(), calls);
+        let mut check = || -> Checked {
+            for (call, number) in asked.calls.chunks(3).zip(&asked.answers) {
+                same("a call", *number, desk.make([call[0], call[1], call[2]])?)?;
+            }
+            let all = admissible_plans(&desk.job, &desk.pins());
+            for (which, aim) in AIMS.into_iter().enumerate() {
+                let [early, late] = ORDERS.map(|order| first_plan(&desk.job, aim, order, &all));
+                let found = [
+                    desk.plan(&mut rng, aim, Order::Early)?,
+                    desk.plan(&mut rng, aim, Order::Late)?,
+                ];
+                same("every plan, and those read off", [&early, &late], [&found[0], &found[1]])?;
+                let found = set_planned(aim, ORDER_OF_CALLS, &desk);
+                ensure!(planned_numbers_for(aim, &asked) == found, "by calls another plan");
+                plans[which] += late.is_some() as usize;
+                orders[which] += (early != late) as usize;
+                // Early and late differ in a rate first; a choice decides after that.
+                let last = all.iter().max_by_key(|judged| {
+                    (-judged.total, Order::Late.rank(&desk.job, &judged.plan))
+                });
+                let last = last.map(|judged| judged.plan.clone());
+                choices += (aim == Aim::Total && last != early && last != late) as usize;
+                for plan in early.iter().chain(&late) {
+                    same("a plan's replay", 0, desk.replay(&mut rng, plan)?[0])?;
+                }
+            }
+            Ok(())
+        };
+        check().map_err(|trouble| desk.failed(seed, index, &trouble))?;
+    }
+    let counts = format!(
+        "{jobs} jobs, {} with a plan, {} for even pictures; {} and {} with another in the other \
+         order; {choices} in which the last plan of all is neither",
+        plans[0], plans[1], orders[0], orders[1]
+    );
+    let worthwhile =
+        plans[0] * 3 > jobs && orders.iter().all(|o| o * 8 > jobs) && choices * 8 > jobs;
+    ensure!(worthwhile || !asks, "too little in it: {counts}");
+    Ok(counts)
+}
+
+/// Plans of any kind with the pins of a set, also on lines that never drain, where a set
+/// has to be made by hand. On others replay finds the same after calls.
+fn set_replays_group(seed: u64, asks: bool) -> Result<String, String> {
+    let mut rng = Rng(seed);
+    let (mut tally, mut stored, mut held) = ([0; 6], 0, 0);
+    let jobs = scaled(300);
+    for index in 1..=jobs {
+        let draft = match index % 6 {
+            0 => random_medium_double(&mut rng),
+            1 => random_job(&mut rng, &MEDIUM),
+            2 => random_double_job(&mut rng, &DOUBLE[1]),
+            3 => random_tiny_double(&mut rng),
+            _ => random_job(&mut rng, &TINY),
+        };
+        let draft = random_stored(&mut rng, &draft, 4);
+        let Asked { bytes, job, .. } = Asked::new(&mut rng, &draft);
+        let never = job.never_drains();
+        let book = random_book(&mut rng, &job);
+        let more = slack(&mut rng);
+        let mut set = Lent::new(&mut rng, SET_NUMBERS + more);
+        set.list()[..SET_NUMBERS].copy_from_slice(&set_numbers(&job, &book));
+        let (table, words) = (Lent::new(&mut rng, 0), Vec::new());
+        let desk = Desk { bytes, job, book, set, table, words, own: false };
+        let mut check = || -> Checked {
+            for which in 0..6 {
+                let plan = match which % 2 {
+                    0 => tight_plan(&mut rng, &desk.job, &desk.pins(), 4),
+                    _ => random_plan(&mut rng, &desk.job, &desk.pins()),
+                };
+                let values = desk.replay(&mut rng, &plan)?;
+                tally[values[0] as usize] += 1;
+                stored += never as usize;
+                held += (never && values[0] == NOT_HELD) as usize;
+                if !never {
+                    let calls = fresh_calls(&mut rng, &desk.pins());
+                    let due = replayed_numbers(&desk, &calls, &plan);
+                    same("replay after calls, and with a set", due, set_replayed(&desk, &plan))?;
+                }
+                let (entries, how) = misshapen(&mut rng, &desk.job, &plan);
+                let mut levels = Lent::<u16>::new(&mut rng, level_numbers(&desk.job));
+                let mut values = Lent::<u64>::new(&mut rng, replay_values(&desk.job));
+                let (job, set, lists) =
+                    (&desk.bytes, desk.set.held(), (levels.list(), values.list()));
+                same(how, 14, numbers::replay_set(job, set, &entries, lists.0, lists.1))?;
+                levels.kept("levels after 14")?;
+                values.kept("values after 14")?;
+            }
+            Ok(())
+        };
+        check().map_err(|trouble| desk.failed(seed, index, &trouble))?;
+    }
+    let [clean, short, over, bucket, pin, second] = tally;
+    let counts = format!(
+        "{} plans: {clean} clean, {short} decoder short, {over} decoder over, {bucket} bucket \
+         over, {second} second bucket over, {pin} pin not held; {stored} on lines that never \
+         drain, {held} of them for a pin",
+        6 * jobs
+    );
+    let worthwhile = tally.iter().all(|count| count * 20 > jobs) && held * 30 > jobs;
+    ensure!(worthwhile || !asks, "too little in it: {counts}");
+    Ok(counts)
+}
+
+/// The best plan of Job A on lines that never drain, with sets that have to be made by
+/// hand: it is followed with their pins, and every other call refuses the job with 17,
+/// whatever the set.
+fn set_never_group() -> Result<String, String> {
+    let mut rng = Rng(1);
+    let mut sets = 0;
+    for Known { draft, levels, totals, .. } in stored_lines() {
+        let Asked { bytes, job, .. } = Asked::new(&mut rng, &draft);
+        let each = 1 + job.buckets.len();
+        let plan = read_plan(&job, &BEST_A).expect("a plan");
+        let clean = [&[0, 0], &totals[..]].concat();
+        // Unit 1 has choice 0 in interval 2, unit 2 choice 1 in interval 3.
+        for (book, held) in [
+            (vec![], 3),
+            (vec![(1, 0)], 3),
+            (vec![(1, 0), (2, 1)], 3),
+            (vec![(1, 1)], 1),
+            (vec![(2, 0)], 2),
+            (vec![(1, 0), (2, 0)], 2),
+            (vec![(1, 1), (2, 0)], 1),
+        ] {
+            let book: Book = book.into_iter().collect();
+            let right = set_numbers(&job, &book);
+            let what = format!("header {:?}, pins {book:?}", draft.header);
+            let set = lent_with(&mut rng, &right);
+            let (table, words) = (Lent::new(&mut rng, 0), Vec::new());
+            let (bytes, job) = (bytes.clone(), job.clone());
+            let desk = Desk { bytes, job, book, set, table, words, own: false };
+            let found = desk.replay(&mut rng, &plan).map_err(|t| format!("{what}: {t}"))?;
+            let due =
+                if held == 3 { clean.clone() } else { violated(&desk.job, NOT_HELD, held + 1) };
+            same(&what, due, found)?;
+            let followed = follow(&desk.job, &desk.pins(), &plan).levels;
+            same(&what, &levels[..each * held], &followed)?;
+            for way in 0..5 {
+                let mut list = right.clone();
+                if way < 4 {
+                    wrong_set(&mut list, way);
+                }
+                check_undrained(&mut rng, &desk.bytes, &list, &plan, way < 4)
+                    .map_err(|trouble| format!("{what}, set {way}: {trouble}"))?;
+                sets += 1;
+            }
+        }
+    }
+    Ok(format!("{sets} sets"))
+}
+
+/// Every call that takes a set refuses the job with 17 before it looks at the set; replay
+/// takes the job, and refuses a wrong set with 6.
+fn check_undrained(rng: &mut Rng, bytes: &[u8], list: &[u32], plan: &Plan, wrong: bool) -> Checked {
+    let mut set = lent_with(rng, list);
+    let (mut table, mut entries): (Lent<u32>, Lent<u8>) = (Lent::new(rng, 2000), Lent::new(rng, 9));
+    let mut values: Lent<u64> = Lent::new(rng, 7);
+    let lists = (table.list(), values.list());
+    let found = [
+        numbers::pin(bytes, set.list(), 1, 0),
+        numbers::pin(bytes, set.list(), 3, 0),
+        numbers::lift(bytes, set.list(), 1),
+        numbers::lift(bytes, set.list(), 0),
+        numbers::pin_and_see(bytes, set.list(), 2, 1, lists.0, lists.1),
+        numbers::lift_and_see(bytes, set.list(), 1, lists.0, lists.1),
+        numbers::plan_set(bytes, set.held(), TOTAL, LATE, lists.0, entries.list(), lists.1),
+        numbers::plan_set(bytes, set.held(), EVEN, 9, lists.0, entries.list(), lists.1),
+        numbers::set(bytes, set.list()),
+    ];
+    same("a job that never drains", [17; 9], found)?;
+    let mut levels = vec![7; 9];
+    let replayed =
+        numbers::replay_set(bytes, set.held(), &plan_bytes(plan), &mut levels, &mut [7; 7]);
+    same("its replay", if wrong { 6 } else { 0 }, replayed)?;
+    ensure!(!wrong || levels == [7; 9], "levels after 6");
+    set.wrote("set", list)?;
+    table.kept("table")?;
+    entries.kept("entries")?;
+    values.kept("values")
+}
+
+/// Calls that see over large tables: of the first unit, the last and one between.
+fn seen_large_group() -> Result<String, String> {
+    let few = Size { units: 48, delay: 8, decoder: 63, bucket: 15, rates: 8, choices: 8 };
+    let sizes = [
+        ("many units", Size { units: 512, delay: 64, decoder: 31, bucket: 3, ..few }, None),
+        ("large buffers", Size { units: 4, decoder: 255, bucket: 255, ..few }, None),
+        ("a thousand choices", Size { units: 8, rates: 16, choices: 1000, ..few }, None),
+        ("two buckets", Size { units: 8, ..few }, Some([31, 18, 20])),
+    ];
+    let mut rng = Rng(7);
+    let (mut words, mut calls) = (0, 0);
+    for (name, size, second) in &sizes {
+        let draft = large_job(&mut rng, size, *second);
+        let mut check = || -> Checked {
+            let mut desk = Desk::new(&mut rng, &draft)?;
+            desk.plan(&mut rng, Aim::Total, Order::Early)?;
+            let last = desk.job.units.len() as u16;
+            let choice = desk.job.choices() as u16 - 1;
+            for call in
+                [[6, last, choice], [6, 1, choice], [6, last / 2, choice], [7, 1, 0], [7, last, 0]]
+            {
+                same("a large table", 0, desk.see(&mut rng, call, 0, 1)?)?;
+                ensure!(desk.total() != NEVER, "no plan");
+                calls += 1;
+            }
+            words += desk.words.len();
+            Ok(())
+        };
+        check().map_err(|trouble| format!("{name}: {trouble}"))?;
+    }
+    Ok(format!("{} jobs, {words} words, {calls} calls", sizes.len()))
+}
+
+// ---------------------------------------------------------------------------
 // Writing.
 // ---------------------------------------------------------------------------
 
@@ -5714,6 +7789,13 @@ fn run_all(new_seed: u64, with_full: bool, examples: Option<&Path>) -> bool {
         print_group("refusals of stored jobs in their order", stored_order_group()),
         print_group("calls before the replay of a stored job", stored_calls_group()),
         print_group("values of opening and of the archive", door_lengths_group()),
+        print_group("sets of pins by hand", sets_by_hand_group()),
+        print_group("sets of every length", set_lengths_group()),
+        print_group("every number of a set changed", changed_sets_group()),
+        print_group("refusals of sets in their order", sets_order_group()),
+        print_group("sets on lines that never drain", set_never_group()),
+        print_group("pin and see by hand", seen_by_hand_group()),
+        print_group("words over 512,000,000 by hand", words_by_hand_group()),
         print_group("report by hand", report_group()),
         print_group("every delay in the report", delays_group()),
         print_group("long delays in the report", long_delays_group()),
@@ -5743,6 +7825,15 @@ fn run_all(new_seed: u64, with_full: bool, examples: Option<&Path>) -> bool {
     seeded("idle jobs", &[1, 2], idle_group);
     seeded("calls", &[1, 2], calls_group);
     seeded("long sessions", &[1, 2], sessions_group);
+    seeded("books of pins", &[1, 2], books_group);
+    seeded("harmed sets", &[1, 2], harmed_sets_group);
+    seeded("pin and see", &[1, 2], seen_group);
+    seeded("pin and see on any words", &[1, 2], any_words_group);
+    seeded("sittings", &[1, 2], sittings_group);
+    seeded("mixed sittings", &[1, 2], mixed_sittings_group);
+    seeded("typed sittings", &[1], typed_sittings_group);
+    seeded("plans with a set", &[1, 2], set_plans_group);
+    seeded("replays with a set", &[1, 2], set_replays_group);
     seeded("larger jobs", &[4], larger_group);
     seeded("jobs of many choices", &[1, 2], many_group);
     seeded("even pictures, tiny jobs", &[1, 2], even_tiny_group);
@@ -5762,6 +7853,7 @@ fn run_all(new_seed: u64, with_full: bool, examples: Option<&Path>) -> bool {
     if !small() {
         results.push(print_group("large jobs", large_group()));
         results.push(print_group("even pictures, large jobs", even_large_group()));
+        results.push(print_group("pin and see, large jobs", seen_large_group()));
     }
     if !small() && with_full {
         results.push(print_group("a job of the largest size", full_group()));

@@ -1,12 +1,12 @@
 //! What the test programs share: answers worked out straight from the product's
 //! paper, and the jobs they are asked of.
 //!
-//! The answers have six parts: a reader that gives the first refusal due, an
+//! The answers have seven parts: a reader that gives the first refusal due, an
 //! enumeration of every plan (small jobs), a dynamic program that carries whole
 //! paths forward (the jobs too large to enumerate), both of these again for even
-//! pictures, with every word of the table, a reader of plans of either shape, and a
-//! writer that gives a job's bytes or the first refusal due. Each program uses a part
-//! of what stands here.
+//! pictures, with every word of the table, a reader of plans of either shape, a book of
+//! pins with the numbers of its set, and a writer that gives a job's bytes or the first
+//! refusal due. Each program uses a part of what stands here.
 
 use std::collections::btree_map::Entry as MapEntry;
 use std::collections::BTreeMap;
@@ -666,6 +666,43 @@ impl Aim {
     }
 }
 
+/// Which of several plans that are as good is given, as the caller names it.
+#[derive(Clone, Copy, Debug, PartialEq, Eq)]
+pub enum Order {
+    /// At the first difference the larger rate index, then the smaller choice index.
+    Early,
+    /// At the first difference the smaller rate index, then the smaller choice index.
+    Late,
+}
+
+pub const ORDERS: [Order; 2] = [Order::Early, Order::Late];
+
+/// The numbers by which C names them.
+pub const EARLY: u32 = 0;
+pub const LATE: u32 = 1;
+
+impl Order {
+    pub fn number(self) -> u32 {
+        match self {
+            Order::Early => EARLY,
+            Order::Late => LATE,
+        }
+    }
+
+    /// A rate's place among all, the one that is preferred first.
+    pub fn place(self, job: &Job, rate: usize) -> usize {
+        match self {
+            Order::Early => job.rates.len() - 1 - rate,
+            Order::Late => rate,
+        }
+    }
+
+    /// Of two plans that are as good the one of the lesser rank is given.
+    pub fn rank(self, job: &Job, plan: &Plan) -> Plan {
+        plan.iter().map(|&(rate, choice)| (self.place(job, rate), choice)).collect()
+    }
+}
+
 /// No choice is left out: more than any distortion.
 pub const NO_LIMIT: i64 = i64::MAX;
 
@@ -721,6 +758,15 @@ pub fn enumerate_even(job: &Job, pins: &Pins) -> Evened {
     let equals = plans.len();
     let best = plans.into_iter().map(|judged| judged.plan).min();
     Evened { best, greatest, as_even, equals }
+}
+
+/// Of all admissible plans the one that is due for an aim and an order.
+pub fn first_plan(job: &Job, aim: Aim, order: Order, plans: &[Judged]) -> Option<Plan> {
+    let key = |judged: &&Judged| {
+        let greatest = if aim == Aim::Even { judged.greatest } else { 0 };
+        (greatest, judged.total, order.rank(job, &judged.plan))
+    };
+    plans.iter().min_by_key(key).map(|judged| judged.plan.clone())
 }
 
 /// The least that intervals t + 1 to T add from these levels, by trying every
@@ -889,6 +935,77 @@ pub fn turn(job: &Job, old: &[u8], room: usize) -> Result<Vec<u8>, Refusal> {
         return Err(12);
     }
     Ok(entries)
+}
+
+// ---------------------------------------------------------------------------
+// A book of pins, and sets of them as numbers.
+// ---------------------------------------------------------------------------
+
+/// The lines that have a choice, by unit from 1.
+pub type Book = BTreeMap<usize, usize>;
+
+/// What the book makes of a call in three numbers: 0, or the number that refuses it. A
+/// refused call changes no line.
+pub fn step_book(job: &Job, book: &mut Book, call: [u16; 3]) -> Refusal {
+    let [kind, unit, choice] = call.map(usize::from);
+    if unit < 1 || unit > job.units.len() {
+        return 7;
+    }
+    if kind == 7 {
+        return if book.remove(&unit).is_some() { 0 } else { 10 };
+    }
+    if choice >= job.choices() {
+        return 8;
+    }
+    if book.contains_key(&unit) {
+        return 9;
+    }
+    book.insert(unit, choice);
+    0
+}
+
+/// The book's pins as the searches have them.
+pub fn pins_of(job: &Job, book: &Book) -> Pins {
+    (1..=job.units.len()).map(|unit| book.get(&unit).copied()).collect()
+}
+
+/// How many numbers a set has, and where its pins and its totals begin.
+pub const SET_NUMBERS: usize = 528;
+pub const SET_PINS: usize = 13;
+pub const SET_TOTALS: usize = 525;
+/// The pin of a unit without one.
+pub const NO_PIN: u32 = 65_535;
+
+/// The set of a job with these pins: the header's kind, its fields, a pin for each of
+/// 512 units, and what the pins come to.
+pub fn set_numbers(job: &Job, book: &Book) -> Vec<u32> {
+    let mut numbers = vec![if job.buckets.len() > 1 { 8 } else { 1 }];
+    numbers.extend(Lists::of_job(job).fields.iter().map(|&field| field as u32));
+    numbers.resize(SET_PINS, 0);
+    numbers.extend((1..=512).map(|unit| book.get(&unit).map_or(NO_PIN, |&choice| choice as u32)));
+    let choices = || book.iter().map(|(unit, choice)| &job.units[unit - 1][*choice]);
+    numbers.push(book.len() as u32);
+    numbers.push(choices().map(|choice| choice.grains as u32).sum());
+    numbers.push(choices().map(|choice| choice.distortion as u32).sum());
+    numbers
+}
+
+/// The book whose set the numbers are; `None` where they are no set of this job. What
+/// stands behind a set is not looked at.
+pub fn read_set(job: &Job, numbers: &[u32]) -> Option<Book> {
+    let numbers = numbers.get(..SET_NUMBERS)?;
+    let mut book = Book::new();
+    for (unit, &number) in (1..).zip(&numbers[SET_PINS..SET_TOTALS]) {
+        if number == NO_PIN {
+            continue;
+        }
+        let choices = job.units.get(unit - 1).map_or(0, Vec::len);
+        if number as usize >= choices {
+            return None;
+        }
+        book.insert(unit, number as usize);
+    }
+    (set_numbers(job, &book) == numbers).then_some(book)
 }
 
 // ---------------------------------------------------------------------------
@@ -1160,9 +1277,13 @@ pub struct Told {
 
 impl Told {
     pub fn count(&mut self, mistakes: Mistakes, job: &Job, pins: &Pins, plan: Option<&Plan>) {
-        for (name, told) in mistakes(job, pins, plan) {
+        self.add(&mistakes(job, pins, plan));
+    }
+
+    pub fn add(&mut self, mistakes: &[(&'static str, bool)]) {
+        for (name, told) in mistakes {
             let count = self.counts.entry(name).or_default();
-            count[0] += told as usize;
+            count[0] += *told as usize;
             count[1] += 1;
         }
     }

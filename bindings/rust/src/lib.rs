@@ -30,12 +30,17 @@
 //! nothing, except that [`Refusal::NoPlan`] comes after the search and leaves `table`
 //! written, and no other list.
 //!
+//! An editor who pins and lifts, and wants to see each time what the best plan comes
+//! to, opens a [`Session`]. It keeps the pins and the table from click to click, and of
+//! the table a click fills only what its unit has a part in.
+//!
 //! A drain of 0 was once typed for a line without a limit, and says the opposite: what
 //! is sent stays in the bucket. Jobs with it, in either bucket, are refused with 17,
 //! directly after 3 and before the next record is looked at: by [`open`], [`calls()`],
-//! [`plan`] and [`write()`], and by [`called`], [`best_plan`] and [`written`]. Such jobs
-//! that are stored are opened by [`archive`], which takes all other jobs too;
-//! [`replay`], [`report`], [`turn`], [`replayed`] and [`turned`] take what it takes.
+//! [`plan`] and [`write()`], by [`called`], [`best_plan`] and [`written`], and by
+//! [`Session::open`]. Such jobs that are stored are opened by [`archive`], which takes all
+//! other jobs too; [`replay`], [`report`], [`turn`], [`replayed`] and [`turned`] take what
+//! it takes.
 //!
 //! The work is done by the library `libupload.a`, whose code is proved to meet
 //! its contract. It takes no memory and reads and writes only what is lent to
@@ -97,9 +102,9 @@ pub enum Refusal {
     /// 1: the bytes end before a record that is due is whole, or the last call is
     /// cut.
     Cut,
-    /// 2: a record's kind or length is not the one due, an aim's number is neither
-    /// of the two, or a call is neither a pin nor a lift. An [`Aim`] always has one
-    /// or the other.
+    /// 2: a record's kind or length is not the one due, an aim's number or an order's
+    /// is neither of the two, or a call is neither a pin nor a lift. An [`Aim`] and an
+    /// [`Order`] always have one or the other.
     WrongRecord,
     /// 3: a field of the header is out of range, or the fields are not nine or
     /// twelve. A [`Header`] always has one or the other.
@@ -108,8 +113,9 @@ pub enum Refusal {
     Rates,
     /// 5: a choice's grains are over 4,095 or its distortion is over 1,000,000.
     Choices,
-    /// 6: a set of pins does not fit the job. The functions here keep their own
-    /// set and never give this.
+    /// 6: the numbers are no set of pins of this job. The functions here and a
+    /// [`Session`] keep their own set and never give this; those of [`numbers`] that
+    /// take a set do.
     OtherJob,
     /// 7: the unit is not from 1 to N.
     NoSuchUnit,
@@ -178,7 +184,7 @@ impl fmt::Display for Refusal {
                 "the bytes end before a record that is due is whole, or the last call is cut"
             }
             Refusal::WrongRecord => {
-                "a record, an aim or a call of another kind or length than the one due"
+                "a record, an aim, an order or a call of another kind or length than the one due"
             }
             Refusal::Header => {
                 "a field of the header is out of range, or the fields are not nine or twelve"
@@ -239,8 +245,9 @@ fn numbers_of(calls: &[Call]) -> Vec<u16> {
 ///
 /// Pinned units count as all others do. Among plans that are equal in what the aim
 /// names, the first interval at which they differ decides, whatever the aim: the
-/// smaller rate index, then the smaller choice index. There is no plan for the one aim
-/// exactly where there is none for the other.
+/// smaller rate index, then the smaller choice index; in a [`Session`] by the [`Order`]
+/// that the caller names. There is no plan for the one aim exactly where there is none
+/// for the other.
 ///
 /// # Examples
 ///
@@ -301,6 +308,64 @@ impl Aim {
         match self {
             Aim::Total => numbers::TOTAL,
             Aim::Even => numbers::EVEN,
+        }
+    }
+}
+
+/// Which of several plans that are as good a [`Session`] gives: the first interval at
+/// which they differ decides. The caller names it in every call that plans there;
+/// [`plan`] and [`best_plan`] give the late one.
+///
+/// # Examples
+///
+/// Unit 1 takes four grains, and they can be sent in the first interval or in the
+/// second. Unit 2 takes two, and the last interval can send four.
+///
+/// ```
+/// use upload_planner::{best_plan, written, Aim, Header, Order, Refusal, Session};
+///
+/// let header = Header {
+///     units: 2,
+///     delay: 1,
+///     decoder: 4,
+///     bucket: 3,
+///     drain: 2,
+///     level: 0,
+///     fill: 0,
+///     rates: 3,
+///     choices: 2,
+///     second: None,
+/// };
+/// let job = written(&header, &[0, 2, 4], &[4, 2, 5, 2], &[10, 30, 12, 40])?;
+/// let session = Session::open(&job)?;
+///
+/// // Four grains at once fill the decoder, so that the next interval sends nothing.
+/// let early = session.plan(Aim::Total, Order::Early)?;
+/// assert_eq!(early.entries, [2, 255, 255, 0, 0, 0, 2, 1, 0]);
+/// assert_eq!(early.totals.distortion, 10 + 40);
+/// assert_eq!(early.totals.channel_grains, 4 + 0 + 4);
+///
+/// let late = session.plan(Aim::Total, Order::Late)?;
+/// assert_eq!(late.entries, [0, 255, 255, 2, 0, 0, 1, 1, 0]);
+/// assert_eq!(late.totals.distortion, 10 + 40);
+/// assert_eq!(late.totals.channel_grains, 0 + 4 + 2);
+/// assert_eq!(late, best_plan(&job, &[], Aim::Total)?);
+/// # Ok::<(), Refusal>(())
+/// ```
+#[derive(Clone, Copy, Debug, PartialEq, Eq, Hash)]
+pub enum Order {
+    /// The larger rate index, then the smaller choice index.
+    Early,
+    /// The smaller rate index, then the smaller choice index.
+    Late,
+}
+
+impl Order {
+    /// The number that the library takes.
+    pub fn number(self) -> u32 {
+        match self {
+            Order::Early => numbers::EARLY,
+            Order::Late => numbers::LATE,
         }
     }
 }
@@ -418,7 +483,7 @@ impl Opened {
     }
 }
 
-/// What the pins come to that stand after a list of calls.
+/// What the pins come to that stand after a list of calls, or in a [`Session`].
 #[derive(Clone, Copy, Debug, PartialEq, Eq, Hash)]
 pub struct PinTotals {
     /// How many there are.
@@ -591,6 +656,32 @@ pub enum Replayed {
     },
 }
 
+impl Replayed {
+    /// From what replay wrote for so many buckets.
+    fn of(values: [u64; numbers::REPLAY_VALUES_MOST], buckets: usize) -> Replayed {
+        let [kind, interval, totals @ ..] = values;
+        let violation = match kind {
+            0 => return Replayed::Clean(Totals::of(totals, buckets)),
+            1 => Violation::DecoderShort,
+            2 => Violation::DecoderOver,
+            3 => Violation::BucketOver,
+            4 => Violation::PinNotHeld,
+            5 => Violation::SecondBucketOver,
+            _ => panic!("the library answered {kind}, which is no violation"),
+        };
+        Replayed::Violated { violation, interval: interval as usize }
+    }
+
+    /// The levels before the first violation, or all, in the list that replay filled.
+    fn held(self, levels: &[u16], opened: Opened) -> Vec<Levels> {
+        let held = match self {
+            Replayed::Clean(_) => opened.intervals,
+            Replayed::Violated { interval, .. } => interval - 1,
+        };
+        Levels::each(levels, opened.buckets).take(held).collect()
+    }
+}
+
 fn checked(number: u32) -> Result<(), Refusal> {
     match number {
         0 => Ok(()),
@@ -742,17 +833,7 @@ pub fn replay(
 ) -> Result<Replayed, Refusal> {
     let mut values = [0; numbers::REPLAY_VALUES_MOST];
     checked(numbers::replay(job, &numbers_of(calls), entries, levels, &mut values))?;
-    let [kind, interval, totals @ ..] = values;
-    let violation = match kind {
-        0 => return Ok(Replayed::Clean(Totals::of(totals, buckets_of(job)))),
-        1 => Violation::DecoderShort,
-        2 => Violation::DecoderOver,
-        3 => Violation::BucketOver,
-        4 => Violation::PinNotHeld,
-        5 => Violation::SecondBucketOver,
-        _ => panic!("the library answered {kind}, which is no violation"),
-    };
-    Ok(Replayed::Violated { violation, interval: interval as usize })
+    Ok(Replayed::of(values, buckets_of(job)))
 }
 
 /// The effective buffer sizes of a plan, admissible or not.
@@ -851,7 +932,7 @@ pub struct BestPlan {
     pub totals: Totals,
     /// Three bytes for each interval, which [`Entry::each`] names.
     pub entries: Vec<u8>,
-    /// What each call met with.
+    /// What each call met with; empty where a [`Session`] planned.
     pub answers: Vec<Result<(), Refusal>>,
     /// The least distortion from every state; for [`Aim::Even`] without the choices
     /// above the plan's greatest distortion.
@@ -939,11 +1020,367 @@ pub fn replayed(
     let opened = archive(job)?;
     let mut levels = vec![0; opened.level_numbers()];
     let found = replay(job, calls, entries, &mut levels)?;
-    let held = match found {
-        Replayed::Clean(_) => opened.intervals,
-        Replayed::Violated { interval, .. } => interval - 1,
-    };
-    Ok((Levels::each(&levels, opened.buckets).take(held).collect(), found))
+    Ok((found.held(&levels, opened), found))
+}
+
+/// An editor's sitting over a job: pins are set and lifted one after another, and each
+/// time it says at once what the best plan then comes to.
+///
+/// It borrows the job's bytes and keeps two lists: the pins that stand, and the table
+/// that planning for [`Aim::Total`] makes with them. [`Session::open`] fills all of the
+/// table, as planning does. After that a pin or lift of unit u fills again the layers of
+/// intervals 0 to u + d − 1 and no other, about (u + d) / T of planning's work: the
+/// earlier the unit, the sooner it is done. However the pins came to stand, the table is
+/// the one that a session opened anew has when it has the same pins.
+///
+/// A call that is refused changes nothing.
+///
+/// # Examples
+///
+/// A sitting of forty clicks over a programme of 20 units, for which the decoder holds
+/// 20 grains at the start; nothing is sent. A unit is fine with two grains and loses 0,
+/// with one it loses 10, and without any 30: the first grain gains 20, the second 10.
+///
+/// Where f units are pinned fine and b are pinned bare, 20 − f − b are free and have
+/// 20 − 2 × f grains.
+///
+/// - If f ≥ b these are no more than the free units, and each is a first grain: the
+///   least total is 30 × (20 − f) − 20 × (20 − 2 × f) = 200 + 10 × f.
+/// - If b ≥ f each free unit has a first grain, and b − f have a second: the least
+///   total is 30 × b + 10 × (20 − f − b) − 10 × (b − f) = 200 + 10 × b.
+///
+/// So it is 200 and 10 for each unit pinned fine or each pinned bare, whichever are
+/// more, and from the eleventh fine unit on, which would make 22 grains, there is no plan.
+///
+/// ```
+/// use upload_planner::{written, Aim, Header, Order, PinTotals, Refusal, Session};
+///
+/// let header = Header {
+///     units: 20,
+///     delay: 0,
+///     decoder: 20,
+///     bucket: 0,
+///     drain: 1,
+///     level: 20,
+///     fill: 0,
+///     rates: 1,
+///     choices: 3,
+///     second: None,
+/// };
+/// let (sizes, distortions) = ([2, 1, 0].repeat(20), [0, 10, 30].repeat(20));
+/// let job = written(&header, &[0], &sizes, &distortions)?;
+/// let (fine, bare) = (0, 2);
+///
+/// let mut session = Session::open(&job)?;
+/// assert_eq!(session.best_total(), Some(200));
+///
+/// // Ten units are fine, one after another.
+/// for unit in 1..=10 {
+///     session.pin(unit, fine)?;
+///     assert_eq!(session.best_total(), Some(200 + 10 * u32::from(unit)));
+/// }
+///
+/// // One more is too many, and is lifted again.
+/// session.pin(11, fine)?;
+/// assert_eq!(session.best_total(), None);
+/// session.lift(11)?;
+/// assert_eq!(session.best_total(), Some(300));
+///
+/// // The units from 12 on get nothing, and it was all gone before.
+/// for unit in 12..=20 {
+///     session.pin(unit, bare)?;
+///     assert_eq!(session.best_total(), Some(300));
+/// }
+/// let totals = PinTotals { count: 10 + 9, grains: 10 * 2, distortion: 9 * 30 };
+/// assert_eq!(session.pin_totals(), totals);
+/// assert_eq!((session.pin_of(10), session.pin_of(11)), (Some(fine), None));
+///
+/// // A click that is refused changes nothing.
+/// assert_eq!(session.pin(10, bare), Err(Refusal::Pinned));
+/// assert_eq!(session.lift(11), Err(Refusal::NotPinned));
+/// assert_eq!(session.best_total(), Some(300));
+///
+/// // The first ten are free again; nine stay bare.
+/// for unit in 1..=10 {
+///     session.lift(unit)?;
+///     assert_eq!(session.best_total(), Some(200 + 10 * 9));
+/// }
+///
+/// // So are the others, from the last on: the fortieth click brings the first total back.
+/// for unit in (12..=20).rev() {
+///     session.lift(unit)?;
+///     let bare = u32::from(unit) - 12;
+///     assert_eq!(session.best_total(), Some(200 + 10 * bare));
+/// }
+/// assert_eq!(session.pins().count(), 0);
+/// assert_eq!(session, Session::open(&job)?);
+///
+/// // One grain for each unit.
+/// let best = session.plan(Aim::Total, Order::Late)?;
+/// assert_eq!(best.totals.distortion, 200);
+/// assert_eq!(best.entries, [0, 1, 0].repeat(20));
+/// # Ok::<(), Refusal>(())
+/// ```
+#[derive(Clone, PartialEq, Eq)]
+pub struct Session<'a> {
+    job: &'a [u8],
+    opened: Opened,
+    set: Vec<u32>,
+    /// Planning's own for this set and [`Aim::Total`].
+    table: Vec<u32>,
+    /// The word of layer 0 at the starting levels.
+    best: u32,
+}
+
+impl<'a> Session<'a> {
+    /// Opens a job, without a pin, and plans once. That there is no plan is no error.
+    ///
+    /// # Errors
+    ///
+    /// Numbers 1 to 5; 17 directly after 3.
+    pub fn open(job: &'a [u8]) -> Result<Session<'a>, Refusal> {
+        let opened = open(job)?;
+        let mut set = vec![0; numbers::SET_NUMBERS];
+        checked(numbers::set(job, &mut set))?;
+        let mut session = Session { job, opened, set, table: Vec::new(), best: NEVER };
+        let mut table = vec![0; opened.table_words];
+        match session.plan_into(&mut table, Aim::Total, Order::Late) {
+            Ok((totals, _)) => session.best = totals.distortion as u32,
+            Err(Refusal::NoPlan) => {}
+            Err(refusal) => return Err(refusal),
+        }
+        session.table = table;
+        Ok(session)
+    }
+
+    /// Plans with the pins that stand; `table` is filled, also where there is no plan.
+    fn plan_into(
+        &self,
+        table: &mut [u32],
+        aim: Aim,
+        order: Order,
+    ) -> Result<(Totals, Vec<u8>), Refusal> {
+        let Session { job, opened, set, .. } = self;
+        let (aim, order) = (aim.number(), order.number());
+        let mut entries = vec![0; opened.plan_bytes()];
+        let mut values = [0; numbers::PLAN_VALUES_MOST];
+        checked(numbers::plan_set(job, set, aim, order, table, &mut entries, &mut values))?;
+        Ok((Totals::of(values, opened.buckets), entries))
+    }
+
+    /// Holds a unit at one of its choices. What the best plan then comes to is
+    /// [`Session::best_total`]; that there is none is no error.
+    ///
+    /// # Errors
+    ///
+    /// In this order: 7 where `unit` is not from 1 to N; 8 where the unit has no such
+    /// choice; 9 where it is pinned already.
+    pub fn pin(&mut self, unit: u16, choice: u16) -> Result<(), Refusal> {
+        let Session { job, set, table, .. } = self;
+        let mut values = [0; numbers::SEE_VALUES];
+        checked(numbers::pin_and_see(job, set, unit, choice, table, &mut values))?;
+        self.best = values[0] as u32;
+        Ok(())
+    }
+
+    /// Leaves a unit free again, and goes on as [`Session::pin`] does.
+    ///
+    /// # Errors
+    ///
+    /// In this order: 7 where `unit` is not from 1 to N; 10 where it is not pinned.
+    pub fn lift(&mut self, unit: u16) -> Result<(), Refusal> {
+        let Session { job, set, table, .. } = self;
+        let mut values = [0; numbers::SEE_VALUES];
+        checked(numbers::lift_and_see(job, set, unit, table, &mut values))?;
+        self.best = values[0] as u32;
+        Ok(())
+    }
+
+    /// The least total distortion with the pins that stand; `None` where no plan holds
+    /// them. It is known from the last pin or lift, and costs nothing.
+    pub fn best_total(&self) -> Option<u32> {
+        (self.best != NEVER).then_some(self.best)
+    }
+
+    /// Plans with the pins that stand, as [`best_plan`] does with those that calls leave.
+    /// The plan's table is a list of its own, so that the session keeps [`Session::table`]
+    /// for either aim. All of it is filled: while only the total is asked for,
+    /// [`Session::best_total`] has it.
+    ///
+    /// # Errors
+    ///
+    /// Number 13, exactly where [`Session::best_total`] is `None`.
+    ///
+    /// # Examples
+    ///
+    /// Four grains are there for two units, and nothing is sent. All of them for unit 1
+    /// lose 90 in total, two for each lose 50 and 50.
+    ///
+    /// ```
+    /// use upload_planner::{written, Aim, Header, Order, Refusal, Session};
+    ///
+    /// let header = Header {
+    ///     units: 2,
+    ///     delay: 0,
+    ///     decoder: 4,
+    ///     bucket: 0,
+    ///     drain: 1,
+    ///     level: 4,
+    ///     fill: 0,
+    ///     rates: 1,
+    ///     choices: 3,
+    ///     second: None,
+    /// };
+    /// let (sizes, distortions) = ([4, 2, 0].repeat(2), [0, 50, 90].repeat(2));
+    /// let job = written(&header, &[0], &sizes, &distortions)?;
+    /// let mut session = Session::open(&job)?;
+    ///
+    /// let total = session.plan(Aim::Total, Order::Early)?;
+    /// assert_eq!(total.totals.distortion, 0 + 90);
+    /// let even = session.plan(Aim::Even, Order::Early)?;
+    /// assert_eq!(even.totals.distortion, 50 + 50);
+    ///
+    /// // The session's table is still the one for the total.
+    /// assert_eq!(session.table(), total.table);
+    /// assert_ne!(session.table(), even.table);
+    /// session.pin(2, 1)?;
+    /// assert_eq!(session.best_total(), Some(50 + 50));
+    ///
+    /// // Four grains for unit 1 leave none for unit 2.
+    /// session.pin(1, 0)?;
+    /// assert_eq!(session.best_total(), None);
+    /// assert_eq!(session.plan(Aim::Even, Order::Early), Err(Refusal::NoPlan));
+    /// # Ok::<(), Refusal>(())
+    /// ```
+    pub fn plan(&self, aim: Aim, order: Order) -> Result<BestPlan, Refusal> {
+        let mut table = vec![0; self.opened.table_words];
+        let (totals, entries) = self.plan_into(&mut table, aim, order)?;
+        Ok(BestPlan { totals, entries, answers: Vec::new(), table })
+    }
+
+    /// Follows a plan with the pins that stand, as [`replayed`] does with those that
+    /// calls leave: the levels after each interval before the first violation, or after
+    /// all T, and what was found.
+    ///
+    /// # Errors
+    ///
+    /// Number 14.
+    ///
+    /// # Examples
+    ///
+    /// The best plan without pins does not hold one that is set later.
+    ///
+    /// ```
+    /// use upload_planner::{written, Aim, Header, Order, Refusal, Replayed, Session, Violation};
+    ///
+    /// let header = Header {
+    ///     units: 2,
+    ///     delay: 1,
+    ///     decoder: 4,
+    ///     bucket: 3,
+    ///     drain: 2,
+    ///     level: 0,
+    ///     fill: 0,
+    ///     rates: 3,
+    ///     choices: 2,
+    ///     second: None,
+    /// };
+    /// let job = written(&header, &[0, 2, 4], &[4, 2, 5, 2], &[10, 30, 12, 40])?;
+    /// let mut session = Session::open(&job)?;
+    /// let best = session.plan(Aim::Total, Order::Late)?;
+    /// assert_eq!(session.replay(&best.entries)?.1, Replayed::Clean(best.totals));
+    ///
+    /// // Unit 1 is decoded in interval 2.
+    /// session.pin(1, 1)?;
+    /// let (levels, found) = session.replay(&best.entries)?;
+    /// assert_eq!(levels.len(), 1);
+    /// let violation = Violation::PinNotHeld;
+    /// assert_eq!(found, Replayed::Violated { violation, interval: 2 });
+    /// # Ok::<(), Refusal>(())
+    /// ```
+    pub fn replay(&self, entries: &[u8]) -> Result<(Vec<Levels>, Replayed), Refusal> {
+        let Session { job, opened, set, .. } = self;
+        let mut levels = vec![0; opened.level_numbers()];
+        let mut values = [0; numbers::REPLAY_VALUES_MOST];
+        checked(numbers::replay_set(job, set, entries, &mut levels, &mut values))?;
+        let found = Replayed::of(values, opened.buckets);
+        Ok((found.held(&levels, *opened), found))
+    }
+
+    /// The choice that a unit is pinned at; `None` where it is free, or the job has no
+    /// such unit.
+    pub fn pin_of(&self, unit: u16) -> Option<u16> {
+        let at = usize::from(unit).checked_sub(1)?;
+        let pins = &self.set[numbers::SET_PINS..][..self.opened.units];
+        pins.get(at).filter(|pin| **pin != numbers::NO_PIN).map(|pin| *pin as u16)
+    }
+
+    /// The pins that stand, unit by unit: each unit that is pinned and its choice.
+    ///
+    /// # Examples
+    ///
+    /// ```
+    /// use upload_planner::{written, Header, Refusal, Session};
+    ///
+    /// let header = Header {
+    ///     units: 3,
+    ///     delay: 0,
+    ///     decoder: 0,
+    ///     bucket: 0,
+    ///     drain: 1,
+    ///     level: 0,
+    ///     fill: 0,
+    ///     rates: 1,
+    ///     choices: 2,
+    ///     second: None,
+    /// };
+    /// let job = written(&header, &[0], &[0; 6], &[7; 6])?;
+    /// let mut session = Session::open(&job)?;
+    /// session.pin(3, 0)?;
+    /// session.pin(1, 1)?;
+    /// assert!(session.pins().eq([(1, 1), (3, 0)]));
+    /// # Ok::<(), Refusal>(())
+    /// ```
+    pub fn pins(&self) -> impl DoubleEndedIterator<Item = (u16, u16)> + '_ {
+        (1..=self.opened.units as u16).filter_map(|unit| Some((unit, self.pin_of(unit)?)))
+    }
+
+    /// What these pins come to.
+    pub fn pin_totals(&self) -> PinTotals {
+        let totals = &self.set[numbers::SET_TOTALS..];
+        PinTotals {
+            count: totals[0] as usize,
+            grains: totals[1].into(),
+            distortion: totals[2].into(),
+        }
+    }
+
+    /// The table for the pins that stand: the least distortion from every state, as
+    /// [`plan`] writes it for [`Aim::Total`].
+    pub fn table(&self) -> &[u32] {
+        &self.table
+    }
+
+    /// What the job takes, as [`open`] said.
+    pub fn opened(&self) -> Opened {
+        self.opened
+    }
+
+    /// The job's bytes.
+    pub fn job(&self) -> &'a [u8] {
+        self.job
+    }
+}
+
+/// Leaves out the job's bytes and the table.
+impl fmt::Debug for Session<'_> {
+    fn fmt(&self, f: &mut fmt::Formatter) -> fmt::Result {
+        f.debug_struct("Session")
+            .field("opened", &self.opened)
+            .field("pins", &self.pins().collect::<Vec<_>>())
+            .field("best_total", &self.best_total())
+            .finish_non_exhaustive()
+    }
 }
 
 /// [`turn`] with a list of its own, as long as the job needs.

@@ -5,9 +5,21 @@
 //! Calls are numbers, three a call: [`PIN`] or [`LIFT`], the unit, the choice,
 //! which a lift does not look at. A call of another kind is refused with 2, then
 //! a last call that is cut with 1, both right after the job's numbers, which come
-//! first: 1 to 5, and of [`open`], [`calls`] and [`plan`] also 17. An aim that is neither [`TOTAL`] nor [`EVEN`] is refused with 2
-//! too, right after the job's numbers and before the calls'. A `values` list is one of
+//! first: 1 to 5, and of [`open`], [`calls`], [`plan`], [`set`] and all that take a set
+//! but [`replay_set`] also 17. An aim that is neither [`TOTAL`] nor [`EVEN`] is refused
+//! with 2 too, right after the job's numbers and before the calls', and so is an order
+//! that is neither [`EARLY`] nor [`LATE`], right after the aim. A `values` list is one of
 //! those to be filled: where it is too short, its 12 comes right after theirs.
+//!
+//! A set of pins is [`SET_NUMBERS`] numbers that the caller keeps between calls: [`set`]
+//! writes the one without a pin, [`pin`], [`lift`], [`pin_and_see`] and [`lift_and_see`]
+//! bring it up to date, [`plan_set`] and [`replay_set`] read it. Number 0 is the kind of
+//! the job's header, 1 or 8 for one bucket or two; then come twelve fields in the order of
+//! [`write()`], the last three 0 where there is one bucket; from [`SET_PINS`] on the pins
+//! of units 1 to 512, a choice or [`NO_PIN`]; from [`SET_TOTALS`] on the three values of
+//! [`calls`]. Each call reads all of them against the job again and refuses others with 6,
+//! right after the job's numbers, or of [`plan_set`] after the order's. Numbers behind them
+//! are not looked at and keep their values.
 
 /// The first number of a call that pins.
 pub const PIN: u16 = 6;
@@ -18,6 +30,23 @@ pub const LIFT: u16 = 7;
 pub const TOTAL: u32 = 0;
 /// The aim of a plan whose greatest unit distortion is least, and then its total.
 pub const EVEN: u32 = 1;
+
+/// The order that of several plans as good gives the one that sends early: the larger
+/// rate index at the first interval at which they differ, then the smaller choice index.
+pub const EARLY: u32 = 0;
+/// The order that gives the one that sends late, as [`plan`] does: the smaller rate index,
+/// then the smaller choice index.
+pub const LATE: u32 = 1;
+
+/// How many numbers a set of pins has.
+pub const SET_NUMBERS: usize = 528;
+/// Where the pins stand in a set: that of unit u at `SET_PINS + u - 1`.
+pub const SET_PINS: usize = 13;
+/// Where the three totals of a set stand: how many pins there are, the sum of their
+/// grains, the sum of their distortions.
+pub const SET_TOTALS: usize = 525;
+/// The pin of a unit without one, and of a unit that the job does not have.
+pub const NO_PIN: u32 = 65_535;
 
 /// How many values [`open`] and [`archive`] write: the bytes that the job took, N, T,
 /// and the words of the table.
@@ -42,6 +71,9 @@ pub const REPLAY_VALUES: usize = 6;
 pub const REPLAY_VALUES_MOST: usize = 7;
 /// How many values [`write()`] writes: the bytes that the job took.
 pub const WRITE_VALUES: usize = 1;
+/// How many values [`pin_and_see`] and [`lift_and_see`] write: the least total distortion,
+/// or [`NEVER`](crate::NEVER) where no plan holds the pins.
+pub const SEE_VALUES: usize = 1;
 
 /// How many levels [`replay`] writes for each interval of a job with one bucket:
 /// the decoder's, then the bucket's.
@@ -104,6 +136,73 @@ extern "C" {
         values_len: usize,
     ) -> u32;
 
+    fn upload_set(job: *const u8, job_len: usize, set: *mut u32, set_len: usize) -> u32;
+
+    fn upload_pin(
+        job: *const u8,
+        job_len: usize,
+        set: *mut u32,
+        set_len: usize,
+        unit: u16,
+        choice: u16,
+    ) -> u32;
+
+    fn upload_lift(job: *const u8, job_len: usize, set: *mut u32, set_len: usize, unit: u16)
+        -> u32;
+
+    fn upload_pin_and_see(
+        job: *const u8,
+        job_len: usize,
+        set: *mut u32,
+        set_len: usize,
+        unit: u16,
+        choice: u16,
+        table: *mut u32,
+        table_len: usize,
+        values: *mut u64,
+        values_len: usize,
+    ) -> u32;
+
+    fn upload_lift_and_see(
+        job: *const u8,
+        job_len: usize,
+        set: *mut u32,
+        set_len: usize,
+        unit: u16,
+        table: *mut u32,
+        table_len: usize,
+        values: *mut u64,
+        values_len: usize,
+    ) -> u32;
+
+    fn upload_plan_set(
+        job: *const u8,
+        job_len: usize,
+        set: *const u32,
+        set_len: usize,
+        aim: u32,
+        order: u32,
+        table: *mut u32,
+        table_len: usize,
+        entries: *mut u8,
+        entries_len: usize,
+        values: *mut u64,
+        values_len: usize,
+    ) -> u32;
+
+    fn upload_replay_set(
+        job: *const u8,
+        job_len: usize,
+        set: *const u32,
+        set_len: usize,
+        entries: *const u8,
+        entries_len: usize,
+        levels: *mut u16,
+        levels_len: usize,
+        values: *mut u64,
+        values_len: usize,
+    ) -> u32;
+
     fn upload_report(
         job: *const u8,
         job_len: usize,
@@ -138,7 +237,7 @@ extern "C" {
     ) -> u32;
 }
 
-// In all eight: a slice's pointer is aligned, never null, and good for the
+// In all fifteen: a slice's pointer is aligned, never null, and good for the
 // slice's length; slices that are written overlap no other. That is all the
 // library asks, and it reads and writes nothing else.
 
@@ -212,6 +311,124 @@ pub fn replay(
             job.len(),
             calls.as_ptr(),
             calls.len(),
+            entries.as_ptr(),
+            entries.len(),
+            levels.as_mut_ptr(),
+            levels.len(),
+            values.as_mut_ptr(),
+            values.len(),
+        )
+    }
+}
+
+/// Opens a job and writes its set without a pin.
+pub fn set(job: &[u8], set: &mut [u32]) -> u32 {
+    unsafe { upload_set(job.as_ptr(), job.len(), set.as_mut_ptr(), set.len()) }
+}
+
+/// Pins a unit at a choice.
+pub fn pin(job: &[u8], set: &mut [u32], unit: u16, choice: u16) -> u32 {
+    unsafe { upload_pin(job.as_ptr(), job.len(), set.as_mut_ptr(), set.len(), unit, choice) }
+}
+
+/// Lifts the pin of a unit.
+pub fn lift(job: &[u8], set: &mut [u32], unit: u16) -> u32 {
+    unsafe { upload_lift(job.as_ptr(), job.len(), set.as_mut_ptr(), set.len(), unit) }
+}
+
+/// Pins a unit at a choice, brings the table up to date and tells the least total
+/// distortion. Of the table the layers of intervals 0 to `unit` + d - 1 are written, from
+/// what stands in the next.
+pub fn pin_and_see(
+    job: &[u8],
+    set: &mut [u32],
+    unit: u16,
+    choice: u16,
+    table: &mut [u32],
+    values: &mut [u64],
+) -> u32 {
+    unsafe {
+        upload_pin_and_see(
+            job.as_ptr(),
+            job.len(),
+            set.as_mut_ptr(),
+            set.len(),
+            unit,
+            choice,
+            table.as_mut_ptr(),
+            table.len(),
+            values.as_mut_ptr(),
+            values.len(),
+        )
+    }
+}
+
+/// Lifts the pin of a unit, and goes on as [`pin_and_see`] does.
+pub fn lift_and_see(
+    job: &[u8],
+    set: &mut [u32],
+    unit: u16,
+    table: &mut [u32],
+    values: &mut [u64],
+) -> u32 {
+    unsafe {
+        upload_lift_and_see(
+            job.as_ptr(),
+            job.len(),
+            set.as_mut_ptr(),
+            set.len(),
+            unit,
+            table.as_mut_ptr(),
+            table.len(),
+            values.as_mut_ptr(),
+            values.len(),
+        )
+    }
+}
+
+/// Plans with the pins of a set, for the aim, [`TOTAL`] or [`EVEN`], in the order,
+/// [`EARLY`] or [`LATE`].
+pub fn plan_set(
+    job: &[u8],
+    set: &[u32],
+    aim: u32,
+    order: u32,
+    table: &mut [u32],
+    entries: &mut [u8],
+    values: &mut [u64],
+) -> u32 {
+    unsafe {
+        upload_plan_set(
+            job.as_ptr(),
+            job.len(),
+            set.as_ptr(),
+            set.len(),
+            aim,
+            order,
+            table.as_mut_ptr(),
+            table.len(),
+            entries.as_mut_ptr(),
+            entries.len(),
+            values.as_mut_ptr(),
+            values.len(),
+        )
+    }
+}
+
+/// Follows a plan with the pins of a set up to its first violation.
+pub fn replay_set(
+    job: &[u8],
+    set: &[u32],
+    entries: &[u8],
+    levels: &mut [u16],
+    values: &mut [u64],
+) -> u32 {
+    unsafe {
+        upload_replay_set(
+            job.as_ptr(),
+            job.len(),
+            set.as_ptr(),
+            set.len(),
             entries.as_ptr(),
             entries.len(),
             levels.as_mut_ptr(),
