@@ -16,7 +16,9 @@
    unused. Planning gives the admissible plan of least total distortion, or, where
    the caller names UPLOAD_EVEN, the one whose greatest unit distortion is least,
    and among such plans the total. Among several the first interval at which they
-   differ decides: the smaller rate index, then the smaller choice index.
+   differ decides: the smaller rate index, then the smaller choice index;
+   upload_plan_set takes the larger rate index where the caller names
+   UPLOAD_EARLY.
 
    The header says how many buckets there are: a job that opens has it in its
    byte 2, the kind of its first record, which is one of enum upload_header. With
@@ -82,14 +84,15 @@ enum upload_refusal {
     UPLOAD_CUT = 1,             /* the bytes end before a record that is due is whole; or the last
                                    call is cut */
     UPLOAD_WRONG_RECORD = 2,    /* a record's kind or length is not the one due; or an aim is none
-                                   of enum upload_aim; or a call's kind is neither a pin nor a
-                                   lift */
+                                   of enum upload_aim, or an order none of enum upload_order; or a
+                                   call's kind is neither a pin nor a lift */
     UPLOAD_HEADER = 3,          /* a field of the header is out of range, or the fields are not
                                    nine or twelve */
     UPLOAD_RATES = 4,           /* a rate is over 4,095, or the rates do not rise */
     UPLOAD_CHOICES = 5,         /* a choice's size or distortion is over its limit */
-    UPLOAD_OTHER_JOB = 6,       /* the numbers are no set of pins of this job: another job's, or
-                                   changed by hand, or fewer than UPLOAD_SET_NUMBERS; only the
+    UPLOAD_OTHER_JOB = 6,       /* the numbers are no set of pins of this job: they have another
+                                   header, a pin that is no choice, totals that are not those of
+                                   the pins, or are fewer than UPLOAD_SET_NUMBERS; only the
                                    functions that take a set give this */
     UPLOAD_NO_SUCH_UNIT = 7,    /* pin, lift: the unit is not from 1 to N */
     UPLOAD_NO_SUCH_CHOICE = 8,  /* pin: the choice is not below M */
@@ -158,8 +161,10 @@ enum upload_header {
                          the distortions of these choices
 
    Every call reads all of them against the job again, and a number that is not
-   what the job and the pins make it is refused with UPLOAD_OTHER_JOB. Numbers
-   behind these are not looked at and keep their values. */
+   what the job's header and the pins make it is refused with UPLOAD_OTHER_JOB.
+   Two jobs with one header can share a set whose pins come to the same totals in
+   both, one without pins above all: keep a set with its job. Numbers behind these
+   are not looked at and keep their values. */
 #define UPLOAD_SET_NUMBERS 528
 #define UPLOAD_SET_PINS 13
 #define UPLOAD_SET_TOTALS 525
@@ -348,7 +353,9 @@ uint32_t upload_lift(const uint8_t *job, size_t job_len,
    or one of these two calls, it is now that of the set with the pin. A table of
    the aim UPLOAD_EVEN, of another job or of another set is not refused: what is
    written follows by the same rule from the words that stand there, of which one
-   over 512,000,000 counts as UPLOAD_NEVER.
+   over 512,000,000 counts as UPLOAD_NEVER, and the number told is then no total.
+   After upload_pin or upload_lift the table is that of another set: plan again,
+   or keep to these two calls. For a plan with UPLOAD_EVEN lend another list.
 
    set:    the job's; written with the pin in it.
    unit:   1 to N.
@@ -360,7 +367,7 @@ uint32_t upload_lift(const uint8_t *job, size_t job_len,
            That is not a refusal: this call never gives 13.
 
    Refusals in order: 1 to 5, with 17 directly after 3; 6; 7; 8; 9; 11; 12 where
-   `values` is too short. */
+   `values` is too short. With 11 and 12 too the unit is not pinned. */
 uint32_t upload_pin_and_see(const uint8_t *job, size_t job_len,
                             uint32_t *set, size_t set_len,
                             uint16_t unit, uint16_t choice,

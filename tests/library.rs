@@ -5849,9 +5849,9 @@ fn check_plan_set_order(
     let set = faulty_set(rng, asked, &book, |bit| if bit == 7 { by_all } else { has(bit) });
     let due = first_of(&[
         (opened > 0, opened),
+        (wrong, 6),
         (aim, 2),
         (order, 2),
-        (wrong, 6),
         (table, 11),
         (entries, 12),
         (values, 12),
