@@ -5697,7 +5697,7 @@ fn sets_order_group() -> Result<String, String> {
             for bits in (0..1 << 9).step_by(step) {
                 let has = |bit: usize| bits >> bit & 1 == 1;
                 let mut check = || -> Checked {
-                    check_set_order(&mut rng, &asked, opened, has)?;
+                    check_set_order(&mut rng, &asked, opened, wrong, has)?;
                     check_pin_order(&mut rng, &asked, opened, has)?;
                     check_lift_order(&mut rng, &asked, opened, has)?;
                     check_plan_set_order(&mut rng, &asked, opened, has)?;
@@ -5713,17 +5713,26 @@ fn sets_order_group() -> Result<String, String> {
     Ok(format!("{sets} sets of defects"))
 }
 
+/// A fresh set by either door: the archive takes the line that never drains too.
 fn check_set_order(
     rng: &mut Rng,
     asked: &Asked,
     opened: Refusal,
+    archived: Refusal,
     has: impl Fn(usize) -> bool,
 ) -> Checked {
-    let mut set = Lent::new(rng, cut_to(SET_NUMBERS, has(0), has(6)));
-    let due = first_of(&[(opened > 0, opened), (has(0), 12)]);
-    same("set", due, numbers::set(&asked.bytes, set.list()))?;
-    let numbers = set_numbers(&asked.job, &Book::new());
-    set.wrote("set", if due == 0 { &numbers } else { &[] })
+    let doors = [
+        ("set", opened, numbers::set as fn(&[u8], &mut [u32]) -> u32),
+        ("archive set", archived, numbers::archive_set),
+    ];
+    for (what, refused, open) in doors {
+        let mut set = Lent::new(rng, cut_to(SET_NUMBERS, has(0), has(6)));
+        let due = first_of(&[(refused > 0, refused), (has(0), 12)]);
+        same(what, due, open(&asked.bytes, set.list()))?;
+        let numbers = set_numbers(&asked.job, &Book::new());
+        set.wrote(what, if due == 0 { &numbers } else { &[] })?;
+    }
+    Ok(())
 }
 
 /// The pins of `book` as the set, with a defect or without.

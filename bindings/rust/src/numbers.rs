@@ -138,6 +138,8 @@ extern "C" {
 
     fn upload_set(job: *const u8, job_len: usize, set: *mut u32, set_len: usize) -> u32;
 
+    fn upload_archive_set(job: *const u8, job_len: usize, set: *mut u32, set_len: usize) -> u32;
+
     fn upload_pin(
         job: *const u8,
         job_len: usize,
@@ -324,6 +326,12 @@ pub fn replay(
 /// Opens a job and writes its set without a pin.
 pub fn set(job: &[u8], set: &mut [u32]) -> u32 {
     unsafe { upload_set(job.as_ptr(), job.len(), set.as_mut_ptr(), set.len()) }
+}
+
+/// Opens a stored job, whose line may never drain, and writes its set without a pin, which
+/// serves replay.
+pub fn archive_set(job: &[u8], set: &mut [u32]) -> u32 {
+    unsafe { upload_archive_set(job.as_ptr(), job.len(), set.as_mut_ptr(), set.len()) }
 }
 
 /// Pins a unit at a choice.
