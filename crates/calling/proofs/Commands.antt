@@ -10,7 +10,7 @@ use borrow.Author.Tests.{le-leb, lt-leb, eqb-true, eqb-false}
 use Rattle.base.specs.Refusals.{unless}
 use Rattle.base.proofs.Refusals.{guarded-here, guarded-last}
 use Rattle.model.specs.Job.{Job}
-use Rattle.model.specs.Best.{late, total}
+use Rattle.model.specs.Best.{early, total}
 use Rattle.model.specs.Pins.{Call}
 use Rattle.base.proofs.Tests.{branch}
 use Rattle.format.specs.Parser as P
@@ -91,7 +91,7 @@ commands b = record {
 
 -- what the program plans is planning with the set that the commands leave
 module _ (b table entries : List ℕ) where
-  input-plans : length b ≤ input-size → commands-call b .refused ≡ none → input-call b table entries ≡ plan-call b (commands-call b .set) total late table entries
+  input-plans : length b ≤ input-size → commands-call b .refused ≡ none → input-call b table entries ≡ plan-call b (commands-call b .set) total early table entries
   unfolding input-call unless
   input-plans h q = guarded-last (plan.refuse table entries) _ _ (le-leb (length b) input-size h) ∙ rw q
 
@@ -103,10 +103,10 @@ module _ (b table entries : List ℕ) where
   unfolding input-call
   input-long h = guarded-here (plan.refuse table entries) _ _ _ (lt-leb (length b) input-size h)
 
-  set-keeps : (o : Option ℕ) (s : PinSet) → Keeping table entries (unless (plan.refuse table entries) o (plan-call b s total late table entries))
+  set-keeps : (o : Option ℕ) (s : PinSet) → Keeping table entries (unless (plan.refuse table entries) o (plan-call b s total early table entries))
   unfolding unless
   set-keeps (some n) s = refuse-keeps table entries n
-  set-keeps none s = keeps b s total late table entries
+  set-keeps none s = keeps b s total early table entries
 
   input-keeps : Keeping table entries (input-call b table entries)
   unfolding input-call
@@ -117,7 +117,7 @@ inputs b j k table entries parsed h q room space =
     let c = commands b .then-commands j k parsed in
     record {
       commands = c;
-      planning = rw (input-plans b table entries h q, ← c .held) (calls-three b j k parsed (c .calls) .planning total late table entries room space);
+      planning = rw (input-plans b table entries h q, ← c .held) (calls-three b j k parsed (c .calls) .planning total early table entries room space);
     }
 
 pub input-refusals : InputRefusals

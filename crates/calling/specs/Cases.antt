@@ -1,4 +1,4 @@
--- Cases of command records, of calls as numbers and of what the program reads, of Job A and worked out by hand: what is asked, and what document 01 says, or by document 02, E2 and E3, would.
+-- Cases of command records, of calls as numbers and of what the program reads, of Job A and worked out by hand: what is asked, and what document 01 says, or by document 02, E2, E3 and E10, would.
 use Prim.Native.Nat.{ℕ}
 use mathlib.Core.Path.{_≡_}
 use mathlib.Core.List.{List, [], _∷_, _++_, map}
@@ -76,11 +76,11 @@ inputs =
 
 unfoldable pub input-replies : List Reply
 input-replies =
-    says 50 6 6 2 (0 ∷ 255 ∷ 255 ∷ 2 ∷ 0 ∷ 0 ∷ 1 ∷ 1 ∷ 0 ∷ [])
-    ∷ says 50 6 6 2 (0 ∷ 255 ∷ 255 ∷ 2 ∷ 0 ∷ 0 ∷ 1 ∷ 1 ∷ 0 ∷ [])
-    ∷ says 50 6 6 2 (0 ∷ 255 ∷ 255 ∷ 2 ∷ 0 ∷ 0 ∷ 1 ∷ 1 ∷ 0 ∷ [])
-    ∷ says 70 4 4 2 (0 ∷ 255 ∷ 255 ∷ 1 ∷ 1 ∷ 0 ∷ 1 ∷ 1 ∷ 0 ∷ [])
-    ∷ says 50 6 6 2 (0 ∷ 255 ∷ 255 ∷ 2 ∷ 0 ∷ 0 ∷ 1 ∷ 1 ∷ 0 ∷ [])
+    says 50 6 8 0 (2 ∷ 255 ∷ 255 ∷ 0 ∷ 0 ∷ 0 ∷ 2 ∷ 1 ∷ 0 ∷ [])
+    ∷ says 50 6 8 0 (2 ∷ 255 ∷ 255 ∷ 0 ∷ 0 ∷ 0 ∷ 2 ∷ 1 ∷ 0 ∷ [])
+    ∷ says 50 6 8 0 (2 ∷ 255 ∷ 255 ∷ 0 ∷ 0 ∷ 0 ∷ 2 ∷ 1 ∷ 0 ∷ [])
+    ∷ says 70 4 6 0 (2 ∷ 255 ∷ 255 ∷ 0 ∷ 1 ∷ 0 ∷ 1 ∷ 1 ∷ 0 ∷ [])
+    ∷ says 50 6 8 0 (2 ∷ 255 ∷ 255 ∷ 0 ∷ 0 ∷ 0 ∷ 2 ∷ 1 ∷ 0 ∷ [])
     ∷ refuses 13 (replicate 9 7)
     ∷ refuses 9 (replicate 9 7)
     ∷ refuses 10 (replicate 9 7)
@@ -88,15 +88,15 @@ input-replies =
     ∷ refuses 1 (replicate 9 7)
     ∷ []
 
--- Job A with calls as numbers: their numbers, then what planning answers
+-- Job A with calls as numbers: their numbers, then what planning early answers
 pub record Answers : Type 0 where
   pub numbers : List ℕ
   pub answer : Answer Totals
 
 unfoldable pub session-reply : List ℕ → Answers
 session-reply calls = record {
-  numbers = session-call bytes-a calls 0 1 (replicate 4 5) (replicate 80 9) (replicate 9 7) .answers;
-  answer = session-call bytes-a calls 0 1 (replicate 4 5) (replicate 80 9) (replicate 9 7) .planned .answer;
+  numbers = session-call bytes-a calls 0 0 (replicate 4 5) (replicate 80 9) (replicate 9 7) .answers;
+  answer = session-call bytes-a calls 0 0 (replicate 4 5) (replicate 80 9) (replicate 9 7) .planned .answer;
 }
 
 unfoldable pub sessions : List (List ℕ)
@@ -115,8 +115,8 @@ sessions =
 
 unfoldable pub session-replies : List Answers
 session-replies =
-    record { numbers = 10 ∷ 0 ∷ 9 ∷ 8 ∷ []; answer = gives (record { distortion = 50; source = 6; channel = 6; unused = 2 ∷ [] }) }
-    ∷ record { numbers = 0 ∷ 0 ∷ 5 ∷ 5 ∷ []; answer = gives (record { distortion = 50; source = 6; channel = 6; unused = 2 ∷ [] }) }
+    record { numbers = 10 ∷ 0 ∷ 9 ∷ 8 ∷ []; answer = gives (record { distortion = 50; source = 6; channel = 8; unused = 0 ∷ [] }) }
+    ∷ record { numbers = 0 ∷ 0 ∷ 5 ∷ 5 ∷ []; answer = gives (record { distortion = 50; source = 6; channel = 8; unused = 0 ∷ [] }) }
     ∷ record { numbers = replicate 4 5; answer = refused 13 }
     ∷ record { numbers = replicate 4 5; answer = refused 2 }
     ∷ record { numbers = replicate 4 5; answer = refused 1 }
@@ -148,6 +148,17 @@ named-replies =
     ∷ record { numbers = replicate 4 5; answer = refused 1 }
     ∷ []
 
+-- Job A by the number of the order: early, then late
+unfoldable pub order-reply : ℕ → Answer Totals
+order-reply order = session-call bytes-a [] 0 order [] (replicate 80 9) (replicate 9 7) .planned .answer
+
+unfoldable pub order-replies : List (Answer Totals)
+order-replies =
+    gives (record { distortion = 50; source = 6; channel = 8; unused = 0 ∷ [] })
+    ∷ gives (record { distortion = 50; source = 6; channel = 6; unused = 2 ∷ [] })
+    ∷ refused 2
+    ∷ []
+
 -- the same calls without planning
 unfoldable pub calls-reply : List ℕ → Ended PinTotals
 calls-reply calls = calls-call bytes-a calls (replicate 4 5)
@@ -168,4 +179,5 @@ pub record Cases : Type 0 where
   pub inputs-are : map input-reply inputs ≡ input-replies
   pub sessions-are : map session-reply sessions ≡ session-replies
   pub named-are : map named-reply named-sessions ≡ named-replies
+  pub orders-are : map order-reply (0 ∷ 1 ∷ 2 ∷ []) ≡ order-replies
   pub calls-are : map calls-reply sessions ≡ calls-replies

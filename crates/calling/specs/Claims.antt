@@ -132,13 +132,13 @@ pub record SessionKeeping (answers table entries : List ℕ) (r : Session) : Typ
 -- what the program plans, from lists that are long enough; no command is refused, so that nothing is left behind them
 pub record InputClaim (b : List ℕ) (j : Job) (k : ℕ) (table entries : List ℕ) : Type 0 where
   pub commands : CommandsClaim b (open-call opening b .set) (drop k b) (commands-call b)
-  pub planning : PlanClaim j (pins-after (j .choices) (no-pins (length (j .units))) (commands .calls)) total late 0 (j .start) table entries (input-call b table entries)
+  pub planning : PlanClaim j (pins-after (j .choices) (no-pins (length (j .units))) (commands .calls)) total early 0 (j .start) table entries (input-call b table entries)
 
 -- in which order the program looks at its input
 pub record InputOrder (b table entries : List ℕ) : Type 0 where
   pub size-first : 32768 < length b → input-call b table entries ≡ plan.refuse table entries 15
   pub then-commands : (n : ℕ) → length b ≤ 32768 → commands-call b .refused ≡ some n → input-call b table entries ≡ plan.refuse table entries n
-  pub then-plan : length b ≤ 32768 → commands-call b .refused ≡ none → input-call b table entries ≡ plan-call b (commands-call b .set) total late table entries
+  pub then-plan : length b ≤ 32768 → commands-call b .refused ≡ none → input-call b table entries ≡ plan-call b (commands-call b .set) total early table entries
 
 -- The claims.
 

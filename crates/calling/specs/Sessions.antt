@@ -99,9 +99,9 @@ replay-session b calls entries levels = on-read (lent.refuse levels) (parse arch
 abbrev pub input-size : ℕ
 input-size = 32768
 
--- what the program plans: 15 first, then a job and commands to the end of the bytes, the first refusal ending it, then planning for the least total, in document 01's order
+-- what the program plans: 15 first, then a job and commands to the end of the bytes, the first refusal ending it, then planning for the least total, in the early order (document 02, E10)
 unfoldable pub input-call : List ℕ → List ℕ → List ℕ → Planned
-input-call b table entries = guarded (plan.refuse table entries) (test 15 (leb (length b) input-size) ∷ []) (unless (plan.refuse table entries) (commands-call b .refused) (plan-call b (commands-call b .set) total late table entries))
+input-call b table entries = guarded (plan.refuse table entries) (test 15 (leb (length b) input-size) ∷ []) (unless (plan.refuse table entries) (commands-call b .refused) (plan-call b (commands-call b .set) total early table entries))
 
 -- With a set in place of calls: what refuses planning before the search, and a replay: the job by its door, the set, 6, aim and order, 2, then the lists.
 unfoldable pub set-plan-tests : Job → ℕ → ℕ → ℕ → ℕ → List Test

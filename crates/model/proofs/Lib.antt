@@ -15,6 +15,7 @@ pub mod Units
 pub mod Planning
 pub mod Evenness
 pub mod OneBest
+pub mod Orders
 pub mod PinTotals
 pub mod Places
 pub mod Words

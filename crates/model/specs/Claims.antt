@@ -218,6 +218,14 @@ Aims = (j : Job) (m : PinMap) (s : ℕ) (start : Levels) (a : Aim) (o : Order) �
 abbrev pub OneBest : (List Entry → Type 0) → Type 0
 OneBest Among = (j : Job) (s : ℕ) (a : Aim) (o : Order) (p q : List Entry) → BestOf j s a o Among p → BestOf j s a o Among q → p ≡ q
 
+-- E10: the best plans of a set in two orders are as good as each other: they have the same total, and for even pictures the same greatest distortion
+pub record OrderClaim (j : Job) (s : ℕ) (a : Aim) (p q : List Entry) : Type 0 where
+  pub same-total : total-distortion j s p ≡ total-distortion j s q
+  pub same-greatest : a ≡ even → greatest-distortion j s p ≡ greatest-distortion j s q
+
+abbrev pub Orders : (List Entry → Type 0) → Type 0
+Orders Among = (j : Job) (s : ℕ) (a : Aim) (o r : Order) (p q : List Entry) → BestOf j s a o Among p → BestOf j s a r Among q → OrderClaim j s a p q
+
 -- a table that follows the rule of a layer holds the least distortion of every state
 abbrev pub TableLaw : Type 0
 TableLaw = (j : Job) (k : Open) (table : List ℕ) → Bounded j → FollowsRule j k table → IsTable j k 0 table

@@ -17,15 +17,16 @@ use Rattle.replaying.specs.Cases.{delayed, set-after}
 use Rattle.replaying.proofs.Cases.{map-at}
 use Rattle.planning.specs.Words.{layer, layers, table-from}
 use Rattle.planning.specs.Calls as c
-use Rattle.planning.specs.Cases.{Question, Reply, reply, questions, replies, Cases, word-after, word-questions, words-expected, WordCases}
+use Rattle.model.specs.Best.{late, early}
+use Rattle.planning.specs.Cases.{Question, Reply, reply, questions, replies, early-replies, Cases, word-after, word-questions, words-expected, WordCases}
 
 pub cases : Cases
-unfolding base.evaluate evaluate computes on-read choice-under choice-number same-header bytes-a bytes-a8 bytes-e lines unpinned fresh pin-fits pins-fit same-totals fits accept checked opened open-call refuse take-in with-pin without-pin call-tests called call-in call after run one-entry entry-bytes delayed set-after encode layer layers table-from c.refuse c.searched c.search-in c.plan-tests c.plan-in c.plan-call reply questions replies
-cases = refl
+unfolding base.evaluate evaluate computes on-read choice-under choice-number same-header bytes-a bytes-a8 bytes-e lines unpinned fresh pin-fits pins-fit same-totals fits accept checked opened open-call refuse take-in with-pin without-pin call-tests called call-in call after run one-entry entry-bytes delayed set-after encode layer layers table-from c.refuse c.searched c.search-in c.plan-tests c.plan-in c.plan-call reply questions replies early-replies
+cases = record { late-are = refl; early-are = refl }
 
 -- each case of the table, by its place
-pub case-at : (i : ℕ) → i < length questions → (q : Question) (r : Reply) → reply (getD questions i q) ≡ getD replies i r
-case-at i h q r = map-at reply questions replies q r cases i h
+pub case-at : (i : ℕ) → i < length questions → (q : Question) (r : Reply) → (reply late (getD questions i q) ≡ getD replies i r) × (reply early (getD questions i q) ≡ getD early-replies i r)
+case-at i h q r = (map-at (reply late) questions replies q r (cases .late-are) i h, map-at (reply early) questions early-replies q r (cases .early-are) i h)
 
 -- single words of tables
 pub word-cases : WordCases

@@ -1,6 +1,6 @@
--- Planning is refused in document 01's order, and else gives 13 or a best plan: `PlanCalls`; a job that never drains is refused: `NeverPlanned`; what a refusal leaves: `Keeps`; and 13 is given alike by either aim: `NoPlanAlike`, `NoPlanAnyhow`.
+-- Planning is refused in document 01's order, and else gives 13 or a best plan: `PlanCalls`; a job that never drains is refused: `NeverPlanned`; what a refusal leaves: `Keeps`; 13 is given alike by either aim: `NoPlanAlike`, `NoPlanAnyhow`; and the order makes no difference to table, refusals and least total: `OrdersAlike`.
 use Prim.Native.Nat.{ℕ, _-_, _*_, _≤_}
-use mathlib.Core.Path.{_≡_, refl, sym}
+use mathlib.Core.Path.{_≡_, refl, sym, _∙_, ap}
 use mathlib.Core.Logic.{_↔_}
 use mathlib.Core.Bool.{true}
 use mathlib.Core.Option.{Option, none, some}
@@ -11,11 +11,12 @@ use lib.ListN.{length}
 use borrow.Author.Tests.{leb-true, le-leb}
 use Rattle.base.specs.Answer as base
 use Rattle.base.specs.Refusals.{Test, refusal, unless, guarded, condition}
-use Rattle.base.proofs.Answers.{refused-same, not-refused}
+use Rattle.base.proofs.Answers.{refused-same, not-refused, gives-same}
 use Rattle.base.proofs.Refusals.{not-none, Decides, no-more, one-more, Guarded, was-refused, was-done, guarded-is}
 use Rattle.model.specs.Job.{Levels, Job, Entry, intervals}
 use Rattle.model.specs.Pins.{PinMap}
 use Rattle.model.specs.Admissible.{Admissible}
+use Rattle.model.specs.Replay.{Totals, totals}
 use Rattle.model.specs.Best.{Order, Open, least-total, Aim, total, even, open-for}
 use Rattle.model.specs.Table.{words}
 use Rattle.format.specs.Parser.{Result, refused, took, on-read}
@@ -28,7 +29,7 @@ use Rattle.pinning.specs.Check.{checked}
 use Rattle.pinning.proofs.Agree.{looks-checked, checked-refused}
 use Rattle.replaying.specs.Entries.{entry-size}
 use Rattle.planning.specs.Calls.{Planned, refuse, searched, search-in, plan-tests, plan-in, plan-call}
-use Rattle.planning.specs.Claims.{PlanClaim, Keeping, PlanCalls, NeverPlanned, Keeps, NoPlanAlike, NoPlanAnyhow}
+use Rattle.planning.specs.Claims.{PlanClaim, Keeping, PlanCalls, NeverPlanned, Keeps, NoPlanAlike, NoPlanAnyhow, OrderAlike, OrdersAlike}
 use Rattle.planning.proofs.DemandThree.{search-claim, plan-searches}
 
 -- what planning of a whole job is tested for
@@ -132,3 +133,35 @@ no-plan-anyhow b j n s read o o′ table table′ entries entries′ room room�
 pub never-planned : NeverPlanned
 unfolding plan-call on-read
 never-planned b j n e idle s a o table entries = rw (checked-refused opening b s 17 (two-doors b j n .else-17 e idle))
+
+-- which order is named makes no difference but to the entries and what they send
+module _ (a : Aim) (o r : Order) (table entries : List ℕ) where
+  alike-itself : (p : Planned) → OrderAlike p p
+  alike-itself p = record { table-alike = refl; refused-alike = λ n e. e; total-alike = λ t u e f. ap (λ (x : Totals). x .distortion) (gives-same (sym e ∙ f)) }
+
+  alike-searched : (j : Job) (m : PinMap) (v : Option ℕ) → least-total j (open-for a j m 0 (j .start)) 0 (j .start) ≡ v → OrderAlike (searched j (open-for a j m 0 (j .start)) o 0 (j .start) v table entries) (searched j (open-for a j m 0 (j .start)) r 0 (j .start) v table entries)
+  unfolding searched totals
+  alike-searched j m none e = alike-itself _
+  alike-searched j m (some v) e = record {
+    table-alike = refl;
+    refused-alike = λ n q. absurd (not-refused q);
+    total-alike = λ t u q w.
+        let one = aims j m 0 (j .start) a o (omega arith) .its-distortion v e in
+        let other = aims j m 0 (j .start) a r (omega arith) .its-distortion v e in
+        ap (λ (x : Totals). x .distortion) (sym (gives-same q)) ∙ one ∙ sym other ∙ ap (λ (x : Totals). x .distortion) (gives-same w);
+  }
+
+  alike-unless : (n : Option ℕ) (p q : Planned) → OrderAlike p q → OrderAlike (unless (refuse table entries) n p) (unless (refuse table entries) n q)
+  unfolding unless
+  alike-unless none p q h = h
+  alike-unless (some n) p q h = alike-itself _
+
+  alike-read : (q : Result Job) (f g : Job → Planned) → ((j : Job) → OrderAlike (f j) (g j)) → OrderAlike (on-read (refuse table entries) q f) (on-read (refuse table entries) q g)
+  unfolding on-read
+  alike-read (refused n) f g h = alike-itself _
+  alike-read (took j k) f g h = h j
+
+pub orders-alike : OrdersAlike
+unfolding plan-call plan-in search-in guarded
+orders-alike b s a o r table entries =
+    alike-read a o r table entries (checked opening b s) _ _ (λ j. alike-unless a o r table entries (refusal (plan-tests j 0 (length table) (length entries))) _ _ (alike-searched a o r table entries j (lines (length (j .units)) (s .pins)) (least-total j (open-for a j (lines (length (j .units)) (s .pins)) 0 (j .start)) 0 (j .start)) refl))

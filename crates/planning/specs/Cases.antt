@@ -1,4 +1,4 @@
--- Document 01's cases of Job A that are marked (m), those of planning, and cases of Job A with another delay or a second bucket, and of job E, worked out by hand: what is asked, and what document 01 says, or by document 02, E2, E3, E5 and E7, would.
+-- Document 01's cases of Job A that are marked (m), those of planning, and cases of Job A with another delay or a second bucket, and of job E, worked out by hand: what is asked, and what document 01 says, or by document 02, E2, E3, E5 and E7, would; in the late order, which was document 01's, and in the early one of E10.
 use Prim.Native.Nat.{ℕ}
 use mathlib.Core.Path.{_≡_}
 use mathlib.Core.List.{List, [], _∷_, map}
@@ -6,7 +6,7 @@ use lib.ListN.{getD, replicate}
 use Rattle.base.specs.Answer.{Answer, refused, gives}
 use Rattle.model.specs.Pins.{Call, pin, lift}
 use Rattle.model.specs.Replay.{Totals}
-use Rattle.model.specs.Best.{late, Aim, total, even}
+use Rattle.model.specs.Best.{Order, late, early, Aim, total, even}
 use Rattle.format.specs.JobA.{bytes-a, bytes-a8, bytes-e}
 use Rattle.replaying.specs.Cases.{delayed, set-after}
 use Rattle.planning.specs.Calls.{plan-call}
@@ -24,10 +24,11 @@ pub record Reply : Type 0 where
   pub answer : Answer Totals
   pub entries : List ℕ
 
-unfoldable pub reply : Question → Reply
-reply q = record {
-  answer = plan-call (q .job) (set-after (q .job) (q .calls)) (q .aim) late (replicate (q .words) 9) (replicate (q .bytes) 7) .answer;
-  entries = plan-call (q .job) (set-after (q .job) (q .calls)) (q .aim) late (replicate (q .words) 9) (replicate (q .bytes) 7) .entries;
+-- in an order
+unfoldable pub reply : Order → Question → Reply
+reply o q = record {
+  answer = plan-call (q .job) (set-after (q .job) (q .calls)) (q .aim) o (replicate (q .words) 9) (replicate (q .bytes) 7) .answer;
+  entries = plan-call (q .job) (set-after (q .job) (q .calls)) (q .aim) o (replicate (q .words) 9) (replicate (q .bytes) 7) .entries;
 }
 
 abbrev pub asks-for : Aim → List ℕ → List Call → ℕ → ℕ → Question
@@ -132,9 +133,46 @@ replies =
     ∷ refuses 12 (replicate 8 7)
     ∷ []
 
--- one computed test of the whole table
-abbrev pub Cases : Type 0
-Cases = map reply questions ≡ replies
+-- early, where the larger rate index wins (document 02, E10). Job A sends 4 grains in interval 1, as many as its decoder holds, none in interval 2 and 4 in interval 3; with unit 1 at 1 there are 2 grains left before interval 3, so that 2 arrive. With delay 2 interval 3 sends nothing either, and its drain goes by; without a delay the bucket holds 2 after interval 1 and would pass 3 with 4 more. A second bucket of 1, or job E's, takes no more than 2 grains an interval, so that both orders send the same
+unfoldable pub early-replies : List Reply
+early-replies =
+    says 50 6 8 0 (2 ∷ 255 ∷ 255 ∷ 0 ∷ 0 ∷ 0 ∷ 2 ∷ 1 ∷ 0 ∷ [])
+    ∷ says 50 6 8 0 (2 ∷ 255 ∷ 255 ∷ 0 ∷ 0 ∷ 0 ∷ 2 ∷ 1 ∷ 0 ∷ [])
+    ∷ says 50 6 8 0 (2 ∷ 255 ∷ 255 ∷ 0 ∷ 0 ∷ 0 ∷ 2 ∷ 1 ∷ 0 ∷ [])
+    ∷ says 70 4 6 0 (2 ∷ 255 ∷ 255 ∷ 0 ∷ 1 ∷ 0 ∷ 1 ∷ 1 ∷ 0 ∷ [])
+    ∷ says 50 6 8 0 (2 ∷ 255 ∷ 255 ∷ 0 ∷ 0 ∷ 0 ∷ 2 ∷ 1 ∷ 0 ∷ [])
+    ∷ refuses 13 (replicate 9 7)
+    ∷ refuses 11 (replicate 9 7)
+    ∷ refuses 12 (replicate 8 7)
+    ∷ refuses 11 (replicate 8 7)
+    ∷ refuses 12 (replicate 8 7)
+    ∷ says 50 6 8 0 (2 ∷ 255 ∷ 255 ∷ 0 ∷ 0 ∷ 0 ∷ 2 ∷ 1 ∷ 0 ∷ 7 ∷ 7 ∷ 7 ∷ [])
+    ∷ says 70 4 6 2 (2 ∷ 255 ∷ 255 ∷ 0 ∷ 255 ∷ 255 ∷ 0 ∷ 1 ∷ 0 ∷ 1 ∷ 1 ∷ 0 ∷ [])
+    ∷ says 50 6 8 2 (2 ∷ 255 ∷ 255 ∷ 0 ∷ 255 ∷ 255 ∷ 0 ∷ 0 ∷ 0 ∷ 2 ∷ 1 ∷ 0 ∷ [])
+    ∷ refuses 11 (replicate 12 7)
+    ∷ says 70 4 6 0 (2 ∷ 1 ∷ 0 ∷ 1 ∷ 1 ∷ 0 ∷ [])
+    ∷ says 50 6 6 0 (2 ∷ 0 ∷ 0 ∷ 1 ∷ 1 ∷ 0 ∷ [])
+    ∷ refuses 11 (replicate 6 7)
+    ∷ says-two 50 6 8 0 4 (2 ∷ 255 ∷ 255 ∷ 0 ∷ 0 ∷ 0 ∷ 2 ∷ 1 ∷ 0 ∷ [])
+    ∷ says-two 50 6 6 0 0 (1 ∷ 255 ∷ 255 ∷ 1 ∷ 0 ∷ 0 ∷ 1 ∷ 1 ∷ 0 ∷ [])
+    ∷ refuses 11 (replicate 9 7)
+    ∷ refuses 13 (replicate 9 7)
+    ∷ refuses 17 (replicate 9 7)
+    ∷ says 50 6 8 0 (2 ∷ 255 ∷ 255 ∷ 0 ∷ 0 ∷ 0 ∷ 2 ∷ 1 ∷ 0 ∷ [])
+    ∷ refuses 13 (replicate 9 7)
+    ∷ says 41 6 6 0 (1 ∷ 255 ∷ 255 ∷ 1 ∷ 0 ∷ 0 ∷ 1 ∷ 1 ∷ 0 ∷ [])
+    ∷ says 42 6 6 0 (1 ∷ 255 ∷ 255 ∷ 1 ∷ 1 ∷ 0 ∷ 1 ∷ 0 ∷ 0 ∷ [])
+    ∷ says 41 6 6 0 (1 ∷ 255 ∷ 255 ∷ 1 ∷ 0 ∷ 0 ∷ 1 ∷ 1 ∷ 0 ∷ [])
+    ∷ says 40 6 6 0 (1 ∷ 255 ∷ 255 ∷ 1 ∷ 0 ∷ 0 ∷ 1 ∷ 1 ∷ 0 ∷ [])
+    ∷ says 40 6 6 0 (1 ∷ 255 ∷ 255 ∷ 1 ∷ 0 ∷ 0 ∷ 1 ∷ 1 ∷ 0 ∷ [])
+    ∷ refuses 11 (replicate 9 7)
+    ∷ refuses 12 (replicate 8 7)
+    ∷ []
+
+-- one computed test of the whole table in each order
+pub record Cases : Type 0 where
+  pub late-are : map (reply late) questions ≡ replies
+  pub early-are : map (reply early) questions ≡ early-replies
 
 -- Single words of the table at exit: a plan is asked for as above, and then the word in a place of the list that was lent.
 pub record WordQuestion : Type 0 where

@@ -11,7 +11,7 @@ use Rattle.base.specs.Refusals.{condition}
 use Rattle.model.specs.Job.{Line, Coding, Levels, Job, Entry, intervals}
 use Rattle.model.specs.Pins.{PinMap, Call, Click, no-pins, pins-after, answers, clicks-after, click-answers}
 use Rattle.model.specs.Admissible.{Admissible}
-use Rattle.model.specs.Replay.{greatest-distortion, totals}
+use Rattle.model.specs.Replay.{Totals, greatest-distortion, totals}
 use Rattle.model.specs.Best.{Order, unlimited, Aim, total, even}
 use Rattle.model.specs.Table.{bound, layerWords, words, IsTable}
 use Rattle.model.specs.Claims.{BestOf, kept-open}
@@ -92,6 +92,15 @@ NoPlanAlike = (b : List ℕ) (s : PinSet) (o : Order) (table entries : List ℕ)
 -- and whatever the orders and the lists, where these are long enough
 abbrev pub NoPlanAnyhow : Type 0
 NoPlanAnyhow = (b : List ℕ) (j : Job) (n : ℕ) (s : PinSet) → checked opening b s ≡ took j n → (o o′ : Order) (table table′ entries entries′ : List ℕ) → words j ≤ length table → words j ≤ length table′ → 3 * intervals j ≤ length entries → 3 * intervals j ≤ length entries′ → (plan-call b s total o table entries .answer ≡ refused 13) ↔ (plan-call b s even o′ table′ entries′ .answer ≡ refused 13)
+
+-- document 02, E10: which order is named makes no difference to the table, to a refusal, 13 among them, or to the least total
+pub record OrderAlike (p q : Planned) : Type 0 where
+  pub table-alike : p .table ≡ q .table
+  pub refused-alike : (n : ℕ) → p .answer ≡ refused n → q .answer ≡ refused n
+  pub total-alike : (t u : Totals) → p .answer ≡ gives t → q .answer ≡ gives u → t .distortion ≡ u .distortion
+
+abbrev pub OrdersAlike : Type 0
+OrdersAlike = (b : List ℕ) (s : PinSet) (a : Aim) (o r : Order) (table entries : List ℕ) → OrderAlike (plan-call b s a o table entries) (plan-call b s a r table entries)
 
 -- document 02, E6: a layer from the D + 1 prices of an interval's choices is the layer from all of them, however many they are and however distortions combine, as long as more distortion never comes to less
 abbrev pub FewPrices : Type 0
