@@ -7,9 +7,10 @@
 //! a last call that is cut with 1, both right after the job's numbers, which come
 //! first: 1 to 5, and of [`open`], [`calls`], [`plan`], [`set`] and all that take a set
 //! but [`replay_set`] also 17. An aim that is neither [`TOTAL`] nor [`EVEN`] is refused
-//! with 2 too, right after the job's numbers and before the calls', and so is an order
-//! that is neither [`EARLY`] nor [`LATE`], right after the aim. A `values` list is one of
-//! those to be filled: where it is too short, its 12 comes right after theirs.
+//! with 2 too, right after the job's numbers and before the calls', or after the set's 6,
+//! and so is an order that is neither [`EARLY`] nor [`LATE`], right after the aim. A
+//! `values` list is one of those to be filled: where it is too short, its 12 comes right
+//! after theirs.
 //!
 //! A set of pins is [`SET_NUMBERS`] numbers that the caller keeps between calls: [`set`]
 //! writes the one without a pin, [`pin`], [`lift`], [`pin_and_see`] and [`lift_and_see`]
@@ -18,8 +19,8 @@
 //! [`write()`], the last three 0 where there is one bucket; from [`SET_PINS`] on the pins
 //! of units 1 to 512, a choice or [`NO_PIN`]; from [`SET_TOTALS`] on the three values of
 //! [`calls`]. Each call reads all of them against the job again and refuses others with 6,
-//! right after the job's numbers, or of [`plan_set`] after the order's. Numbers behind them
-//! are not looked at and keep their values.
+//! right after the job's numbers. Numbers behind them are not looked at and keep their
+//! values. [`archive_set`] writes the set of a stored job whose line may never drain.
 
 /// The first number of a call that pins.
 pub const PIN: u16 = 6;
