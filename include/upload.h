@@ -16,9 +16,9 @@
    unused. Planning gives the admissible plan of least total distortion, or, where
    the caller names UPLOAD_EVEN, the one whose greatest unit distortion is least,
    and among such plans the total. Among several the first interval at which they
-   differ decides: the smaller rate index, then the smaller choice index;
-   upload_plan_set takes the larger rate index where the caller names
-   UPLOAD_EARLY.
+   differ decides: for UPLOAD_EARLY, which is the default, the larger rate index,
+   for UPLOAD_LATE the smaller one, and then the smaller choice index. The table,
+   the total and whether there is a plan are the same in both orders.
 
    The header says how many buckets there are: a job that opens has it in its
    byte 2, the kind of its first record, which is one of enum upload_header. With
@@ -126,8 +126,9 @@ enum upload_aim {
 
 /* Which of several plans that are as good is given: at the first interval in
    which they differ, the one with the larger rate index (early) or the smaller
-   one (late), and of equal rates the one with the smaller choice index.
-   upload_plan gives the late one. */
+   one (late), and of equal rates the one with the smaller choice index. Lines
+   drop more near the end of a programme, so that early is the default, and what
+   `plan` prints; late was the only order once, and stored listings are in it. */
 enum upload_order {
     UPLOAD_EARLY = 0,
     UPLOAD_LATE = 1
@@ -249,6 +250,7 @@ uint32_t upload_calls(const uint8_t *job, size_t job_len,
 
    calls:   three numbers a call.
    aim:     one of enum upload_aim.
+   order:   one of enum upload_order; UPLOAD_EARLY is 0, the default.
    answers: one byte a call written, as upload_calls writes them.
    table:   the words that upload_open names are written. Word
             (t x (decoder size + 1) + b) x (bucket size + 1) + l is the least
@@ -272,13 +274,13 @@ uint32_t upload_calls(const uint8_t *job, size_t job_len,
             its unused grains = T x its drain + its last level.
 
    Refusals in order: 1 to 5 for the job, with 17 directly after 3; 2 for another
-   aim; 2 for a call of another kind, then 1 where the last call is cut; 11; 12
-   where `answers`, `entries` or `values` is too short; 13, which leaves `table`
+   aim, then for another order; 2 for a call of another kind, then 1 where the
+   last call is cut; 11; 12 where `answers`, `entries` or `values` is too short; 13, which leaves `table`
    written, and `answers`, `entries` and `values` as they were; upload_calls says
    what the calls met with. */
 uint32_t upload_plan(const uint8_t *job, size_t job_len,
                      const uint16_t *calls, size_t calls_len,
-                     uint32_t aim,
+                     uint32_t aim, uint32_t order,
                      uint8_t *answers, size_t answers_len,
                      uint32_t *table, size_t table_len,
                      uint8_t *entries, size_t entries_len,

@@ -161,6 +161,6 @@ pub fn plan_input(input: &[u8], table: &mut [u32], entries: &mut [u8]) -> Planne
     let set = taken.set;
     match answer {
         Answer::Refused(n) => Planned::Refused(n),
-        Answer::Done => planner::plan(input, set, Aim::Total, Order::Late, table, entries),
+        Answer::Done => planner::plan(input, set, Aim::Total, Order::Early, table, entries),
     }
 }

@@ -7,9 +7,6 @@ ghost use Rattle.exporting.specs.Sets.{set-export, call-export, seen, see-expor
 ghost use Rattle.exporting.specs.Exports.{opened, open-export, called, calls-export, planned, plan-export, replayed, replay-export, filled, report-export, turn-export, written, write-export};
 use header::Door;
 
-// The order of plans that are as good: document 01's, the smaller rate index first.
-const LATE: u32 = 1;
-
 // Opens a job. Values: how many bytes it took, N, T, and how many words its table has.
 #[no_mangle]
 pub extern "C" fn upload_open(job: &[u8], values: &mut [u64]) -> u32
@@ -39,20 +36,21 @@ pub extern "C" fn upload_calls(
     called::make_calls(job, calls, answers, values)
 }
 
-// Makes calls as numbers and plans with the pins that they leave, by the aim that a number names: 0 the least total, 1 even pictures; another number is 2. Where there is a plan, each call's number goes to `answers`; 13 writes the table alone. Values: distortion, source size and channel size of the plan, then the unused drain of each bucket.
+// Makes calls as numbers and plans with the pins that they leave, by the aim and in the order that numbers name: 0 the least total, 1 even pictures; 0 early, 1 late; another number is 2. Where there is a plan, each call's number goes to `answers`; 13 writes the table alone. Values: distortion, source size and channel size of the plan, then the unused drain of each bucket.
 #[no_mangle]
 pub extern "C" fn upload_plan(
     job: &[u8],
     calls: &[u16],
     aim: u32,
+    order: u32,
     answers: &mut [u8],
     table: &mut [u32],
     entries: &mut [u8],
     values: &mut [u64],
 ) -> u32
-    ensures { λ r. ⌜ planned r (now (answers .exit)) (now (table .exit)) (now (entries .exit)) (now (values .exit)) ≡ plan-export (now (job .entry)) (now (calls .entry)) aim 1 (now (answers .entry)) (now (table .entry)) (now (entries .entry)) (now (values .entry)) ⌝ }
+    ensures { λ r. ⌜ planned r (now (answers .exit)) (now (table .exit)) (now (entries .exit)) (now (values .exit)) ≡ plan-export (now (job .entry)) (now (calls .entry)) aim order (now (answers .entry)) (now (table .entry)) (now (entries .entry)) (now (values .entry)) ⌝ }
 {
-    planned::plan(job, calls, aim, LATE, answers, table, entries, values)
+    planned::plan(job, calls, aim, order, answers, table, entries, values)
 }
 
 // Replays a plan with the pins that calls as numbers leave. Values: 0, or the number of the first violation (1 decoder short, 2 decoder over, 3 bucket over, 4 pin not held, 5 second bucket over); its interval, counted from 1, or 0; then distortion, source size, channel size and the unused drain of each bucket, 0 where there is a violation.
