@@ -18,7 +18,7 @@ use Rattle.pinset.specs.Answers.{set-of}
 use Rattle.pins.specs.Answers as told
 use Rattle.pins.specs.Answers.{opening-answer, number, handed}
 use Rattle.pins.proofs.Opens.{Open, is-open, not-open, answer-is, state-is}
-use Rattle.model.specs.Best.{late, total}
+use Rattle.model.specs.Best.{early, total}
 use Rattle.planning.specs.Calls.{Planned, plan-call}
 use Rattle.planning.specs.Calls as plan
 use Rattle.calling.specs.Commands.{follow, commands-call}
@@ -46,7 +46,7 @@ module _ (b : List ℕ) (x : Opened) (e : told.opening x ≡ open-call opening b
 
 module _ (b table entries : List ℕ) where
   abbrev work : Planned
-  work = unless (plan.refuse table entries) (commands-call b .refused) (plan-call b (commands-call b .set) total late table entries)
+  work = unless (plan.refuse table entries) (commands-call b .refused) (plan-call b (commands-call b .set) total early table entries)
 
   pub input-long : input-size < length b → plan.refuse table entries 15 ≡ input-call b table entries
   unfolding input-call
@@ -54,7 +54,7 @@ module _ (b table entries : List ℕ) where
 
   -- x is what the commands came to
   module _ (h : length b ≤ input-size) (x : pins.Handed) (e : handed x ≡ commands-call b) where
-    short : input-call b table entries ≡ unless (plan.refuse table entries) (number (x .answer)) (plan-call b (set-of (x .set)) total late table entries)
+    short : input-call b table entries ≡ unless (plan.refuse table entries) (number (x .answer)) (plan-call b (set-of (x .set)) total early table entries)
     unfolding input-call handed
     short = guarded-last (plan.refuse table entries) _ work (le-leb (length b) input-size h) ∙ rw (← e)
 
@@ -62,6 +62,6 @@ module _ (b table entries : List ℕ) where
     unfolding number
     input-refused n q = sym (short ∙ unless-some (plan.refuse table entries) _ n _ (ap number q))
 
-    pub input-planned : x .answer ≡ a.Done → plan-call b (set-of (x .set)) total late table entries ≡ input-call b table entries
+    pub input-planned : x .answer ≡ a.Done → plan-call b (set-of (x .set)) total early table entries ≡ input-call b table entries
     unfolding number
     input-planned q = sym (short ∙ unless-none (plan.refuse table entries) _ _ (ap number q))
