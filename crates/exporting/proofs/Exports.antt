@@ -47,7 +47,7 @@ use Rattle.values.specs.Lists.{buckets-in, opened-values, pins-list, totals-lis
 use Rattle.exporting.proofs.Fields.{is-header, no-header}
 use Rattle.exporting.specs.Exports as x
 use Rattle.exporting.specs.Exports.{number-of, room-for, opened, open-export, called, after-calls, calls-export, planned, after-session, plan-export, replayed, after-replay, replay-export, filled, done-export, report-export, turn-export, written, after-write, write-export}
-use Rattle.exporting.specs.Claims.{CallConditions, Opening, Calling, Planning, PlanConditions, Plans, Replaying, ReplayConditions, Replays, Reporting, Reports, Turning, Turns, Writing, Writes}
+use Rattle.exporting.specs.Claims.{CallConditions, Opening, Calling, Planning, PlanConditions, Plans, Replaying, ReplayTold, ReplayConditions, Replays, Reporting, Reports, Turning, Turns, Writing, Writes}
 use Rattle.replaying.specs.Claims.{InShape, DemandTwo, Reported, WasPlan, Turned}
 use Rattle.replaying.specs.Entries.{plan-of}
 
@@ -160,17 +160,17 @@ plans b calls aim order answers table entries values =
       λ h. exported j calls aim order answers table entries values (session-call b calls aim order answers table entries) (sessions b calls aim order answers table entries .1 j k e .1 (h .0) .1 (h .1 .0) .1 (h .1 .1 .0) .1 (h .1 .1 .1 .0) .1 (h .1 .1 .1 .1 .0) .1 (h .1 .1 .1 .1 .1 .0) .1 (h .1 .1 .1 .1 .1 .1 .0)),
     )))
 
--- and of a replay of which demand 2 holds, over so many buckets
-exported-replay : (j : Job) (calls entries levels values : List ℕ) (n : ℕ) → n ≡ length (j .line .buckets) → (r : lent.Ended Replayed) → DemandTwo j (archive-pins j calls) (plan-of j entries) levels r → Replaying j calls entries levels values (after-replay n r values)
+-- and of a replay, over so many buckets
+pub replay-told : (j : Job) (values : List ℕ) (n : ℕ) → n ≡ length (j .line .buckets) → (r : lent.Ended Replayed) → ReplayTold j values r (after-replay n r values)
 unfolding after-replay
-exported-replay j calls entries levels values n q r c = record {
-  replay = r;
-  claim = c;
-  is = unfold after-replay in (rw q);
+replay-told j values n q r = record {
   levels-are = refl;
   clean-values = λ t e. unfold replayed-list totals-list in (put-given (r .answer) (totals-are t) (replayed-list n) values e);
   violated-values = λ i v e. rw (← q) (unfold replayed-list in (put-given (r .answer) (violated i v) (replayed-list n) values e));
 }
+
+exported-replay : (j : Job) (calls entries levels values : List ℕ) (n : ℕ) → n ≡ length (j .line .buckets) → (r : lent.Ended Replayed) → DemandTwo j (archive-pins j calls) (plan-of j entries) levels r → Replaying j calls entries levels values (after-replay n r values)
+exported-replay j calls entries levels values n q r c = record { replay = r; claim = c; is = unfold after-replay in (rw q); told = replay-told j values n q r }
 
 pub replays : Replays
 unfolding replay-export replay-refusal

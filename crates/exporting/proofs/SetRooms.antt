@@ -28,7 +28,7 @@ use Rattle.pinning.proofs.Numbers.{sets-taken}
 use Rattle.planning.specs.See as sight
 use Rattle.planning.specs.See.{keep, unit-of, see-in, see-call}
 use Rattle.planning.specs.Seeing.{refused-by}
-use Rattle.planning.proofs.Seeing.{see-clicks}
+use Rattle.planning.proofs.Seeing.{see-clicks, see-keeps}
 use Rattle.exporting.specs.Exports.{room-for}
 use Rattle.exporting.specs.Sets.{Seen, seen, after-see, see-export}
 
@@ -50,18 +50,6 @@ pub seen-long : (b l : List ℕ) (k : Call) (table : List ℕ) (w : ℕ) → see
 unfolding click
 seen-long b l k table w e = read-long b l (λ j. click-in j (set-in l) (sees k (length table))) (sym (see-clicks b (set-in l) k table .1) ∙ ap refused-by e ∙ unfold refused-by in refl)
 
--- a refused call that sees leaves the table
-module _ (s : PinSet) (k : Call) (table : List ℕ) where
-  unless-keeps : (j : Job) (o : Option ℕ) (n : ℕ) → unless (keep s table) o (sight.seen j (called j s k) (unit-of k) table) .answer ≡ refused n → unless (keep s table) o (sight.seen j (called j s k) (unit-of k) table) .table ≡ table
-  unfolding unless keep sight.seen
-  unless-keeps j none n e = absurd (not-refused e)
-  unless-keeps j (some x) n e = refl
-
-  read-keeps : (r : Result Job) (n : ℕ) → on-read (keep s table) r (λ j. see-in j s k table) .answer ≡ refused n → on-read (keep s table) r (λ j. see-in j s k table) .table ≡ table
-  unfolding on-read see-in guarded
-  read-keeps (P.refused m) n e = unfold keep in refl
-  read-keeps (took j m) n e = unless-keeps j (refusal (click-tests j s (sees k (length table)))) n e
-
 -- with room for the value, what is exported is what was seen
 module _ (b l : List ℕ) (k : Call) (table values : List ℕ) where
   abbrev r : sight.Seen
@@ -78,7 +66,7 @@ module _ (b l : List ℕ) (k : Call) (table values : List ℕ) where
       go (refused n) e q = unless-some (λ n. seen n l table values) _ n _ (unless-some some o n _ (sym q ∙ ap refused-by e ∙ unfold refused-by in refl)) ∙ sym (kept n e)
         where
           kept : (n : ℕ) → r .answer ≡ refused n → after-see (r .answer) r l values ≡ seen n l table values
-          kept n e = unfold after-see see-call in rw (e, read-keeps (set-in l) k table (checked opening b (set-in l)) n e) refl
+          kept n e = unfold after-see in rw (e, see-keeps b (set-in l) k table n e .1) refl
       go (gives w) e q = unless-none (λ n. seen n l table values) _ _ (unless-none some o _ (sym q ∙ ap refused-by e ∙ unfold refused-by in refl) ∙ refusal-last _ (le-leb 1 (length values) h))
 
   -- without it, the call's refusal or 12

@@ -39,7 +39,7 @@ use Rattle.values.specs.Lists.{buckets-in}
 use Rattle.exporting.specs.Exports.{room-for, Filled, filled, replayed, after-replay}
 use Rattle.exporting.specs.Sets.{set-export, after-call, call-export, Seen, seen, after-see, see-export, set-planned, after-plan, set-plan-export, set-replay-export}
 use Rattle.exporting.specs.SetClaims.{SetOpening, SetCalls, SetSeen, SetSees, SetPlanning, SetPlans, SetReplaying, SetReplays}
-use Rattle.exporting.proofs.Exports.{room-decides, whole, all-tests, of-job, counted, number-iff, number-kept, number-else, totals-put, looks-through}
+use Rattle.exporting.proofs.Exports.{replay-told, room-decides, whole, all-tests, of-job, counted, number-iff, number-kept, number-else, totals-put, looks-through}
 
 pub set-opening : SetOpening
 unfolding set-export on-took
@@ -133,7 +133,7 @@ set-plans b set aim order table entries values =
 
 -- and of a replay of which demand 2 holds
 exported-played : (j : Job) (set entries levels values : List ℕ) (n : ℕ) → n ≡ length (j .line .buckets) → (r : Ended Replayed) → DemandTwo j (pins-of j (set-in set)) (plan-of j entries) levels r → SetReplaying j set entries levels values (after-replay n r values)
-exported-played j set entries levels values n q r c = record { replay = r; claim = c; is = unfold after-replay in (rw q) }
+exported-played j set entries levels values n q r c = record { replay = r; claim = c; is = unfold after-replay in (rw q); told = replay-told j values n q r }
 
 abbrev ReplayAsks : List ℕ → List ℕ → Job → List Condition
 ReplayAsks entries levels j = condition 14 (InShape j entries) ∷ condition 12 ((1 + length (j .line .buckets)) * intervals j ≤ length levels) ∷ []

@@ -56,15 +56,18 @@ PlanConditions j calls aim order answers table entries = condition 2 (Either aim
 abbrev pub Plans : Type 0
 Plans = (b calls : List ℕ) (aim order : ℕ) (answers table entries values : List ℕ) → Looks (plan-export b calls aim order answers table entries values) (λ n. planned n answers table entries values) (parse opening b) (λ j. PlanConditions j calls aim order answers table entries ++ (condition 12 (3 + length (j .line .buckets) ≤ length values) ∷ [])) (λ j. Planning j calls aim order answers table entries values (plan-export b calls aim order answers table entries values))
 
+-- what is exported of a replay: the levels are the replay's, and the values are two zeros and the totals, or the violation's number, its interval and zeros
+pub record ReplayTold (j : Job) (values : List ℕ) (replay : Ended Replayed) (r : x.Played) : Type 0 where
+  pub levels-are : r .levels ≡ replay .list
+  pub clean-values : (t : Totals) → replay .answer ≡ gives (totals-are t) → r .values ≡ over (0 ∷ 0 ∷ t .distortion ∷ t .source ∷ t .channel ∷ t .unused) values
+  pub violated-values : (n : ℕ) (v : Violation) → replay .answer ≡ gives (violated n v) → r .values ≡ over (violation-number v ∷ n ∷ replicate (3 + length (j .line .buckets)) 0) values
+
 -- a replay after calls, of a job that the archive takes: the numbers are those of a replay of which demand 2 holds; a violation is no refusal
 pub record Replaying (j : Job) (calls entries levels values : List ℕ) (r : x.Played) : Type 0 where
   pub replay : Ended Replayed
   pub claim : DemandTwo j (archive-pins j calls) (plan-of j entries) levels replay
   pub is : r ≡ after-replay (length (j .line .buckets)) replay values
-  -- the levels are the replay's, and the values are two zeros and the totals, or the violation's number, its interval and zeros
-  pub levels-are : r .levels ≡ replay .list
-  pub clean-values : (t : Totals) → replay .answer ≡ gives (totals-are t) → r .values ≡ over (0 ∷ 0 ∷ t .distortion ∷ t .source ∷ t .channel ∷ t .unused) values
-  pub violated-values : (n : ℕ) (v : Violation) → replay .answer ≡ gives (violated n v) → r .values ≡ over (violation-number v ∷ n ∷ replicate (3 + length (j .line .buckets)) 0) values
+  pub told : ReplayTold j values replay r
 
 abbrev pub ReplayConditions : Job → List ℕ → List ℕ → List ℕ → List Condition
 ReplayConditions j calls entries levels = CallConditions calls ++ (condition 14 (InShape j entries) ∷ condition 12 ((1 + length (j .line .buckets)) * intervals j ≤ length levels) ∷ [])

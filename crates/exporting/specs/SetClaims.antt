@@ -30,6 +30,7 @@ use Rattle.planning.specs.Seeing.{pins-of, SeeClaim}
 use Rattle.calling.specs.Sessions.{aim-named, order-named}
 use Rattle.calling.specs.Claims.{Either}
 use Rattle.exporting.specs.Exports.{Filled, filled, Played, replayed, after-replay}
+use Rattle.exporting.specs.Claims.{ReplayTold}
 use Rattle.exporting.specs.Sets.{set-export, call-export, Seen, seen, see-export, SetPlanned, set-planned, after-plan, set-plan-export, set-replay-export}
 
 -- the set without a pin, by either door: the job, 1 to 5 and 17, then room for its numbers
@@ -69,6 +70,7 @@ pub record SetReplaying (j : Job) (set entries levels values : List ℕ) (r : Pl
   pub replay : Ended Replayed
   pub claim : DemandTwo j (pins-of j (set-in set)) (plan-of j entries) levels replay
   pub is : r ≡ after-replay (length (j .line .buckets)) replay values
+  pub told : ReplayTold j values replay r
 
 abbrev pub SetReplays : Type 0
 SetReplays = (b set entries levels values : List ℕ) → Looks (set-replay-export b set entries levels values) (λ n. replayed n levels values) (parse archive b) (λ j. condition 6 (Matches j (set-in set)) ∷ condition 14 (InShape j entries) ∷ condition 12 ((1 + length (j .line .buckets)) * intervals j ≤ length levels) ∷ condition 12 (5 + length (j .line .buckets) ≤ length values) ∷ []) (λ j. SetReplaying j set entries levels values (set-replay-export b set entries levels values))

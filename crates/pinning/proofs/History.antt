@@ -1,4 +1,4 @@
--- A list of clicks leaves exactly what the book holds: `History`; so does a list of pins and lifts: `CallHistory`, by `Plain`; what a call that sees is answered: `Sees`; and no other trace is left: `NoTrace`.
+-- A list of clicks leaves exactly what the book holds: `History`; so does a list of pins and lifts: `CallHistory`, by `Plain`; what a call that sees is answered: `Sees`; and no other trace is left: `NoTrace`, `OneSet`.
 use Prim.Native.Nat.{ℕ, _-_, _<_, _≤_}
 use mathlib.Core.Path.{_≡_, refl, sym, _∙_, ap}
 use mathlib.Core.Logic.{_⊎_, inl, inr}
@@ -28,7 +28,7 @@ use Rattle.format.specs.Choices.{no-choice, choice-of}
 use Rattle.pinning.specs.PinSet.{PinSet, lines, unpinned, fresh}
 use Rattle.pinning.specs.Check.{Matches, checked}
 use Rattle.pinning.specs.Calls.{opened, open-call, Handed, refuse, take-in, with-pin, without-pin, pin-of, call-tests, called, call-in, call, call-of, click-tests, click-in, click, CallsMade, after, run, run-clicks}
-use Rattle.pinning.specs.Claims.{HistoryClaim, History, Plain, CallHistory, Sees, NoTrace}
+use Rattle.pinning.specs.Claims.{HistoryClaim, History, Plain, CallHistory, Sees, NoTrace, OneSet}
 use Rattle.format.proofs.Choices.{number-none, number-some, of-mark, of-choice}
 use Rattle.pinning.proofs.Inside.{inside}
 use Rattle.pinning.proofs.Lines.{lines-at, lines-length, lines-set, lines-unpinned}
@@ -57,7 +57,7 @@ module _ (j : Job) (limits : InLimits j) where
     byte-line i l = sym (lines-at (length (j .units)) (s .pins) i (omega (arith, h .size, limits .units)) l) ∙ ap (λ (k : PinMap). getD k i none) (h .pins)
 
     -- a set that holds a map passes the check
-    holds-matches : Matches j s
+    pub holds-matches : Matches j s
     holds-matches = record { header = h .header; pins = λ i l. go i l (getD m i none) refl; past = h .past; totals = h .totals ∙ rw (h .pins) refl }
       where
         go : (i : ℕ) → i < length (j .units) → (o : Option ℕ) → getD m i none ≡ o → (getD (s .pins) i 0 ≡ no-choice) ⊎ (getD (s .pins) i 0 < j .choices)
@@ -304,6 +304,11 @@ module _ (j : Job) (limits : InLimits j) (m : PinMap) (s r : PinSet) (h : Holds 
       ap (λ (x : Header). record { header = x; pins = s .pins; totals = s .totals }) (h .header ∙ sym (k .header))
       ∙ ap (λ (x : List ℕ). record { header = r .header; pins = x; totals = s .totals }) same-pins
       ∙ ap (λ (x : PinTotals). record { header = r .header; pins = r .pins; totals = x }) (h .totals ∙ sym (k .totals))
+
+pub one-set-of : OneSet
+one-set-of d b j n parsed s r h k long full same =
+    let limits = limited j (well-read d b j n parsed .well-formed) in
+    one-set j limits (lines (length (j .units)) (r .pins)) s r (rw same at (matches-holds j s limits h long)) (matches-holds j r limits k full)
 
 pub no-trace : NoTrace
 no-trace b j n parsed clicks others same =

@@ -12,7 +12,7 @@ use Rattle.model.specs.Job.{Job, codingAt}
 use Rattle.model.specs.Pins.{PinMap, Call, pin, lift, Click, plain, sees, no-pins, note, note-click, pins-after, answers, clicks-after, click-answers, pin-totals}
 use Rattle.model.specs.Table.{words}
 use Rattle.format.specs.Parser.{took, Looks}
-use Rattle.format.specs.JobBytes.{header-in, opening, archive, parse}
+use Rattle.format.specs.JobBytes.{header-in, Door, opening, archive, parse}
 use Rattle.format.specs.Claims.{Drains}
 use Rattle.pinning.specs.PinSet.{PinSet, lines, fresh}
 use Rattle.pinning.specs.Check.{Matches, fits, checked}
@@ -70,6 +70,10 @@ Sees = (words choices : ℕ) (m : PinMap) (k : Call) (n : ℕ) → SeesClaim wor
 -- no trace: two sets that came of clicks which leave the same lines are one set, whatever was pinned and lifted on the way
 abbrev pub NoTrace : Type 0
 NoTrace = (b : List ℕ) (j : Job) (n : ℕ) → parse opening b ≡ took j n → (clicks others : List Click) → clicks-after (words j) (j .choices) (no-pins (length (j .units))) clicks ≡ clicks-after (words j) (j .choices) (no-pins (length (j .units))) others → run-clicks b (open-call opening b .set) clicks .set ≡ run-clicks b (open-call opening b .set) others .set
+
+-- and of any sets, wherever they came from: two that match one job and have the same pins are one set
+abbrev pub OneSet : Type 0
+OneSet = (d : Door) (b : List ℕ) (j : Job) (n : ℕ) → parse d b ≡ took j n → (s r : PinSet) → Matches j s → Matches j r → length (s .pins) ≡ 512 → length (r .pins) ≡ 512 → lines (length (j .units)) (s .pins) ≡ lines (length (j .units)) (r .pins) → s ≡ r
 
 -- the test of refusal 6 is what the document says
 abbrev pub Checks : Type 0

@@ -2,7 +2,7 @@
 use Prim.Native.Nat.{ℕ, _<_}
 use mathlib.Core.Path.{_≡_, refl}
 use lib.ListN.{length, getD}
-use Rattle.trellis.specs.Table.{encode}
+use Rattle.trellis.specs.Table.{encode, lowest, charge, offered}
 use Rattle.model.specs.Evaluate.{evaluate}
 use Rattle.base.specs.Evaluate as base
 use Rattle.format.specs.Choices.{choice-under, choice-number}
@@ -11,14 +11,17 @@ use Rattle.format.specs.JobA.{bytes-a, bytes-a8, bytes-e}
 use Rattle.format.specs.Parser.{on-read}
 use Rattle.pinning.specs.PinSet.{lines, unpinned, fresh}
 use Rattle.pinning.specs.Check.{pin-fits, pins-fit, same-totals, fits, accept, checked}
-use Rattle.pinning.specs.Calls.{opened, open-call, refuse, take-in, with-pin, without-pin, call-tests, called, call-in, call, after, run}
+use Rattle.pinning.specs.Calls.{opened, open-call, refuse, take-in, with-pin, without-pin, call-tests, called, call-in, call, call-of, click-tests, after, run}
 use Rattle.replaying.specs.Entries.{one-entry, entry-bytes}
 use Rattle.replaying.specs.Cases.{delayed, set-after}
 use Rattle.replaying.proofs.Cases.{map-at}
 use Rattle.planning.specs.Words.{layer, layers, table-from}
 use Rattle.planning.specs.Calls as c
 use Rattle.model.specs.Best.{late, early}
-use Rattle.planning.specs.Cases.{Question, Reply, reply, questions, replies, early-replies, Cases, word-after, word-questions, words-expected, WordCases}
+use Rattle.planning.specs.Cases.{Question, Reply, reply, questions, replies, early-replies, Cases, word-after, word-questions, words-expected, WordCases, look, own-table, sights, sights-told, SeeCases}
+use Rattle.planning.specs.Rule.{coding-offer, pair-offer, least-offer, layer-from, choice-in, allowed-in, refill, refilled}
+use Rattle.planning.specs.See as see
+use Rattle.trellis.specs.Pairs.{row, rows}
 
 pub cases : Cases
 unfolding base.evaluate evaluate computes on-read choice-under choice-number same-header bytes-a bytes-a8 bytes-e lines unpinned fresh pin-fits pins-fit same-totals fits accept checked opened open-call refuse take-in with-pin without-pin call-tests called call-in call after run one-entry entry-bytes delayed set-after encode layer layers table-from c.refuse c.searched c.search-in c.plan-tests c.plan-in c.plan-call reply questions replies early-replies
@@ -32,3 +35,8 @@ case-at i h q r = (map-at (reply late) questions replies q r (cases .late-are) i
 pub word-cases : WordCases
 unfolding base.evaluate evaluate computes on-read choice-under choice-number same-header bytes-a bytes-a8 bytes-e lines unpinned fresh pin-fits pins-fit same-totals fits accept checked opened open-call refuse take-in with-pin without-pin call-tests called call-in call after run one-entry entry-bytes delayed set-after encode layer layers table-from c.refuse c.searched c.search-in c.plan-tests c.plan-in c.plan-call word-after word-questions words-expected
 word-cases = refl
+
+-- calls that see
+pub see-cases : SeeCases
+unfolding base.evaluate evaluate computes on-read choice-under choice-number same-header bytes-a lines unpinned fresh pin-fits pins-fit same-totals fits accept checked opened open-call refuse take-in with-pin without-pin call-tests called call-in call call-of click-tests after run delayed set-after encode layer layers table-from c.refuse c.searched c.search-in c.plan-tests c.plan-in c.plan-call lowest charge offered rows row coding-offer pair-offer least-offer layer-from choice-in allowed-in refill refilled see.keep see.unit-of see.renewed see.seen see.see-in see.see-call look own-table sights sights-told
+see-cases = record { told = refl; pinned = refl; lifted = refl }

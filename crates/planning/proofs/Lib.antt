@@ -9,5 +9,6 @@ pub mod Reading
 pub mod DemandThree
 pub mod Refusals
 pub mod Seeing
+pub mod Rules
 pub mod Sittings
 pub mod Cases

@@ -1,4 +1,4 @@
--- Calls that see (document 02, E9): their refusals and what they write, of any table: `SeeCalls`; what they do to the set: `SeeClicks`; how a next layer's words are read: `WordsRead`; and that the layers behind a unit do not depend on its pin.
+-- Calls that see (document 02, E9): their refusals and what they write, of any table: `SeeCalls`; what a refusal leaves: `SeeKeeps`; what they do to the set: `SeeClicks`; how a next layer's words are read: `WordsRead`; and that the layers behind a unit do not depend on its pin.
 use Prim.Native.Nat.{ℕ, zero, suc, _+_, _-_, _*_, _<_, _≤_}
 use mathlib.Core.Path.{_≡_, refl, sym, _∙_, ap}
 use mathlib.Core.Bool.{true}
@@ -12,6 +12,7 @@ use lib.Seq.{getD-set-other}
 use borrow.Author.Tests.{le-leb, lt-leb}
 use Rattle.base.specs.Answer.{refused, gives}
 use Rattle.base.specs.If.{if_then_else_}
+use Rattle.base.proofs.Answers.{not-refused}
 use Rattle.base.specs.Refusals.{Test, refusal, unless, guarded, Condition, condition}
 use Rattle.base.proofs.Refusals.{AllHold}
 use Rattle.trellis.specs.Table.{charge}
@@ -35,7 +36,7 @@ use Rattle.planning.specs.Rule.{layer-from, allowed-in, refilled}
 use Rattle.planning.specs.Passes.{charged}
 use Rattle.planning.specs.Words.{layer}
 use Rattle.planning.specs.See.{Seen, keep, unit-of, renewed, seen, see-in, see-call}
-use Rattle.planning.specs.Seeing.{pins-of, SeeClaim, refused-by, SeeCalls, SeeClicks, WordsRead}
+use Rattle.planning.specs.Seeing.{pins-of, SeeClaim, refused-by, SeeCalls, SeeClicks, SeeKeeps, WordsRead}
 use Rattle.planning.proofs.Offers.{layer-from-cong}
 use Rattle.planning.proofs.Layers.{layer-last, layer-step}
 use Rattle.planning.proofs.Refilling.{refilled-length, refilled-later, refilled-rule}
@@ -92,6 +93,25 @@ module _ (s : PinSet) (k : Call) (table : List ℕ) where
 pub see-clicks : SeeClicks
 unfolding see-call click
 see-clicks b s k table = alike-read s k table (checked opening b s)
+
+-- a refusal keeps set and table
+module _ (s : PinSet) (k : Call) (table : List ℕ) where
+  abbrev Kept : Seen → Type 0
+  Kept r = (r .set ≡ s) × (r .table ≡ table)
+
+  unless-keeps : (j : Job) (o : Option ℕ) (n : ℕ) → unless (keep s table) o (seen j (called j s k) (unit-of k) table) .answer ≡ refused n → Kept (unless (keep s table) o (seen j (called j s k) (unit-of k) table))
+  unfolding unless keep seen
+  unless-keeps j none n e = absurd (not-refused e)
+  unless-keeps j (some x) n e = (refl, refl)
+
+  read-keeps : (r : Result Job) (n : ℕ) → on-read (keep s table) r (λ j. see-in j s k table) .answer ≡ refused n → Kept (on-read (keep s table) r (λ j. see-in j s k table))
+  unfolding on-read see-in guarded
+  read-keeps (P.refused m) n e = unfold keep in (refl, refl)
+  read-keeps (took j m) n e = unless-keeps j (refusal (click-tests j s (sees k (length table)))) n e
+
+pub see-keeps : SeeKeeps
+unfolding see-call
+see-keeps b s k table n e = read-keeps s k table (checked opening b s) n e
 
 pub words-read : WordsRead
 unfolding charged charge

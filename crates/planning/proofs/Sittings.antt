@@ -1,4 +1,4 @@
--- Sittings of calls that see (document 02, E9): `Sittings`.
+-- Sittings of calls that see (document 02, E9): `Sittings`, `FreshSittings`; what planning leaves is the set's own table: `PlansOwn`; what is lent of it: `Lends`.
 use Prim.Native.Nat.{ℕ, zero, suc, _+_, _-_, _*_, _≤_}
 use mathlib.Core.Path.{_≡_, refl, sym, _∙_, ap}
 use mathlib.Core.Option.{Option, none, some}
@@ -24,14 +24,14 @@ use Rattle.pinning.specs.PinSet.{PinSet}
 use Rattle.pinning.specs.Check.{checked}
 use Rattle.pinning.specs.Calls.{refuse, take-in, called, call-of, click-tests, click-in, click, after, run-clicks}
 use Rattle.pinning.proofs.Agree.{checked-parsed, passes-matches}
-use Rattle.pinning.proofs.History.{Holds, matches-holds, click-follows, holds-checked}
+use Rattle.pinning.proofs.History.{Holds, holds-matches, matches-holds, click-follows, holds-checked, one-set-of}
 use Rattle.pinning.proofs.Refusals.{sees-decides}
 use Rattle.replaying.specs.Entries.{entry-size}
 use Rattle.planning.specs.Rule.{refilled}
 use Rattle.planning.specs.Words.{layer, layers, table-from}
 use Rattle.planning.specs.Calls.{searched, search-in, plan-call}
 use Rattle.planning.specs.See.{Seen, keep, unit-of, renewed, seen, see-in, see-call, Sight, lent, Sat, sat, sight, sit, clicks-of}
-use Rattle.planning.specs.Seeing.{pins-of, Own, SittingClaim, Sittings}
+use Rattle.planning.specs.Seeing.{pins-of, Own, SittingClaim, PlansOwn, Lends, Sittings, FreshSittings}
 use Rattle.planning.proofs.DemandThree.{plan-searches}
 use Rattle.planning.proofs.Layers.{layers-length, from-rest, from-length, from-table}
 use Rattle.planning.proofs.Refilling.{refilled-pins}
@@ -169,6 +169,24 @@ module _ (b : List ℕ) (j : Job) (n : ℕ) where
         let rest = sitting (sight b r v) q vs in
         record { at = rest .at; set-is = rest .set-is ∙ ap (λ (s : PinSet). run-clicks b s (clicks-of (length table₀) vs) .set) (sight-set r v l) }
 
+-- the table that planning leaves is the set's own
+pub plans-own : PlansOwn
+plans-own b j n s c o table entries room space r others enough =
+    let m = unlimited (pins-of j s) in
+    let e = plan-table b j n s c o table entries room space in
+    let l = from-length _+_ j m 0 table (omega arith) room in
+    rw e (plan-table b j n s c r (table-from _+_ j m 0 table) others (omega (arith, l)) enough ∙ from-again j m m table room)
+
+pub lends : Lends
+unfolding lent
+lends v table h = omega arith
+
+own-table : (b : List ℕ) (j : Job) (n : ℕ) (parsed : parse opening b ≡ took j n) (table : List ℕ) (room : words j ≤ length table) (s : PinSet) → checked opening b s ≡ took j n → Holds j (pins-of j s) s → Own b j s table → At b j n parsed table room (record { set = s; table = table })
+own-table b j n parsed table room s c h own =
+    let entries = replicate {A = ℕ} (3 * intervals j) 0 in
+    let space : 3 * intervals j ≤ length entries = omega (arith, length-replicate {A = ℕ} (3 * intervals j) 0) in
+    record { holds = h; is = sym (own late entries space) ∙ plan-table b j n s c late table entries room space }
+
 pub sittings : Sittings
 sittings b j n s c size table room own sights =
     let parsed = checked-parsed opening b s j n c in
@@ -176,12 +194,6 @@ sittings b j n s c size table room own sights =
     let begins = own-table b j n parsed table room s c (matches-holds j s k (passes-matches opening b j n parsed s c) size) own in
     claimed b j n parsed table room s sights (sitting b j n parsed table room (record { set = s; table = table }) begins sights)
   where
-    own-table : (b : List ℕ) (j : Job) (n : ℕ) (parsed : parse opening b ≡ took j n) (table : List ℕ) (room : words j ≤ length table) (s : PinSet) → checked opening b s ≡ took j n → Holds j (pins-of j s) s → Own b j s table → At b j n parsed table room (record { set = s; table = table })
-    own-table b j n parsed table room s c h own =
-        let entries = replicate {A = ℕ} (3 * intervals j) 0 in
-        let space : 3 * intervals j ≤ length entries = omega (arith, length-replicate {A = ℕ} (3 * intervals j) 0) in
-        record { holds = h; is = sym (own late entries space) ∙ plan-table b j n s c late table entries room space }
-
     claimed : (b : List ℕ) (j : Job) (n : ℕ) (parsed : parse opening b ≡ took j n) (table : List ℕ) (room : words j ≤ length table) (s : PinSet) (sights : List Sight) {q : Sat} → Sits b j n parsed table room (record { set = s; table = table }) sights q → SittingClaim b j s table sights q
     claimed b j n parsed table room s sights {q} h =
         let c = holds-checked b j n parsed (limits b j n parsed table room) _ (q .set) (h .at .holds) in
@@ -194,3 +206,14 @@ sittings b j n s c size table room own sights =
           own = λ o entries space. plan-table b j n (q .set) c o (q .table) entries (omega (arith, l)) space ∙ ap (table-from _+_ j m 0) e ∙ from-again j m m table room ∙ sym e;
           word = table-words j m 0 (q .table) (small b j n parsed table room) (rw e (from-table j m 0 table (omega arith) room)) 0 (j .start) (omega arith) (omega arith) (start-inside j (limits b j n parsed table room));
         }
+
+pub fresh-sittings : FreshSittings
+fresh-sittings b j n s c size table room own sights r d full same o entries space =
+    let parsed = checked-parsed opening b s j n c in
+    let k = limited j (well-read opening b j n parsed .well-formed) in
+    let begins = own-table b j n parsed table room s c (matches-holds j s k (passes-matches opening b j n parsed s c) size) own in
+    let q = sitting b j n parsed table room (record { set = s; table = table }) begins sights in
+    let end = sit b (record { set = s; table = table }) sights in
+    let one : r ≡ end .set = one-set-of opening b j n parsed r (end .set) (passes-matches opening b j n parsed r d) (holds-matches j k _ (end .set) (q .at .holds)) full (q .at .holds .size) same in
+    let claim = sittings b j n s c size table room own sights in
+    ap (λ (t : List ℕ). record { set = end .set; table = t }) (claim .table-is o entries space) ∙ ap (λ (u : PinSet). record { set = u; table = plan-call b u total o table entries .table }) (sym one)

@@ -1,15 +1,17 @@
 -- What is claimed of the calls that see (document 02, E9): each claim is a type, which a theorem of proofs/ inhabits.
 use Prim.Native.Nat.{ℕ, suc, _+_, _*_, _<_, _≤_}
 use mathlib.Core.Path.{_≡_}
+use mathlib.Core.Logic.{_⊎_}
 use mathlib.Core.Option.{Option, none, some}
 use mathlib.Core.List.{List, [], _∷_, _++_}
-use lib.ListN.{length, drop}
+use lib.ListN.{length, getD, drop}
 use Rattle.base.specs.Answer.{Answer, refused, gives}
 use Rattle.base.specs.Refusals.{condition}
-use Rattle.model.specs.Job.{Job, intervals}
+use Rattle.model.specs.Job.{Line, Coding, Levels, Job, intervals}
 use Rattle.model.specs.Pins.{PinMap, Call, sees}
+use Rattle.model.specs.Step.{reaches, outcome-of}
 use Rattle.model.specs.Best.{Order, unlimited, total, width}
-use Rattle.model.specs.Table.{layerWords, words, wordAt, layerOf}
+use Rattle.model.specs.Table.{layerWords, stateAt, words, wordAt, layerOf, wordIn}
 use Rattle.model.specs.Claims.{WordClaim}
 use Rattle.format.specs.Parser.{took, Looks}
 use Rattle.format.specs.JobBytes.{parse, opening}
@@ -17,10 +19,10 @@ use Rattle.pinning.specs.PinSet.{PinSet, lines}
 use Rattle.pinning.specs.Check.{checked}
 use Rattle.pinning.specs.Calls.{called, click, run-clicks}
 use Rattle.pinning.specs.Claims.{Asks}
-use Rattle.planning.specs.Rule.{layer-from, allowed-in}
+use Rattle.planning.specs.Rule.{Allowed, layer-from, allowed-in}
 use Rattle.planning.specs.Passes.{charged}
 use Rattle.planning.specs.Calls.{plan-call}
-use Rattle.planning.specs.See.{Seen, keep, unit-of, see-call, Sat, Sight, sit, clicks-of}
+use Rattle.planning.specs.See.{Seen, keep, unit-of, see-call, Sight, lent, Sat, sit, clicks-of}
 
 -- the pins of a set, as the book's lines
 abbrev pub pins-of : Job → PinSet → PinMap
@@ -60,7 +62,19 @@ SeeCalls = (b : List ℕ) (s : PinSet) (k : Call) (table : List ℕ) → Looks (
 abbrev pub SeeClicks : Type 0
 SeeClicks = (b : List ℕ) (s : PinSet) (k : Call) (table : List ℕ) → (see-call b s k table .set ≡ click b s (sees k (length table)) .set) × (refused-by (see-call b s k table .answer) ≡ click b s (sees k (length table)) .refused)
 
--- what stands in a next layer: a word over 512,000,000 counts as none, every other as a distortion
+-- a refusal, whatever its number, hands back the set as it came and leaves every word
+abbrev pub SeeKeeps : Type 0
+SeeKeeps = (b : List ℕ) (s : PinSet) (k : Call) (table : List ℕ) (n : ℕ) → see-call b s k table .answer ≡ refused n → (see-call b s k table .set ≡ s) × (see-call b s k table .table ≡ table)
+
+-- the rule, for whatever words stand in the next layer: no rate and choice come to less than a state's word, by a word of at most 512,000,000 that they lead to; and one comes to it, or it is 4,294,967,295
+pub record RuleWord (line : Line) (n : ℕ) (allowed : Allowed) (next : List ℕ) (s : Levels) (w : ℕ) : Type 0 where
+  pub no-less : (y x : ℕ) (k : Coding) (l : Levels) → y < length (line .rates) → x < n → allowed x ≡ some k → outcome-of line none none (s .decoder) (s .buckets) (getD (line .rates) y 0) (k .size) ≡ reaches l → wordIn line next l ≤ 512000000 → w ≤ k .distortion + wordIn line next l
+  pub attained : (w ≡ 4294967295) ⊎ ((y : ℕ) × (x : ℕ) × (k : Coding) × (l : Levels) × (y < length (line .rates)) × (x < n) × (allowed x ≡ some k) × (outcome-of line none none (s .decoder) (s .buckets) (getD (line .rates) y 0) (k .size) ≡ reaches l) × (wordIn line next l ≤ 512000000) × (w ≡ k .distortion + wordIn line next l))
+
+abbrev pub RuleWords : Type 0
+RuleWords = (line : Line) (n : ℕ) (allowed : Allowed) (next : List ℕ) (i : ℕ) → i < layerWords line → RuleWord line n allowed next (stateAt line i) (getD (layer-from _+_ line n allowed next) i 0)
+
+-- how code reads a word of the next layer: one over 512,000,000 counts as none, every other as a distortion
 pub record WordRead (distortion word : ℕ) : Type 0 where
   pub over : 512000000 < word → charged _+_ distortion word ≡ 4294967295
   pub up-to : word ≤ 512000000 → charged _+_ distortion word ≡ distortion + word
@@ -68,6 +82,18 @@ pub record WordRead (distortion word : ℕ) : Type 0 where
 abbrev pub WordsRead : Type 0
 WordsRead = (distortion word : ℕ) → distortion ≤ 1000000 → WordRead distortion word
 
+-- the table that planning leaves, the total named, is the set's own
+abbrev pub PlansOwn : Type 0
+PlansOwn = (b : List ℕ) (j : Job) (n : ℕ) (s : PinSet) → checked opening b s ≡ took j n → (o : Order) (table entries : List ℕ) → words j ≤ length table → 3 * intervals j ≤ length entries → Own b j s (plan-call b s total o table entries .table)
+
+-- what is held back is not lent, and all else is
+abbrev pub Lends : Type 0
+Lends = (v : Sight) (table : List ℕ) → v .held-back ≤ length table → lent v table + v .held-back ≡ length table
+
 -- every sitting, refused calls included, of any set that the job takes and a table of its own: the calls end in the table and the least total of planning with the set
 abbrev pub Sittings : Type 0
 Sittings = (b : List ℕ) (j : Job) (n : ℕ) (s : PinSet) → checked opening b s ≡ took j n → length (s .pins) ≡ 512 → (table : List ℕ) → words j ≤ length table → Own b j s table → (sights : List Sight) → SittingClaim b j s table sights (sit b (record { set = s; table = table }) sights)
+
+-- so a sitting ends in the set and the table of any set of the job with the same pins, a fresh one that was pinned so among them: planning with it, over the list as it was, leaves that table
+abbrev pub FreshSittings : Type 0
+FreshSittings = (b : List ℕ) (j : Job) (n : ℕ) (s : PinSet) → checked opening b s ≡ took j n → length (s .pins) ≡ 512 → (table : List ℕ) → words j ≤ length table → Own b j s table → (sights : List Sight) (r : PinSet) → checked opening b r ≡ took j n → length (r .pins) ≡ 512 → pins-of j r ≡ pins-of j (sit b (record { set = s; table = table }) sights .set) → (o : Order) (entries : List ℕ) → 3 * intervals j ≤ length entries → sit b (record { set = s; table = table }) sights ≡ record { set = r; table = plan-call b r total o table entries .table }
