@@ -1663,7 +1663,7 @@ fn equal_group(seed: u64, asks: bool) -> Result<String, String> {
     };
     let telling = telling_jobs(seed, &equal_jobs, |_, _| ())?;
     let text = telling.show();
-    let worthwhile = telling.plans * 2 > telling.jobs && telling.told.each(25);
+    let worthwhile = telling.plans * 2 > telling.jobs && telling.told.each(40);
     ensure!(worthwhile || !asks, "too little in it: {text}");
     Ok(text)
 }
@@ -3420,7 +3420,7 @@ fn even_large_group() -> Result<String, String> {
             let table = fast_table(&limited(job, limit), pins);
             let plans = read_off(&limited(job, limit), pins, &table);
             other += (plans != read_off(job, pins, &fast_table(job, pins))) as usize;
-            check_plan_for(Aim::Even, &mut rng, &asked, &table, &plans)
+            check_plan_for(Aim::Even, &mut Rng(1), &asked, &table, &plans)
         };
         check().map_err(|trouble| format!("{name}: {trouble}"))?;
         words += asked.job.words();
@@ -5304,7 +5304,7 @@ impl Desk {
             &asked.bytes,
             &asked.calls,
             TOTAL,
-            rng.pick(&[EARLY, LATE]),
+            order_in_turn(asked.answers.len()).number(),
             &mut vec![0; answers],
             self.table.list(),
             &mut vec![0; entries],
