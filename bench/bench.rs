@@ -15,7 +15,7 @@
 use std::hint::black_box;
 use std::time::{Duration, Instant};
 
-use upload_planner::{numbers, Aim, Call};
+use upload_planner::{numbers, Aim, Call, Order};
 
 #[allow(dead_code)]
 #[path = "../tests/reference.rs"]
@@ -358,8 +358,8 @@ fn plain_plan(
     Some(total)
 }
 
-/// The first entry that attains what is due from these levels, and the levels and
-/// distortion that it leads to.
+/// The first entry in the early order that attains what is due from these levels, and the
+/// levels and distortion that it leads to.
 fn plain_entry(
     line: &PlainLine,
     options: &[(u16, usize, u32)],
@@ -368,7 +368,7 @@ fn plain_entry(
     next: &[u32],
 ) -> Option<([u8; 3], [usize; 3], u32)> {
     let [row, width] = line.widths();
-    for (rate, &sent) in line.rates.iter().enumerate() {
+    for (rate, &sent) in line.rates.iter().enumerate().rev() {
         let Some(one) = plain_filled(l, sent, &line.outer) else { continue };
         let Some(two) = plain_filled(m, sent, &line.inner) else { continue };
         for &(choice, grains, distortion) in options {
@@ -686,12 +686,16 @@ struct Left {
 
 const PROGRAMS: usize = 3;
 
+/// What is timed is the default order.
+const ORDER: Order = Order::Early;
+
 /// The library, two passes, loops.
 fn run_plan(program: usize, job: &[u8], left: &mut Left) {
     let Left { table, entries, .. } = left;
     left.total = match program {
         0 => {
-            let planned = upload_planner::plan(job, &[], Aim::Total, &mut [], table, entries);
+            let planned =
+                upload_planner::plan(job, &[], Aim::Total, ORDER, &mut [], table, entries);
             planned.ok().map(|totals| totals.distortion)
         }
         1 => plain_plan(Filling::TwoPasses, job, &[], &mut [], table, entries),
@@ -870,7 +874,8 @@ fn two_bucket_tables(with_full: bool) {
     let room = opened[0].plan_bytes();
     let mut lent = [(vec![0; words], vec![0; room]), (vec![0; words], vec![0; room])];
     let plan = |job: &[u8], (table, entries): &mut (Vec<u32>, Vec<u8>)| {
-        upload_planner::plan(job, &[], Aim::Total, &mut [], table, entries).expect("a plan");
+        upload_planner::plan(job, &[], Aim::Total, ORDER, &mut [], table, entries)
+            .expect("a plan");
     };
     for drain in [20, 30, 40] {
         let with_two = with_two(drain);
@@ -905,8 +910,8 @@ fn call_tables() {
         let times = short_in_turn(
             || {
                 let lent = (&mut answers, &mut words, &mut entries, &mut values);
-                let aim = numbers::TOTAL;
-                black_box(numbers::plan(&job, &calls, aim, lent.0, lent.1, lent.2, lent.3));
+                let (aim, order) = (numbers::TOTAL, ORDER.number());
+                black_box(numbers::plan(&job, &calls, aim, order, lent.0, lent.1, lent.2, lent.3));
             },
             || {
                 let lent = (&mut spare.0, &mut spare.1, &mut spare.2);
@@ -1055,7 +1060,8 @@ fn many_choice_tables() {
             for (job, best) in jobs.iter().zip(&mut least) {
                 let lent = (&mut table, &mut entries);
                 let start = Instant::now();
-                let planned = upload_planner::plan(job, &[], Aim::Total, &mut [], lent.0, lent.1);
+                let planned =
+                    upload_planner::plan(job, &[], Aim::Total, ORDER, &mut [], lent.0, lent.1);
                 *best = best.min(start.elapsed().as_secs_f64());
                 planned.expect("a plan");
             }
@@ -1125,7 +1131,8 @@ fn time_aims(job: &[u8]) -> [f64; 2] {
     };
     let plan = |aim: Aim, left: &mut Left| {
         let Left { table, entries, total } = left;
-        let planned = upload_planner::plan(black_box(job), &[], aim, &mut [], table, entries);
+        let job = black_box(job);
+        let planned = upload_planner::plan(job, &[], aim, ORDER, &mut [], table, entries);
         *total = planned.ok().map(|totals| totals.distortion);
     };
     let (mut total, mut even) = (fresh(), fresh());
@@ -1221,7 +1228,7 @@ impl Sitting<'_> {
     fn planned(&mut self) -> u64 {
         let Sitting { job, set, table, entries } = self;
         let mut values = [0; numbers::PLAN_VALUES_MOST];
-        let (aim, order) = (numbers::TOTAL, numbers::LATE);
+        let (aim, order) = (numbers::TOTAL, ORDER.number());
         let answer = numbers::plan_set(job, set, aim, order, table, entries, &mut values);
         assert!(answer == 0, "no plan");
         values[0]

@@ -1,6 +1,7 @@
 /* Plans Job A four times and prints each plan: without pins, with unit 1 pinned
    at choice 1, with that pin lifted again, and with both units pinned at choice
-   0, for which there is no plan. Then plans it for a line with two buckets.
+   0, for which there is no plan. Then plans it for a line with two buckets. Of
+   several best plans each is the one that sends early, as `plan` prints it.
 
        gcc -Wall -Wextra -Iinclude examples/plan.c libupload.a
 
@@ -89,8 +90,9 @@ static uint32_t plan(const uint8_t *job, size_t job_len, const uint16_t *calls, 
         exit(1);
     }
 
-    refusal = upload_plan(job, job_len, calls, calls_len, UPLOAD_TOTAL, answers, calls_len / 3,
-                          table, words, entries, ENTRY * intervals, totals, 3 + buckets);
+    refusal = upload_plan(job, job_len, calls, calls_len, UPLOAD_TOTAL, UPLOAD_EARLY,
+                          answers, calls_len / 3, table, words, entries, ENTRY * intervals,
+                          totals, 3 + buckets);
     if (refusal == UPLOAD_OK)
         refusal = upload_replay(job, job_len, calls, calls_len, entries, ENTRY * intervals,
                                 levels, each * intervals, replayed, 5 + buckets);

@@ -275,9 +275,9 @@ uint32_t upload_calls(const uint8_t *job, size_t job_len,
 
    Refusals in order: 1 to 5 for the job, with 17 directly after 3; 2 for another
    aim, then for another order; 2 for a call of another kind, then 1 where the
-   last call is cut; 11; 12 where `answers`, `entries` or `values` is too short; 13, which leaves `table`
-   written, and `answers`, `entries` and `values` as they were; upload_calls says
-   what the calls met with. */
+   last call is cut; 11; 12 where `answers`, `entries` or `values` is too short;
+   13, which leaves `table` written, and `answers`, `entries` and `values` as they
+   were; upload_calls says what the calls met with. */
 uint32_t upload_plan(const uint8_t *job, size_t job_len,
                      const uint16_t *calls, size_t calls_len,
                      uint32_t aim, uint32_t order,

@@ -17,7 +17,8 @@
 //! The answer has three parts, each written straight from the product's paper:
 //! a reader that gives the first refusal due, an enumeration of every plan
 //! (small jobs), and a dynamic program that carries whole paths forward (the
-//! jobs too large to enumerate). The two searches check each other. Cases
+//! jobs too large to enumerate). Of several best plans it is the one that sends early,
+//! which `plan` prints. The two searches check each other, in either order. Cases
 //! written by hand also carry the number or the text that the paper calls for, so
 //! that a slip in the reader here, or in the decoder's limits and the buckets'
 //! step that both searches share, is seen too. Of every plan printed the balance
@@ -39,12 +40,15 @@ use reference::*;
 // The whole text due for an input.
 // ---------------------------------------------------------------------------
 
+/// The order by which `plan` prints.
+const PRINTED: Order = Order::Early;
+
 fn planned_text(input: &[u8]) -> Result<String, Refusal> {
     let (job, pins) = read_input(input)?;
     if job.words() > WORKSPACE_WORDS {
         return Err(11);
     }
-    let plan = best_plan(&job, &pins).ok_or(13)?;
+    let plan = best_plan(PRINTED, &job, &pins).ok_or(13)?;
     Ok(print_plan(&job, &pins, &plan))
 }
 
@@ -176,15 +180,16 @@ fn random_group(
     }
 }
 
-/// Jobs of three sizes that tell a rule from mistaken ones.
+/// Jobs of three sizes that tell a rule from mistaken ones, from each of them in one job
+/// of `rarest` or more often.
 fn telling_groups(
     name: &str,
-    mistakes: [Mistakes; 3],
+    (mistakes, rarest): ([Mistakes; 3], usize),
     seed: Seed,
     shapes: &[Shape; 3],
     make: fn(&mut Rng, &Shape) -> Draft,
 ) -> [Group; 3] {
-    let asked = if matches!(seed, Fixed(_)) { 5 } else { 0 };
+    let asked = if matches!(seed, Fixed(_)) { rarest } else { 0 };
     let sizes = [("jobs", 1000, 2), ("medium jobs", 250, 2), ("long jobs", 40, 3)];
     std::array::from_fn(|size| {
         let (kind, count, plan_in) = sizes[size];
@@ -209,8 +214,9 @@ fn random_groups(new_seed: u64) -> Vec<Group> {
     }
     for seed in [Fixed(5), New(new_seed)] {
         let make = random_tight_job;
-        groups.extend(telling_groups("tight", [decoder_mistakes; 3], seed, &TIGHT, make));
-        groups.extend(telling_groups("idle", [unused_mistakes; 3], seed, &IDLE, make));
+        let mistakes: [Mistakes; 3] = [tight_mistakes, decoder_mistakes, decoder_mistakes];
+        groups.extend(telling_groups("tight", (mistakes, 5), seed, &TIGHT, make));
+        groups.extend(telling_groups("idle", ([unused_mistakes; 3], 5), seed, &IDLE, make));
     }
     for seed in [Fixed(6), Fixed(7), New(new_seed)] {
         let make = |rng: &mut Rng| random_tiny_double(rng).bytes();
@@ -224,10 +230,15 @@ fn random_groups(new_seed: u64) -> Vec<Group> {
         let make = scrambled_double;
         groups.push(random_group("scrambled bytes of two buckets", seed, 1000, 40, make));
         let make = random_double_job;
-        groups.extend(telling_groups("two-bucket", DOUBLE_MISTAKES, seed, &DOUBLE, make));
+        groups.extend(telling_groups("two-bucket", (DOUBLE_MISTAKES, 6), seed, &DOUBLE, make));
     }
     for seed in [Fixed(9), New(new_seed)] {
         groups.extend(many_groups(seed));
+    }
+    for seed in [Fixed(10), New(new_seed)] {
+        let make = random_equal_job;
+        let mistakes: [Mistakes; 3] = [tie_mistakes, order_mistakes, order_mistakes];
+        groups.extend(telling_groups("equal", (mistakes, 25), seed, &EQUAL, make));
     }
     groups
 }
@@ -248,14 +259,14 @@ fn many_groups(seed: Seed) -> Vec<Group> {
 
 /// The cases the paper writes out for Job A. Its decoder of 4 never holds the 5
 /// grains of unit 2's choice 0, so unit 2 has choice 1; the best plan has unit 1
-/// at 0 anyway, and only a pin at 1 changes it. Both plans send nothing in interval
-/// 1, and its drain of 2 goes by; later they send 2 or more.
+/// at 0 anyway, and only a pin at 1 changes it. Both plans fill the decoder in interval
+/// 1, so that interval 2 sends nothing; then unit 1 has left it 0 grains or 2, and 4 or 2
+/// fill it again. The bucket has 2 when interval 2 drains it, and no drain goes by.
 fn job_a_group() -> Group {
-    let best = "plan 2 3 80\n1 0 - 0 0\n2 4 0 0 2\n3 2 1 0 2\ntotal 50 6 6 2\n";
-    let coarse = "plan 2 3 80\n1 0 - 0 0\n2 2 1 0 0\n3 2 1 0 0\ntotal 70 4 4 2\n";
-    // A drain of 1: 4 and then 2 grains would leave 3, then 4; 2 each time leave 1, 2
-    // and 3.
-    let slow = "plan 2 3 80\n1 2 - 2 1\n2 2 0 0 2\n3 2 1 0 3\ntotal 50 6 6 0\n";
+    let best = "plan 2 3 80\n1 4 - 4 2\n2 0 0 0 0\n3 4 1 2 2\ntotal 50 6 8 0\n";
+    let coarse = "plan 2 3 80\n1 4 - 4 2\n2 0 1 2 0\n3 2 1 2 0\ntotal 70 4 6 0\n";
+    // A drain of 1: 4 grains leave 3, then 2, and 4 more would leave 5; 2 leave 3.
+    let slow = "plan 2 3 80\n1 4 - 4 3\n2 0 0 0 2\n3 2 1 0 3\ntotal 50 6 6 0\n";
     let a = job_a();
     let of = |commands: &[Command]| a.commanded(commands).bytes();
     group(
@@ -285,17 +296,19 @@ fn both_lines() -> [(&'static str, Draft); 2] {
 /// Job A with a second bucket, worked out by hand.
 fn second_group() -> Group {
     // No rate is over 4, so a drain of 4 leaves the second bucket empty.
-    let idle = "plan 2 3 5120\n1 0 - 0 0 0\n2 4 0 0 2 0\n3 2 1 0 2 0\ntotal 50 6 6 2 6\n";
-    // A rate of 4 leaves 2 in a bucket of 1. Unit 1 has its 4 grains by 2 and 2.
+    let idle = "plan 2 3 5120\n1 4 - 4 2 0\n2 0 0 0 0 0\n3 4 1 2 2 0\ntotal 50 6 8 0 4\n";
+    // A rate of 4 leaves 2 in a bucket of 1. Unit 1 has its 4 grains by 2 and 2. At
+    // choice 1 it leaves 2 in the decoder, to which 2 are sent again.
     let small = "plan 2 3 160\n1 2 - 2 0 0\n2 2 0 0 0 0\n3 2 1 0 0 0\ntotal 50 6 6 0 0\n";
-    let coarse = "plan 2 3 160\n1 0 - 0 0 0\n2 2 1 0 0 0\n3 2 1 0 0 0\ntotal 70 4 4 2 2\n";
-    // A drain of 1: 4 and then 2 grains would leave 3, then 4; 2 each time leave 1,
-    // 2 and 3. From a level of 1 the last of these would be 4, and unit 1 has
-    // choice 1. From 3 no interval sends before the second, and the third does not.
-    let slow = "plan 2 3 320\n1 2 - 2 0 1\n2 2 0 0 0 2\n3 2 1 0 0 3\ntotal 50 6 6 0 0\n";
-    let slower = "plan 2 3 320\n1 0 - 0 0 0\n2 2 1 0 0 1\n3 2 1 0 0 2\ntotal 70 4 4 2 0\n";
+    let coarse = "plan 2 3 160\n1 2 - 2 0 0\n2 2 1 2 0 0\n3 2 1 2 0 0\ntotal 70 4 6 0 0\n";
+    // A drain of 1: 4 grains leave 3, then 2, and 2 more leave 3. From a level of 1 six
+    // grains would leave 4, and unit 1 has choice 1: 4 at once would leave 4; 2 and 2
+    // leave 2 and 3, and no more are sent. From 3 no interval sends before the second,
+    // and the third does not.
+    let slow = "plan 2 3 320\n1 4 - 4 2 3\n2 0 0 0 0 2\n3 2 1 0 0 3\ntotal 50 6 6 0 0\n";
+    let slower = "plan 2 3 320\n1 2 - 2 0 2\n2 2 1 2 0 3\n3 0 1 0 0 2\ntotal 70 4 4 2 0\n";
     // The first bucket drains all, the second is Job A's own.
-    let moved = "plan 2 3 800\n1 0 - 0 0 0\n2 4 0 0 0 2\n3 2 1 0 0 2\ntotal 50 6 6 6 2\n";
+    let moved = "plan 2 3 800\n1 4 - 4 0 2\n2 0 0 0 0 0\n3 4 1 2 0 2\ntotal 50 6 8 4 0\n";
     let a = job_a();
     let of = |second| a.doubled(second);
     let large = a.with(BUCKET, 9).with(DRAIN, 4);
@@ -1015,8 +1028,8 @@ fn sizes_of_choices() -> Vec<Case> {
     let one = [unit.clone()];
     let two = [unit.clone(), unit];
     let rows: [(&str, Draft, ByHand); 8] = [
-        // The first of the two that have 20; with one grain there is but one; from a
-        // level of 2 no grain need be sent.
+        // The first of the two that have 20; with one grain there is but one, and two are
+        // sent where they can be; from a level of 2 no grain can.
         (
             "two grains come",
             of([0, 2, 0, 9, 0, 0], &[2], &one),
@@ -1030,7 +1043,7 @@ fn sizes_of_choices() -> Vec<Case> {
         (
             "one or two grains come",
             of([0, 2, 0, 9, 0, 0], &[1, 2], &one),
-            Text("plan 1 1 6\n1 1 999 0 0\ntotal 20 1 1 8\n"),
+            Text("plan 1 1 6\n1 2 511 0 0\ntotal 20 2 2 7\n"),
         ),
         (
             "from a level of 2",
@@ -1040,7 +1053,7 @@ fn sizes_of_choices() -> Vec<Case> {
         (
             "256 pinned",
             of([0, 2, 0, 9, 0, 0], &[0, 1, 2], &one).commanded(&[Pin(1, 256)]),
-            Text("plan 1 1 6\n1 1 256 0 0\ntotal 22 1 1 8\n"),
+            Text("plan 1 1 6\n1 2 256 1 0\ntotal 22 1 2 7\n"),
         ),
         (
             "998 pinned",
@@ -1072,7 +1085,7 @@ fn sizes_of_choices() -> Vec<Case> {
 /// and what is due by hand; the bucket drains all, and of 4,095 in each interval
 /// all but what is sent goes by.
 fn peaks_group() -> Group {
-    let rows: [([u16; 3], &[u16], &[u16], ByHand); 26] = [
+    let rows: [([u16; 3], &[u16], &[u16], ByHand); 30] = [
         // The peak is the size, and something or nothing is left.
         ([0, 4, 1], &[3], &[3], Text("plan 1 1 10\n1 3 0 1 0\ntotal 7 3 3 4092\n")),
         ([0, 4, 1], &[3], &[4], Text("plan 1 1 10\n1 3 0 0 0\ntotal 7 4 3 4092\n")),
@@ -1098,7 +1111,7 @@ fn peaks_group() -> Group {
         // No unit leaves during the delay, and the level is the peak.
         ([1, 4, 1], &[3], &[3], Refused(13)),
         ([1, 4, 0], &[4, 5], &[4], Refused(13)),
-        ([1, 4, 0], &[0, 4], &[4], Text("plan 1 2 15\n1 0 - 0 0\n2 4 0 0 0\ntotal 7 4 4 8186\n")),
+        ([1, 4, 0], &[0, 4], &[4], Text("plan 1 2 15\n1 4 - 4 0\n2 0 0 0 0\ntotal 7 4 4 8186\n")),
         ([1, 4, 4], &[0, 1], &[4], Text("plan 1 2 15\n1 0 - 4 0\n2 0 0 0 0\ntotal 7 4 0 8190\n")),
         (
             [2, 6, 0],
@@ -1107,6 +1120,11 @@ fn peaks_group() -> Group {
             Text("plan 1 3 28\n1 2 - 2 0\n2 2 - 4 0\n3 2 0 3 0\ntotal 7 3 6 12279\n"),
         ),
         ([2, 5, 0], &[2], &[3], Refused(13)),
+        // The largest rate that fills it, though more would leave no more than the size.
+        ([0, 4, 0], &[0, 1, 2, 3, 4, 5, 6], &[2], Text("plan 1 1 10\n1 4 0 2 0\ntotal 7 2 4 4091\n")),
+        ([0, 4, 1], &[0, 1, 2, 4, 5], &[3], Text("plan 1 1 10\n1 2 0 0 0\ntotal 7 3 2 4093\n")),
+        ([0, 4, 3], &[0, 1, 2, 3, 4], &[3], Text("plan 1 1 10\n1 1 0 1 0\ntotal 7 3 1 4094\n")),
+        ([0, 4, 4], &[0, 1, 2, 3, 4], &[4], Text("plan 1 1 10\n1 0 0 0 0\ntotal 7 4 0 4095\n")),
         // The ends of the decoder's range.
         ([0, 0, 0], &[0], &[0], Text("plan 1 1 2\n1 0 0 0 0\ntotal 7 0 0 4095\n")),
         ([0, 0, 0], &[1], &[1], Refused(13)),
@@ -1128,7 +1146,7 @@ fn unused_group() -> Group {
         let by_hand = if draft.never_drains() { Refused(17) } else { Unused(sums) };
         case(label, draft.bytes(), by_hand)
     };
-    group("unused drain", unused_by_hand().into_iter().map(case).collect())
+    group("unused drain", unused_by_hand(PRINTED).into_iter().map(case).collect())
 }
 
 /// A drain of 0 in either bucket or both: 17 comes directly after 3, before the next
@@ -1478,21 +1496,23 @@ fn told_apart(mistakes: Mistakes, cases: &[Case]) -> Told {
     let mut told = Told::default();
     for case in cases {
         if let Ok((job, pins)) = read_input(&case.input) {
-            told.count(mistakes, &job, &pins, dynamic(&job, &pins).as_ref());
+            told.count_in(PRINTED, mistakes, &job, &pins, &dynamic(PRINTED, &job, &pins));
         }
     }
     told
 }
 
-/// The dynamic program against the enumeration, on tiny jobs and tight ones, of one
-/// bucket and of two, and on units of many choices. It also asks that the jobs be worth something: plans, jobs
-/// without one, and many ties.
+/// The dynamic program against the enumeration in both orders, on tiny jobs and tight
+/// ones, of one bucket and of two, on units of many choices, and on jobs full of ties. It
+/// also asks that the jobs be worth something: plans, jobs without one, many ties, and many
+/// plans that are other ones early than late.
 fn searches_agree(new_seed: u64) -> bool {
-    let (mut jobs, mut plans, mut ties) = (0, 0, 0);
+    let (mut jobs, mut plans, mut ties, mut others) = (0, 0, 0, 0);
     for seed in [1, 2, 3, new_seed] {
         let mut rng = Rng(seed);
-        for index in 1..=4100 {
+        for index in 1..=4600 {
             let draft = match index {
+                4101.. => random_equal_job(&mut rng, &EQUAL[0]),
                 1..=1500 => random_job(&mut rng, &TINY),
                 1501..=2000 => random_tight_job(&mut rng, &TIGHT[0]),
                 2001..=3500 => random_tiny_double(&mut rng),
@@ -1504,7 +1524,7 @@ fn searches_agree(new_seed: u64) -> bool {
                 continue;
             };
             let all = enumerate(&job, &pins);
-            if all.best != dynamic(&job, &pins) {
+            if all.best != dynamics(&job, &pins) {
                 println!(
                     "FAILED enumeration and dynamic program: job {index}, seed {seed}: {}",
                     hex(&input)
@@ -1512,12 +1532,17 @@ fn searches_agree(new_seed: u64) -> bool {
                 return false;
             }
             jobs += 1;
-            plans += all.best.is_some() as usize;
+            plans += all.best[0].is_some() as usize;
             ties += (all.equals > 1) as usize;
+            others += (all.best[0] != all.best[1]) as usize;
         }
     }
-    let counts = format!("{jobs} jobs, {plans} with a plan, {ties} with several equal ones");
-    let worthwhile = plans * 3 > jobs && plans * 10 < jobs * 9 && ties * 4 > plans;
+    let counts = format!(
+        "{jobs} jobs, {plans} with a plan, {ties} with several equal ones, {others} with \
+         another early than late"
+    );
+    let worthwhile =
+        plans * 3 > jobs && plans * 10 < jobs * 9 && ties * 4 > plans && others * 4 > plans;
     println!(
         "{} enumeration and dynamic program agree: {counts}",
         if worthwhile { "ok" } else { "FAILED" }
@@ -1555,7 +1580,7 @@ fn lines_agree(new_seed: u64) -> bool {
 /// The best plan with the levels of each interval and the totals.
 fn followed(draft: &Draft) -> Option<(Plan, Vec<i64>, Totals)> {
     let (job, pins) = read_input(&draft.bytes()).ok()?;
-    let plan = dynamic(&job, &pins)?;
+    let plan = dynamic(PRINTED, &job, &pins)?;
     let (levels, totals) = followed_by(&RULES, &job, &pins, &plan)?;
     Some((plan, levels, totals))
 }

@@ -476,50 +476,26 @@ fn send_last(best: &mut [u32], from: &[u32], rise: i64) {
     }
 }
 
-/// The first plan in order whose every entry attains the table's word.
-fn read_off(job: &Job, pins: &Pins, table: &[u32]) -> Option<Plan> {
-    read_off_in(Order::Late, job, pins, table)
+/// In each order the first plan whose every entry attains the table's word.
+fn read_off(job: &Job, pins: &Pins, table: &[u32]) -> Plans {
+    ORDERS.map(|order| read_off_in(order, job, pins, table))
 }
 
-fn read_off_in(order: Order, job: &Job, pins: &Pins, table: &[u32]) -> Option<Plan> {
-    let word = |t: usize, decoder: i64, levels: &Levels| table[job.word(t, decoder, levels)];
-    let mut rates: Vec<(usize, i64)> = job.rates.iter().copied().enumerate().collect();
-    rates.sort_by_key(|&(rate, _)| order.place(job, rate));
-    let (mut decoder, mut levels) = (job.start_decoder, job.start_levels());
-    if word(0, decoder, &levels) == NEVER {
-        return None;
-    }
-    let mut plan = Vec::new();
-    for t in 1..=job.intervals() {
-        let due = word(t - 1, decoder, &levels);
-        let mut taken = None;
-        for &(rate, sent) in &rates {
-            for (choice, grains, distortion) in options(job, pins, t) {
-                let Some(level) = by_peak(job, decoder, sent, grains) else { continue };
-                let Some(after) = filled(job, &levels, sent) else { continue };
-                let rest = word(t, level, &after);
-                if taken.is_none() && rest != NEVER && distortion as u32 + rest == due {
-                    taken = Some(((rate, choice), level, after));
-                }
-            }
-        }
-        let (entry, level, after) = taken.expect("an entry that attains the word");
-        plan.push(entry);
-        (decoder, levels) = (level, after);
-    }
-    Some(plan)
+/// A plan that is due in both orders.
+fn both(plan: Plan) -> Plans {
+    [Some(plan.clone()), Some(plan)]
 }
 
 // ---------------------------------------------------------------------------
 // Planning.
 // ---------------------------------------------------------------------------
 
-/// Lends lists of just enough or somewhat more and compares all of them; before
-/// that, where the table is not large, with one of the lists one short. The calls
+/// In each order lends lists of just enough or somewhat more and compares all of them;
+/// before that, where the table is not large, with one of the lists one short. The calls
 /// alone meet with the same, and a plan that was found replays under them.
-fn check_plan(rng: &mut Rng, asked: &Asked, table: &[u32], plan: &Option<Plan>) -> Checked {
+fn check_plan(rng: &mut Rng, asked: &Asked, table: &[u32], plans: &Plans) -> Checked {
     check_calls(rng, asked)?;
-    check_plan_for(Aim::Total, rng, asked, table, plan)
+    check_plan_for(Aim::Total, rng, asked, table, plans)
 }
 
 fn check_plan_for(
@@ -527,21 +503,37 @@ fn check_plan_for(
     rng: &mut Rng,
     asked: &Asked,
     table: &[u32],
+    plans: &Plans,
+) -> Checked {
+    for order in ORDERS {
+        check_plan_in(aim, order, rng, asked, table, plan_in(order, plans))
+            .map_err(|trouble| format!("{order:?}: {trouble}"))?;
+    }
+    Ok(())
+}
+
+fn check_plan_in(
+    aim: Aim,
+    order: Order,
+    rng: &mut Rng,
+    asked: &Asked,
+    table: &[u32],
     plan: &Option<Plan>,
 ) -> Checked {
+    let (aim, order) = (aim.number(), order.number());
     let needs = asked.needs();
     same("words", table.len(), needs[1])?;
     let which = rng.from(0, 3);
     if let (Some(lengths), true) = (one_short(needs, which), table.len() < 5000) {
         let mut lent = PlanLists::new(rng, lengths);
         let due = if which == 1 { 11 } else { 12 };
-        let found = lent.plan_for(aim.number(), &asked.bytes, &asked.calls);
+        let found = lent.plan_for(aim, order, &asked.bytes, &asked.calls);
         same("plan, a list one short", due, found)?;
         lent.kept()?;
     }
     let lengths = needs.map(|need| need + slack(rng));
     let mut lent = PlanLists::new(rng, lengths);
-    let number = lent.plan_for(aim.number(), &asked.bytes, &asked.calls);
+    let number = lent.plan_for(aim, order, &asked.bytes, &asked.calls);
     lent.table.wrote("table", table)?;
     let Some(plan) = plan else {
         same("plan", 13, number)?;
@@ -574,15 +566,16 @@ impl PlanLists {
     }
 
     /// For the least total.
-    fn plan(&mut self, job: &[u8], calls: &[u16]) -> u32 {
-        self.plan_for(TOTAL, job, calls)
+    fn plan(&mut self, order: Order, job: &[u8], calls: &[u16]) -> u32 {
+        self.plan_for(TOTAL, order.number(), job, calls)
     }
 
-    fn plan_for(&mut self, aim: u32, job: &[u8], calls: &[u16]) -> u32 {
+    fn plan_for(&mut self, aim: u32, order: u32, job: &[u8], calls: &[u16]) -> u32 {
         numbers::plan(
             job,
             calls,
             aim,
+            order,
             self.answers.list(),
             self.table.list(),
             self.entries.list(),
@@ -659,13 +652,27 @@ fn check_unopened(rng: &mut Rng, door: Door, bytes: &[u8], number: u32, length: 
     same("typed open", Some(number), found)
 }
 
-/// The typed functions give what the numbers give.
-fn check_typed(asked: &Asked, table: &[u32], plan: &Option<Plan>) -> Checked {
-    check_typed_for(upload_planner::Aim::default(), asked, table, plan)
+/// The typed functions give what the numbers give, in each order.
+fn check_typed(asked: &Asked, table: &[u32], plans: &Plans) -> Checked {
+    check_typed_for(upload_planner::Aim::default(), asked, table, plans)
 }
 
 fn check_typed_for(
     aim: upload_planner::Aim,
+    asked: &Asked,
+    table: &[u32],
+    plans: &Plans,
+) -> Checked {
+    for order in ORDERS {
+        check_typed_in(aim, typed_order(order), asked, table, plan_in(order, plans))
+            .map_err(|trouble| format!("{order:?}: {trouble}"))?;
+    }
+    Ok(())
+}
+
+fn check_typed_in(
+    aim: upload_planner::Aim,
+    order: upload_planner::Order,
     asked: &Asked,
     table: &[u32],
     plan: &Option<Plan>,
@@ -676,8 +683,8 @@ fn check_typed_for(
     let mut words = vec![0; opened.table_words];
     let mut entries = vec![0; ENTRY_BYTES * opened.intervals];
     let lent = (&mut answers, &mut words, &mut entries);
-    let found = upload_planner::plan(&asked.bytes, &calls, aim, lent.0, lent.1, lent.2);
-    let owned = upload_planner::best_plan(&asked.bytes, &calls, aim);
+    let found = upload_planner::plan(&asked.bytes, &calls, aim, order, lent.0, lent.1, lent.2);
+    let owned = upload_planner::best_plan(&asked.bytes, &calls, aim, order);
     ensure!(words == table, "the typed table is another");
     let Some(plan) = plan else {
         same("typed plan", Err(13), found.map_err(|refusal| refusal.number()))?;
@@ -730,13 +737,13 @@ fn tiny_jobs(seed: u64, asks: bool, make: impl Fn(&mut Rng) -> Draft) -> Result<
         let check = |rng: &mut Rng| -> Checked {
             same("fast table", &table, &fast_table(&asked.job, &asked.pins))?;
             same("plan read off", &all.best, &read_off(&asked.job, &asked.pins, &table))?;
-            same("dynamic program", &all.best, &dynamic(&asked.job, &asked.pins))?;
+            same("dynamic program", &all.best, &dynamics(&asked.job, &asked.pins))?;
             check_open(rng, &asked)?;
             check_plan(rng, &asked, &table, &all.best)?;
             check_typed(&asked, &table, &all.best)
         };
         check(&mut rng).map_err(|trouble| failed(seed, index, &trouble, &asked))?;
-        plans += all.best.is_some() as usize;
+        plans += all.best[0].is_some() as usize;
         ties += (all.equals > 1) as usize;
         refused += asked.answers.iter().filter(|answer| **answer != 0).count();
         words += table.len();
@@ -777,14 +784,14 @@ fn larger_jobs(
         let draft = if index <= medium { make_medium(&mut rng) } else { make_long(&mut rng) };
         let asked = Asked::new(&mut rng, &draft);
         let table = fast_table(&asked.job, &asked.pins);
-        let plan = dynamic(&asked.job, &asked.pins);
+        let due = dynamics(&asked.job, &asked.pins);
         let check = |rng: &mut Rng| -> Checked {
-            same("plan read off", &plan, &read_off(&asked.job, &asked.pins, &table))?;
+            same("plan read off", &due, &read_off(&asked.job, &asked.pins, &table))?;
             check_open(rng, &asked)?;
-            check_plan(rng, &asked, &table, &plan)
+            check_plan(rng, &asked, &table, &due)
         };
         check(&mut rng).map_err(|trouble| failed(seed, index, &trouble, &asked))?;
-        plans += plan.is_some() as usize;
+        plans += due[0].is_some() as usize;
         words += table.len();
     }
     let counts = format!("{} jobs, {plans} with a plan, {words} words", medium + long);
@@ -1299,7 +1306,7 @@ fn peaks_group() -> Result<String, String> {
     let unit = vec![(2, 5), (1, 8), (3, 1), (4, 0)];
     let draft = Draft::new([0, 2, 0, 9, 0, 0], &[0, 2], &[unit]);
     let asked = Asked::new(&mut rng, &draft);
-    check_plan(&mut rng, &asked, &[5, 8, 5, 0, 0, 0], &Some(vec![(1, 0)]))?;
+    check_plan(&mut rng, &asked, &[5, 8, 5, 0, 0, 0], &both(vec![(1, 0)]))?;
     for (start, plan, due) in [
         (0, (1, 0), [0, 0, 5, 2, 2, 7]),
         (0, (1, 1), [0, 0, 8, 1, 2, 7]),
@@ -1327,7 +1334,7 @@ fn peaks_group() -> Result<String, String> {
     let (table, plan) = (fast_table(&asked.job, &asked.pins), vec![(0, 0); 512]);
     let due = Some(vec![512_000_000, 130_560, 130_560, 0]);
     same("512 full units", due, totals_of(&asked, &plan))?;
-    check_plan(&mut rng, &asked, &table, &Some(plan))?;
+    check_plan(&mut rng, &asked, &table, &both(plan))?;
     Ok("by hand".to_string())
 }
 
@@ -1442,9 +1449,14 @@ const TIGHT_JOBS: TellingJobs = TellingJobs {
     shapes: &TIGHT,
     jobs: [600, 120, 20],
     make: random_tight_job,
-    mistakes: [&[decoder_mistakes]; 3],
+    mistakes: [&[decoder_mistakes, level_mistakes]; 3],
     bold: 0,
 };
+
+/// That of a program that reads the plan off the right table by the decoder's former rule.
+fn level_mistakes(order: Order, job: &Job, pins: &Pins, plan: Option<&Plan>) -> Vec<Mistake> {
+    former_mistakes(order, job, pins, plan, &fast_table(job, pins))
+}
 
 /// What came of them.
 struct Telling {
@@ -1485,15 +1497,15 @@ fn telling_jobs(
         let shape = (index > counts[0]) as usize + (index > counts[0] + counts[1]) as usize;
         let draft = (of.make)(&mut rng, &of.shapes[shape]);
         let asked = Asked::new(&mut rng, &draft);
-        let plan = dynamic(&asked.job, &asked.pins);
+        let due = dynamics(&asked.job, &asked.pins);
         let mut check = || -> Checked {
             let table = fast_table(&asked.job, &asked.pins);
             if shape == 0 {
                 same("fast table", &brute_table(&asked.job, &asked.pins), &table)?;
-                same("plan of all", &enumerate(&asked.job, &asked.pins).best, &plan)?;
+                same("plan of all", &enumerate(&asked.job, &asked.pins).best, &due)?;
             }
-            same("plan read off", &plan, &read_off(&asked.job, &asked.pins, &table))?;
-            check_plan(&mut rng, &asked, &table, &plan)?;
+            same("plan read off", &due, &read_off(&asked.job, &asked.pins, &table))?;
+            check_plan(&mut rng, &asked, &table, &due)?;
             for _ in 0..PLANS_A_JOB {
                 let tight = tight_plan(&mut rng, &asked.job, &asked.pins, of.bold);
                 check_replay(&mut rng, &asked, &tight)
@@ -1503,9 +1515,9 @@ fn telling_jobs(
             Ok(())
         };
         check().map_err(|trouble| failed(seed, index, &trouble, &asked))?;
-        plans += plan.is_some() as usize;
+        plans += due[0].is_some() as usize;
         for &mistakes in of.mistakes[shape] {
-            told.count(mistakes, &asked.job, &asked.pins, plan.as_ref());
+            told.count(mistakes, &asked.job, &asked.pins, &due);
         }
     }
     Ok(Telling { jobs, plans, told })
@@ -1580,24 +1592,41 @@ fn tight_plan(rng: &mut Rng, job: &Job, pins: &Pins, bold: usize) -> Plan {
 /// What goes by unused, by hand: what planning and replay answer.
 fn unused_group() -> Result<String, String> {
     let mut rng = Rng(1);
-    let rows = unused_by_hand();
-    for (what, draft, unused) in &rows {
-        let asked = Asked::new(&mut rng, draft);
-        let table = fast_table(&asked.job, &asked.pins);
-        let plan = read_off(&asked.job, &asked.pins, &table);
-        // Every unit has a distortion of 1, and takes what its interval sends.
-        let sent: u64 = draft.units.iter().map(|unit| unit[0].0 as u64).sum();
-        let mut due = vec![asked.job.units.len() as u64, sent, sent];
-        due.extend(unused.iter().map(|sum| *sum as u64));
-        let found = plan.as_ref().and_then(|plan| totals_of(&asked, plan));
-        same(what, Some(due), found)?;
-        let checked = match &plan {
-            Some(plan) if asked.job.never_drains() => check_never(&mut rng, &asked, plan),
-            _ => check_plan(&mut rng, &asked, &table, &plan),
-        };
-        checked.map_err(|trouble| format!("{what}: {trouble}"))?;
+    let mut jobs = 0;
+    for order in ORDERS {
+        for (what, draft, unused) in unused_by_hand(order) {
+            let never = draft.never_drains();
+            if order == Order::Early && never {
+                continue;
+            }
+            check_unused(&mut rng, order, &draft, &unused)
+                .map_err(|trouble| format!("{order:?}, {what}: {trouble}"))?;
+            jobs += 1;
+        }
     }
-    Ok(format!("{} jobs by hand", rows.len()))
+    Ok(format!("{jobs} jobs by hand"))
+}
+
+fn check_unused(rng: &mut Rng, order: Order, draft: &Draft, unused: &[i64]) -> Checked {
+    let asked = Asked::new(rng, draft);
+    let table = fast_table(&asked.job, &asked.pins);
+    let plans = read_off(&asked.job, &asked.pins, &table);
+    let plan = plan_in(order, &plans);
+    // Every unit has a distortion of 1. Late it takes what its interval sends; early what
+    // is sent fills the decoder, and the last unit leaves it full.
+    let taken: u64 = draft.units.iter().map(|unit| unit[0].0 as u64).sum();
+    let filled = match order {
+        Order::Early => draft.header[DECODER] - draft.header[START_DECODER],
+        Order::Late => 0,
+    };
+    let mut due = vec![asked.job.units.len() as u64, taken, taken + filled as u64];
+    due.extend(unused.iter().map(|sum| *sum as u64));
+    let found = plan.as_ref().and_then(|plan| totals_of(&asked, plan));
+    same("totals", Some(due), found)?;
+    match plan {
+        Some(plan) if asked.job.never_drains() => check_never(rng, &asked, plan),
+        _ => check_plan(rng, &asked, &table, &plans),
+    }
 }
 
 /// Idle jobs: plans that leave some of the drain unused, and plans that do not.
@@ -1620,6 +1649,22 @@ fn idle_group(seed: u64, asks: bool) -> Result<String, String> {
         telling.show()
     );
     ensure!(telling.worthwhile(&[idle, busy, hidden]) || !asks, "too little in it: {text}");
+    Ok(text)
+}
+
+/// Jobs full of ties: programs that decide between equal plans in another way are told
+/// apart, in both orders.
+fn equal_group(seed: u64, asks: bool) -> Result<String, String> {
+    let equal_jobs = TellingJobs {
+        shapes: &EQUAL,
+        make: random_equal_job,
+        mistakes: [&[tie_mistakes], &[order_mistakes], &[order_mistakes]],
+        ..TIGHT_JOBS
+    };
+    let telling = telling_jobs(seed, &equal_jobs, |_, _| ())?;
+    let text = telling.show();
+    let worthwhile = telling.plans * 2 > telling.jobs && telling.told.each(40);
+    ensure!(worthwhile || !asks, "too little in it: {text}");
     Ok(text)
 }
 
@@ -1646,28 +1691,45 @@ const TABLE_SECOND: [[[u32; 4]; 5]; 4] = [
 fn second_group() -> Result<String, String> {
     let mut rng = Rng(1);
     let a = job_a();
-    // Each line: the second bucket, the pins, what planning gives.
-    let same_plan = BEST_A;
-    let other = [1, 255, 255, 1, 0, 0, 1, 1, 0];
+    // Each line: the second bucket, the pins, what planning gives early and late.
+    type Given = Option<[([u8; 9], [u64; 5]); 2]>;
+    let last_less = [2, 255, 255, 0, 0, 0, 1, 1, 0];
+    let even = [1, 255, 255, 1, 0, 0, 1, 1, 0];
     let coarse = [0, 255, 255, 1, 1, 0, 1, 1, 0];
+    let coarse_early = [1, 255, 255, 1, 1, 0, 1, 1, 0];
+    let stopped = [1, 255, 255, 1, 1, 0, 0, 1, 0];
     let paused = [1, 255, 255, 0, 1, 0, 1, 1, 0];
-    let rows: [([u16; 3], &[Command], Option<([u8; 9], [u64; 5])>); 16] = [
+    // Job A's own plans send 4, 0 and 4 grains, or 0, 4 and 2.
+    let own = |early, late| -> Given {
+        Some([(EARLY_A, [50, 6, 8, 0, early]), (LATE_A, [50, 6, 6, 2, late])])
+    };
+    let alike = |plan, totals| -> Given { Some([(plan, totals); 2]) };
+    let rows: [([u16; 3], &[Command], Given); 16] = [
         // No rate is over 4, so the bucket stays empty; or it never fills.
-        ([63, 4, 0], &[], Some((same_plan, [50, 6, 6, 2, 6]))),
-        ([0, 4, 0], &[], Some((same_plan, [50, 6, 6, 2, 6]))),
-        ([63, 4, 63], &[], Some((same_plan, [50, 6, 6, 2, 0]))),
-        ([63, 1, 0], &[], Some((same_plan, [50, 6, 6, 2, 1]))),
-        ([4, 1, 0], &[], Some((same_plan, [50, 6, 6, 2, 1]))),
-        ([63, 4095, 0], &[], Some((same_plan, [50, 6, 6, 2, 3 * 4095 - 6]))),
+        ([63, 4, 0], &[], own(4, 6)),
+        ([0, 4, 0], &[], own(4, 6)),
+        ([63, 4, 63], &[], own(0, 0)),
+        ([63, 1, 0], &[], own(0, 1)),
+        ([63, 4095, 0], &[], own(3 * 4095 - 8, 3 * 4095 - 6)),
+        // 4, none and 4 would leave 3, 2 and 5; late 4 and 2 leave 3 and 4.
+        (
+            [4, 1, 0],
+            &[],
+            Some([(last_less, [50, 6, 6, 0, 0]), (LATE_A, [50, 6, 6, 2, 1])]),
+        ),
         // 4 does not go in, so that 2 and 2 are sent for unit 1.
-        ([1, 2, 0], &[], Some((other, [50, 6, 6, 0, 0]))),
-        ([1, 2, 0], &[Pin(1, 0)], Some((other, [50, 6, 6, 0, 0]))),
-        ([1, 2, 0], &[Pin(1, 1)], Some((coarse, [70, 4, 4, 2, 2]))),
-        ([3, 1, 0], &[], Some((other, [50, 6, 6, 0, 0]))),
+        ([1, 2, 0], &[], alike(even, [50, 6, 6, 0, 0])),
+        ([1, 2, 0], &[Pin(1, 0)], alike(even, [50, 6, 6, 0, 0])),
+        (
+            [1, 2, 0],
+            &[Pin(1, 1)],
+            Some([(coarse_early, [70, 4, 6, 0, 0]), (coarse, [70, 4, 4, 2, 2])]),
+        ),
+        ([3, 1, 0], &[], Some([(last_less, [50, 6, 6, 0, 0]), (even, [50, 6, 6, 0, 0])])),
         // Only 4 grains can be sent; or not in two intervals in a row.
-        ([2, 1, 0], &[], Some((coarse, [70, 4, 4, 2, 1]))),
-        ([3, 1, 1], &[], Some((coarse, [70, 4, 4, 2, 0]))),
-        ([1, 1, 0], &[], Some((paused, [70, 4, 4, 2, 0]))),
+        ([2, 1, 0], &[], Some([(stopped, [70, 4, 4, 2, 0]), (coarse, [70, 4, 4, 2, 1])])),
+        ([3, 1, 1], &[], Some([(stopped, [70, 4, 4, 2, 0]), (coarse, [70, 4, 4, 2, 0])])),
+        ([1, 1, 0], &[], alike(paused, [70, 4, 4, 2, 0])),
         // No plan, though there is one without the bucket.
         ([0, 1, 0], &[], None),
         ([3, 1, 3], &[], None),
@@ -1677,9 +1739,12 @@ fn second_group() -> Result<String, String> {
         let asked = Asked::new(&mut rng, &a.doubled(second).commanded(commands));
         let (table, all) =
             (brute_table(&asked.job, &asked.pins), enumerate(&asked.job, &asked.pins));
-        let totals = all.best.as_ref().and_then(|plan| totals_of(&asked, plan));
-        let found = all.best.as_ref().map(plan_bytes).zip(totals);
-        let due = due.map(|(entries, totals)| (entries.to_vec(), totals.to_vec()));
+        let found = ORDERS.map(|order| {
+            let plan = plan_in(order, &all.best).as_ref()?;
+            Some((plan_bytes(plan), totals_of(&asked, plan)?))
+        });
+        let given = |(entries, totals): ([u8; 9], [u64; 5])| (entries.to_vec(), totals.to_vec());
+        let due = due.map_or([None, None], |due| due.map(|of| Some(given(of))));
         let what = format!("second bucket {second:?}");
         let check = || -> Checked {
             same("by hand", due, found)?;
@@ -1696,9 +1761,11 @@ fn second_group() -> Result<String, String> {
     ] {
         let asked = Asked::new(&mut rng, &a.doubled(second));
         same("table by hand", &table, &brute_table(&asked.job, &asked.pins))?;
-        let aim = upload_planner::Aim::Total;
-        let found = upload_planner::best_plan(&asked.bytes, &[], aim).map(|best| best.table);
-        same("table", Ok(table), found)?;
+        for order in ORDERS.map(typed_order) {
+            let aim = upload_planner::Aim::Total;
+            let found = upload_planner::best_plan(&asked.bytes, &[], aim, order);
+            same("table", Ok(&table), found.as_ref().map(|best| &best.table))?;
+        }
     }
     check_second_replays(&mut rng)?;
     check_second_sizes(&mut rng)?;
@@ -1770,7 +1837,7 @@ fn check_second_sizes(rng: &mut Rng) -> Checked {
         values.wrote("values of open", &due)?;
         check_open(rng, &asked)?;
         let mut lent = PlanLists::new(rng, [0, 79, ENTRY_BYTES * asked.intervals(), 5]);
-        same("a table of 79", 11, lent.plan(&asked.bytes, &[]))?;
+        same("a table of 79", 11, lent.plan(rng.pick(&ORDERS), &asked.bytes, &[]))?;
         lent.kept()?;
     }
     Ok(())
@@ -1778,7 +1845,7 @@ fn check_second_sizes(rng: &mut Rng) -> Checked {
 
 /// The words of a table by other layouts: the second level outside the decoder's,
 /// and outside the first one's.
-fn layout_mistakes(job: &Job, pins: &Pins, _: Option<&Plan>) -> Vec<(&'static str, bool)> {
+fn layout_mistakes(_: Order, job: &Job, pins: &Pins, _: Option<&Plan>) -> Vec<Mistake> {
     let table = fast_table(job, pins);
     let (mut outermost, mut outside) = (vec![0; table.len()], vec![0; table.len()]);
     let [width, second] = [0, 1].map(|at| job.buckets[at].size as usize + 1);
@@ -1840,17 +1907,25 @@ fn double_group(seed: u64, asks: bool) -> Result<String, String> {
 /// What the library plans: its number, table, entries and values.
 type PlannedNumbers = (u32, Vec<u32>, Vec<u8>, Vec<u64>);
 
-fn planned_numbers(asked: &Asked) -> PlannedNumbers {
-    planned_numbers_for(Aim::Total, asked)
+fn planned_numbers(order: Order, asked: &Asked) -> PlannedNumbers {
+    planned_numbers_for(Aim::Total, order, asked)
 }
 
-fn planned_numbers_for(aim: Aim, asked: &Asked) -> PlannedNumbers {
+fn planned_numbers_for(aim: Aim, order: Order, asked: &Asked) -> PlannedNumbers {
     let [answers, table, entries, values] = asked.needs();
     let (mut table, mut entries, mut values) = (vec![7; table], vec![7; entries], vec![7; values]);
-    let (job, calls, aim) = (&asked.bytes, &asked.calls, aim.number());
+    let (aim, order) = (aim.number(), order.number());
     let mut answers = vec![7; answers];
-    let number =
-        numbers::plan(job, calls, aim, &mut answers, &mut table, &mut entries, &mut values);
+    let number = numbers::plan(
+        &asked.bytes,
+        &asked.calls,
+        aim,
+        order,
+        &mut answers,
+        &mut table,
+        &mut entries,
+        &mut values,
+    );
     (number, table, entries, values)
 }
 
@@ -1884,7 +1959,8 @@ fn lines_group(seed: u64, asks: bool) -> Result<String, String> {
 
 /// Gives what is planned with the second bucket and without it.
 fn check_lines(rng: &mut Rng, draft: &Draft, asked: &Asked) -> Result<[PlannedNumbers; 2], String> {
-    let of = |draft: &Draft| planned_numbers(&Asked::new(&mut Rng(1), draft));
+    let order = rng.pick(&ORDERS);
+    let of = |draft: &Draft| planned_numbers(order, &Asked::new(&mut Rng(1), draft));
     let (double, alone) = (of(draft), of(&draft.alone()));
     let (number, table, entries, values) = of(&draft.swapped());
     let job = &asked.job;
@@ -1970,29 +2046,34 @@ fn thousand_group() -> Result<String, String> {
         let draft = Draft::new([0, 2, 2, 1, 0, 0], &[2], &units);
         let asked = Asked::new(&mut rng, &draft);
         let all = enumerate(&asked.job, &asked.pins).best;
-        same("two units", Some(vec![(0, places[0]), (0, places[1])]), all.clone())?;
+        same("two units", both(vec![(0, places[0]), (0, places[1])]), all.clone())?;
         check_plan(&mut rng, &asked, &fast_table(&asked.job, &asked.pins), &all)?;
         jobs += 1;
     }
     Ok(format!("{jobs} jobs by hand, {entries} plans"))
 }
 
-/// `chosen_among`, of which this choice is to be made, at this distortion. A unit's
-/// interval sends 2 and takes 2; the one before it, if there is one, sends nothing.
+/// `chosen_among`, of which this choice is to be made, at this distortion. The unit takes
+/// 2. Late its interval sends them, and the one before it, if there is one, nothing; early
+/// the first interval sends them.
 fn check_chosen(rng: &mut Rng, draft: &Draft, choice: usize, distortion: u64) -> Checked {
     let asked = Asked::new(rng, draft);
     let delay = asked.job.delay;
     let [low, high] = two_bytes(choice);
-    let mut entries = vec![[0, 255, 255]; delay];
-    entries.push([1, low, high]);
-    let mut lent = PlanLists::new(rng, asked.needs().map(|need| need + 4));
-    same("plan", 0, lent.plan(&asked.bytes, &asked.calls))?;
-    lent.entries.wrote("entries by hand", &entries.concat())?;
-    let unused = 4095 * delay as u64 + 4093;
-    lent.values.wrote("values by hand", &[distortion, 2, 2, unused])?;
     let table = brute_table(&asked.job, &asked.pins);
     let best = enumerate(&asked.job, &asked.pins).best;
-    same("all plans", entries.concat(), best.as_ref().map_or(vec![], plan_bytes))?;
+    for order in ORDERS {
+        let mut entries = vec![[0, 255, 255]; delay];
+        entries.push([0, low, high]);
+        entries[if order == Order::Early { 0 } else { delay }][0] = 1;
+        let mut lent = PlanLists::new(rng, asked.needs().map(|need| need + 4));
+        same("plan", 0, lent.plan(order, &asked.bytes, &asked.calls))?;
+        lent.entries.wrote("entries by hand", &entries.concat())?;
+        let unused = 4095 * delay as u64 + 4093;
+        lent.values.wrote("values by hand", &[distortion, 2, 2, unused])?;
+        let plan = plan_in(order, &best).as_ref().map_or(vec![], plan_bytes);
+        same("all plans", entries.concat(), plan)?;
+    }
     check_plan(rng, &asked, &table, &best)?;
     check_typed(&asked, &table, &best)
 }
@@ -2134,7 +2215,8 @@ fn every_choice_group() -> Result<String, String> {
             let job = patched(&job, 36 + 6 * choice, &5_u32.to_le_bytes());
             let (mut table, mut entries, mut values) = ([7; 8], [7; 3], [7; 4]);
             let lent = (&mut table, &mut entries, &mut values);
-            let found = numbers::plan(&job, &[], TOTAL, &mut [], lent.0, lent.1, lent.2);
+            let order = [EARLY, LATE][choice % 2];
+            let found = numbers::plan(&job, &[], TOTAL, order, &mut [], lent.0, lent.1, lent.2);
             let [low, high] = two_bytes(choice);
             let what = format!("{choice} of {choices} is best");
             same(&what, (0, [1, low, high], [5, 2, 2, 4093]), (found, entries, values))?;
@@ -2466,7 +2548,7 @@ fn check_turning_order(
             0 => old.clear(),
             1 => old.truncate(5),
             2 => old.push(1),
-            3 => old = BEST_A.to_vec(),
+            3 => old = LATE_A.to_vec(),
             4 => old[0] = 3,
             5 => old[4] = 3,
             6 => old[1] = 0,
@@ -2481,7 +2563,7 @@ fn check_turning_order(
     let mut entries = Lent::new(rng, room);
     let due = first_of(&[(wrong > 0, wrong), (many, 14), (shape, 14), (short, 12)]);
     same("turn", due, numbers::turn(&job, &old, entries.list()))?;
-    entries.wrote("entries", if due == 0 { &BEST_A } else { &[] })
+    entries.wrote("entries", if due == 0 { &LATE_A } else { &[] })
 }
 
 /// Every plan of tiny jobs, and every pair of bytes that a job of one interval could have
@@ -2642,11 +2724,12 @@ fn typed_aim(aim: Aim) -> upload_planner::Aim {
     }
 }
 
-/// What planning for an aim is to leave. Without a plan it is refused with 13.
+/// What planning for an aim is to leave, and to give in each order. Without a plan it is
+/// refused with 13.
 #[derive(Clone)]
 struct Due {
     table: Vec<u32>,
-    plan: Option<Plan>,
+    plans: Plans,
 }
 
 /// A table in which choices above the limit are left out, by plain loops over levels,
@@ -2694,35 +2777,39 @@ fn loops_table(job: &Job, pins: &Pins, limit: i64) -> Vec<u32> {
 fn lowered(job: &Job, pins: &Pins) -> [Due; 2] {
     let within = |limit: i64| {
         let table = loops_table(job, pins, limit);
-        let plan = read_off(&limited(job, limit), pins, &table);
-        Due { table, plan }
+        let plans = read_off(&limited(job, limit), pins, &table);
+        Due { table, plans }
     };
+    let worst = |due: &Due| due.plans[0].as_ref().map(|plan| greatest(job, plan));
     let total = within(NO_LIMIT);
-    let mut found = total.plan.as_ref().map(|plan| greatest(job, plan));
+    let mut found = worst(&total);
     let Some(mut least) = found else { return [total.clone(), total] };
     while let Some(limit) = found {
         least = limit;
-        found = within(limit - 1).plan.map(|plan| greatest(job, &plan));
+        found = worst(&within(limit - 1));
     }
     [total, within(least)]
 }
 
-/// Both aims, each in lists of its own and then in turn in the same lists; and the
-/// typed functions.
+/// Both aims in both orders, each in lists of its own and then in turn in the same lists;
+/// and the typed functions.
 fn check_aims(rng: &mut Rng, asked: &Asked, dues: &[Due; 2]) -> Checked {
-    same("a plan for both aims", dues[0].plan.is_some(), dues[1].plan.is_some())?;
+    let there = [0, 1].map(|aim: usize| dues[aim].plans.each_ref().map(|plan| plan.is_some()));
+    same("a plan for both aims, in both orders", [[there[0][0]; 2]; 2], there)?;
     check_calls(rng, asked)?;
-    for (aim, Due { table, plan }) in AIMS.into_iter().zip(dues) {
-        check_plan_for(aim, rng, asked, table, plan)
-            .and_then(|_| check_typed_for(typed_aim(aim), asked, table, plan))
+    for (aim, Due { table, plans }) in AIMS.into_iter().zip(dues) {
+        check_plan_for(aim, rng, asked, table, plans)
+            .and_then(|_| check_typed_for(typed_aim(aim), asked, table, plans))
             .map_err(|trouble| format!("{aim:?}: {trouble}"))?;
     }
     let lengths = asked.needs().map(|need| need + 3);
     let mut lent = PlanLists::new(rng, lengths);
-    for which in [0, 1, 0, 1, 1, 0] {
-        let Due { table, plan } = &dues[which];
-        let number = lent.plan_for(AIMS[which].number(), &asked.bytes, &asked.calls);
-        let what = format!("{:?} in lists that were lent before", AIMS[which]);
+    for (which, order) in [(0, 0), (1, 0), (0, 1), (1, 1), (1, 0), (0, 0), (0, 1), (1, 1)] {
+        let (Due { table, plans }, order) = (&dues[which], ORDERS[order]);
+        let plan = plan_in(order, plans);
+        let aim = AIMS[which].number();
+        let number = lent.plan_for(aim, order.number(), &asked.bytes, &asked.calls);
+        let what = format!("{:?}, {order:?} in lists that were lent before", AIMS[which]);
         same(&what, if plan.is_some() { 0 } else { 13 }, number)?;
         lent.table.wrote(&what, table)?;
         match plan {
@@ -2890,18 +2977,22 @@ fn even_by_hand_group() -> Result<String, String> {
         let draft = known.draft.commanded(&[Pin(1, 1)][..commands]);
         let asked = Asked::new(&mut rng, &draft);
         let full = brute_table(&asked.job, &asked.pins);
-        let entries = if commands == 0 { BEST_A } else { [0, 255, 255, 1, 1, 0, 1, 1, 0] };
-        let plan = Some(read_plan(&asked.job, &entries).expect("a plan"));
-        let due = Due { table: full, plan };
+        let entries = match commands {
+            0 => [EARLY_A, LATE_A],
+            _ => [[2, 255, 255, 0, 1, 0, 1, 1, 0], [0, 255, 255, 1, 1, 0, 1, 1, 0]],
+        };
+        let plans = entries.map(|entries| Some(read_plan(&asked.job, &entries).expect("a plan")));
+        let due = Due { table: full, plans };
         check_aims(&mut rng, &asked, &[due.clone(), due])
             .map_err(|trouble| format!("Job A, {commands} pins: {trouble}"))?;
     }
 
     // One grain is there, and one may be sent. Either choice loses 5: without sending
-    // the second alone can be had, with it the first too. The smaller rate decides.
+    // the second alone can be had, with it the first too. The rate decides.
     let draft = Draft::new([0, 2, 0, 1, 1, 0], &[0, 1], &[vec![(2, 5), (1, 5)]]);
     let asked = Asked::new(&mut rng, &draft);
-    let due = Due { table: vec![5, 5, 5, 0, 0, 0], plan: Some(vec![(0, 1)]) };
+    let plans = [Some(vec![(1, 0)]), Some(vec![(0, 1)])];
+    let due = Due { table: vec![5, 5, 5, 0, 0, 0], plans };
     check_aims(&mut rng, &asked, &[due.clone(), due]).map_err(|t| format!("rate first: {t}"))?;
 
     // 512 units at the largest distortion: a sum of 512,000,000.
@@ -2910,7 +3001,7 @@ fn even_by_hand_group() -> Result<String, String> {
     let plan = vec![(0, 0); 512];
     same("512 units", Some(vec![512_000_000, 0, 0, 512]), totals_of(&asked, &plan))?;
     let table = (0..=512).rev().flat_map(|left| [left * 1_000_000; 5]).collect();
-    let due = Due { table, plan: Some(plan) };
+    let due = Due { table, plans: both(plan) };
     check_aims(&mut rng, &asked, &[due.clone(), due]).map_err(|t| format!("512 units: {t}"))?;
 
     same("the default", upload_planner::Aim::Total, upload_planner::Aim::default())?;
@@ -2928,7 +3019,7 @@ fn check_shared(
 ) -> Checked {
     let plans =
         [enumerate(&asked.job, &asked.pins).best, enumerate_even(&asked.job, &asked.pins).best];
-    for (which, plan) in plans.iter().enumerate() {
+    for (which, plan) in plans.iter().enumerate().flat_map(|(n, of)| of.iter().map(move |p| (n, p))) {
         let due = due.map(|due| due[which]);
         let chosen = |plan: &Plan| plan.iter().map(|entry| entry.1).collect::<Vec<usize>>();
         same("choices", due.map(|due| due.0.to_vec()), plan.as_ref().map(chosen))?;
@@ -2937,11 +3028,11 @@ fn check_shared(
         let rates = plan.iter().flatten().map(|entry| entry.0).max();
         same("rates", due.map(|_| 0), rates)?;
     }
-    let limit = plans[1].as_ref().map(|plan| greatest(&asked.job, plan));
+    let limit = plans[1][0].as_ref().map(|plan| greatest(&asked.job, plan));
     let tables = [None, limit].map(|limit| even_table(&asked.job, &asked.pins, limit));
     let [total, even] = plans;
     let [full, left] = tables;
-    check_aims(rng, asked, &[Due { table: full, plan: total }, Due { table: left, plan: even }])
+    check_aims(rng, asked, &[Due { table: full, plans: total }, Due { table: left, plans: even }])
 }
 
 /// Tables by hand, for both aims, on lines of one bucket and of two.
@@ -2981,7 +3072,7 @@ fn check_even_tables(rng: &mut Rng) -> Result<usize, String> {
                 enumerate(&asked.job, &asked.pins).best,
                 enumerate_even(&asked.job, &asked.pins).best,
             ];
-            let limit = plans[1].as_ref().map(|plan| greatest(&asked.job, plan));
+            let limit = plans[1][0].as_ref().map(|plan| greatest(&asked.job, plan));
             let words = |table: &Vec<[u32; 5]>| -> Vec<u32> {
                 table.concat().iter().flat_map(|&word| vec![word; times]).collect()
             };
@@ -2990,7 +3081,7 @@ fn check_even_tables(rng: &mut Rng) -> Result<usize, String> {
             let check = || -> Checked {
                 same("full", &full, &even_table(&asked.job, &asked.pins, None))?;
                 same("even", &left, &even_table(&asked.job, &asked.pins, limit))?;
-                let dues = [Due { table: full, plan: total }, Due { table: left, plan: even }];
+                let dues = [Due { table: full, plans: total }, Due { table: left, plans: even }];
                 check_aims(rng, &asked, &dues)
             };
             check().map_err(|trouble| format!("table of {what}: {trouble}"))?;
@@ -3000,7 +3091,8 @@ fn check_even_tables(rng: &mut Rng) -> Result<usize, String> {
 }
 
 /// Every set of defects of planning, and each with every aim: a number that names none
-/// is refused after the job's own numbers and before those of the calls.
+/// is refused after the job's own numbers and before those of the calls, and so is one that
+/// names no order. Nothing can be sent, so that both orders have the same plan.
 fn aim_order_group() -> Result<String, String> {
     let mut rng = Rng(1);
     let mut sets = 0;
@@ -3016,7 +3108,7 @@ fn aim_order_group() -> Result<String, String> {
         });
         for wrong in 0..=5 {
             let job = wrong_job(&draft, wrong);
-            for bits in (0..1 << 9).step_by(if small() { 13 } else { 1 }) {
+            for bits in (0..1 << 10).step_by(if small() { 13 } else { 1 }) {
                 let has = |bit: usize| bits >> bit & 1 == 1;
                 // In a small run one of the wrong numbers, in turn.
                 let number = bits % WRONG_AIMS.len();
@@ -3058,9 +3150,12 @@ fn check_aim_order(
         cut_to(count, values, by_all),
     ];
     let mut lent = PlanLists::new(rng, lengths);
+    let wrong_order = has(9);
+    let order = if wrong_order { rng.pick(&WRONG_AIMS) } else { rng.pick(&[EARLY, LATE]) };
     let due = first_of(&[
         (wrong > 0, wrong),
         (known.is_none(), 2),
+        (wrong_order, 2),
         (kind, 2),
         (cut, 1),
         (table, 11),
@@ -3069,7 +3164,7 @@ fn check_aim_order(
         (values, 12),
         (no_plan, 13),
     ]);
-    same("plan", due, lent.plan_for(aim, job, &calls))?;
+    same(&format!("plan in order {order}"), due, lent.plan_for(aim, order, job, &calls))?;
     match (due, known) {
         (0, Some((table, entries, values))) => {
             lent.answers.wrote("answers", &[0, 0])?;
@@ -3113,9 +3208,9 @@ impl Aimed {
             self.other += (full != left) as usize;
             self.lost += (full != left && *left == NEVER) as usize;
         }
-        let Some(plan) = &even.plan else { return };
+        let [Some(plan), _] = &even.plans else { return };
         self.plans += 1;
-        self.differ += (even.plan != total.plan) as usize;
+        self.differ += (even.plans != total.plans) as usize;
         let job = &asked.job;
         let lost = |unit: usize| job.units[unit][plan[job.delay + unit].1].distortion;
         let free = (0..job.units.len()).filter(|unit| asked.pins[*unit].is_none());
@@ -3155,9 +3250,9 @@ fn even_ties_group(seed: u64, asks: bool) -> Result<String, String> {
 
 /// That of a program that reads the plan off the right table and tries choices above the
 /// greatest too: some add up to what is due.
-fn read_off_mistakes(job: &Job, pins: &Pins, plan: Option<&Plan>) -> Vec<(&'static str, bool)> {
+fn read_off_mistakes(order: Order, job: &Job, pins: &Pins, plan: Option<&Plan>) -> Vec<Mistake> {
     let table = plan.map(|plan| loops_table(job, pins, greatest(job, plan)));
-    let found = table.and_then(|table| read_off(job, pins, &table));
+    let found = table.and_then(|table| read_off_in(order, job, pins, &table));
     vec![("read off with choices above the limit", found.as_ref() != plan)]
 }
 
@@ -3181,8 +3276,8 @@ fn even_tiny_jobs(
         let (job, pins) = (&asked.job, &asked.pins);
         let all = enumerate_even(job, pins);
         let limit = all.greatest.unwrap_or(NO_LIMIT);
-        let total = Due { table: brute_table(job, pins), plan: enumerate(job, pins).best };
-        let even = Due { table: even_table(job, pins, all.greatest), plan: all.best.clone() };
+        let total = Due { table: brute_table(job, pins), plans: enumerate(job, pins).best };
+        let even = Due { table: even_table(job, pins, all.greatest), plans: all.best.clone() };
         let dues = [total, even];
         let mut check = || -> Checked {
             let table = &dues[1].table;
@@ -3190,13 +3285,14 @@ fn even_tiny_jobs(
             same("fast table", table, &fast_table(&limited(job, limit), pins))?;
             same("plan read off", &all.best, &read_off(&limited(job, limit), pins, table))?;
             same("least greatest", all.greatest, least_greatest(job, pins))?;
-            same("dynamic program", &all.best, &dynamic_even(job, pins))?;
+            let dynamic = ORDERS.map(|order| dynamic_even(order, job, pins));
+            same("dynamic program", &all.best, &dynamic)?;
             let [total, even] = lowered(job, pins);
-            same("limits lowered", [&dues[0].plan, &all.best], [&total.plan, &even.plan])?;
+            same("limits lowered", [&dues[0].plans, &all.best], [&total.plans, &even.plans])?;
             same("tables", [&dues[0].table, table], [&total.table, &even.table])?;
-            ensure!(all.best.is_some() || dues[0].table == *table, "not the full table");
+            ensure!(all.best[0].is_some() || dues[0].table == *table, "not the full table");
             check_aims(&mut rng, &asked, &dues)?;
-            check_by_total(&draft).map(|_| ())
+            check_by_total(order_in_turn(index), &draft).map(|_| ())
         };
         check().map_err(|trouble| failed(seed, index, &trouble, &asked))?;
         aimed.count(&asked, &dues);
@@ -3204,7 +3300,7 @@ fn even_tiny_jobs(
         equals += (all.equals > 1) as usize;
         if index % 2 == 0 && !small() {
             for &mistakes in mistakes {
-                told.count(mistakes, job, pins, all.best.as_ref());
+                told.count(mistakes, job, pins, &all.best);
             }
         }
     }
@@ -3236,14 +3332,15 @@ fn even_larger_group(seed: u64, asks: bool) -> Result<String, String> {
         let (job, pins) = (&asked.job, &asked.pins);
         let dues = lowered(job, pins);
         let mut check = || -> Checked {
-            let due = dues[1].plan.as_ref().map(|plan| greatest(job, plan));
+            let due = dues[1].plans[0].as_ref().map(|plan| greatest(job, plan));
             let limit = due.unwrap_or(NO_LIMIT);
             same("least greatest", due, least_greatest(job, pins))?;
-            same("dynamic program", &dues[0].plan, &dynamic(job, pins))?;
-            same("dynamic program, even", &dues[1].plan, &dynamic_even(job, pins))?;
+            same("dynamic program", &dues[0].plans, &dynamics(job, pins))?;
+            let even = ORDERS.map(|order| dynamic_even(order, job, pins));
+            same("dynamic program, even", &dues[1].plans, &even)?;
             ensure!(dues[1].table == fast_table(&limited(job, limit), pins), "fast table");
             check_aims(&mut rng, &asked, &dues)?;
-            check_by_total(&draft).map(|_| ())
+            check_by_total(order_in_turn(index), &draft).map(|_| ())
         };
         check().map_err(|trouble| failed(seed, index, &trouble, &asked))?;
         aimed.count(&asked, &dues);
@@ -3264,22 +3361,22 @@ fn left_out(draft: &Draft, limit: i64) -> Draft {
 /// Even pictures by the least total, both from the library: with every choice above the
 /// plan's greatest distortion too large for the decoder it leaves the same, and with
 /// those at this distortion too large as well it has no plan. Gives the greatest.
-fn check_by_total(draft: &Draft) -> Result<Option<i64>, String> {
+fn check_by_total(order: Order, draft: &Draft) -> Result<Option<i64>, String> {
     let asked = |draft: &Draft| Asked::new(&mut Rng(1), draft);
     let whole = asked(draft);
-    let even = planned_numbers_for(Aim::Even, &whole);
+    let even = planned_numbers_for(Aim::Even, order, &whole);
     if even.0 == 13 {
-        let total = planned_numbers_for(Aim::Total, &whole);
+        let total = planned_numbers_for(Aim::Total, order, &whole);
         ensure!(even == total, "no plan, and another answer or table for the total");
         return Ok(None);
     }
     let plan = read_plan(&whole.job, &even.2).map_err(|_| "the entries are no plan")?;
     let limit = greatest(&whole.job, &plan);
-    let total = planned_numbers_for(Aim::Total, &asked(&left_out(draft, limit)));
+    let total = planned_numbers_for(Aim::Total, order, &asked(&left_out(draft, limit)));
     same("number and values by the total", (even.0, even.3), (total.0, total.3))?;
     same("entries by the total", &even.2, &total.2)?;
     ensure!(even.1 == total.1, "another table by the total, limit {limit}");
-    let below = planned_numbers_for(Aim::Total, &asked(&left_out(draft, limit - 1)));
+    let below = planned_numbers_for(Aim::Total, order, &asked(&left_out(draft, limit - 1)));
     same("below the greatest", 13, below.0)?;
     Ok(Some(limit))
 }
@@ -3315,15 +3412,15 @@ fn even_large_group() -> Result<String, String> {
         let asked = Asked::new(&mut rng, &draft);
         // Such a job is too long to print; its name tells.
         let mut check = || -> Checked {
-            let limit = check_by_total(&draft)?.ok_or("no plan")?;
+            let limit = check_by_total(Order::Early, &draft)?.ok_or("no plan")?;
             if asked.job.words() > 5_000_000 {
                 return Ok(());
             }
             let (job, pins) = (&asked.job, &asked.pins);
             let table = fast_table(&limited(job, limit), pins);
-            let plan = read_off(&limited(job, limit), pins, &table);
-            other += (plan != read_off(job, pins, &fast_table(job, pins))) as usize;
-            check_plan_for(Aim::Even, &mut rng, &asked, &table, &plan)
+            let plans = read_off(&limited(job, limit), pins, &table);
+            other += (plans != read_off(job, pins, &fast_table(job, pins))) as usize;
+            check_plan_for(Aim::Even, &mut Rng(1), &asked, &table, &plans)
         };
         check().map_err(|trouble| format!("{name}: {trouble}"))?;
         words += asked.job.words();
@@ -3449,23 +3546,26 @@ fn fresh_calls(rng: &mut Rng, pins: &Pins) -> Vec<u16> {
 /// True if there is a plan.
 fn check_session(rng: &mut Rng, asked: &Asked) -> Result<bool, String> {
     let table = fast_table(&asked.job, &asked.pins);
-    let plan = read_off(&asked.job, &asked.pins, &table);
-    check_plan(rng, asked, &table, &plan)?;
+    let plans = read_off(&asked.job, &asked.pins, &table);
+    check_plan(rng, asked, &table, &plans)?;
     let other = random_plan(rng, &asked.job, &asked.pins);
     check_replay(rng, asked, &other)?;
 
     let calls = fresh_calls(rng, &asked.pins);
     let mut long = PlanLists::new(&mut Rng(1), asked.needs());
     let mut fresh = PlanLists::new(&mut Rng(1), asked.needs());
-    let numbers = (long.plan(&asked.bytes, &asked.calls), fresh.plan(&asked.bytes, &calls));
+    let order = rng.pick(&ORDERS);
+    let numbers =
+        (long.plan(order, &asked.bytes, &asked.calls), fresh.plan(order, &asked.bytes, &calls));
     same("a fresh session's answer", numbers.0, numbers.1)?;
-    if plan.is_some() {
+    let planned = plans[0].is_some();
+    if planned {
         fresh.answers.wrote("a fresh session's answers", &vec![0; calls.len() / 3])?;
     }
     same("a fresh session's values", long.values.list(), fresh.values.list())?;
     same("a fresh session's entries", long.entries.list(), fresh.entries.list())?;
     ensure!(long.table.list() == fresh.table.list(), "a fresh session's table is another");
-    Ok(plan.is_some())
+    Ok(planned)
 }
 
 // ---------------------------------------------------------------------------
@@ -3759,13 +3859,13 @@ fn check_bytes(rng: &mut Rng, bytes: &[u8]) -> Result<[Refusal; 2], String> {
     }
     if asked.job.words() > 20 {
         let mut lent = PlanLists::new(rng, [2, 20, 12, plan_values(&asked.job)]);
-        same("plan", 11, lent.plan(bytes, &calls))?;
+        same("plan", 11, lent.plan(rng.pick(&ORDERS), bytes, &calls))?;
         lent.kept()?;
     }
     if asked.job.words() < 2000 {
         let table = fast_table(&asked.job, &asked.pins);
-        let plan = read_off(&asked.job, &asked.pins, &table);
-        check_plan(rng, &asked, &table, &plan)?;
+        let plans = read_off(&asked.job, &asked.pins, &table);
+        check_plan(rng, &asked, &table, &plans)?;
     } else {
         check_calls(rng, &asked)?;
     }
@@ -3817,9 +3917,11 @@ fn check_not_opened(
 
     let mut lent = PlanLists::new(rng, [answers, table, room, planned]);
     let aim = rng.pick(&[TOTAL, EVEN, WRONG_AIMS[0], u32::MAX]);
-    same("plan", number, lent.plan_for(aim, bytes, calls))?;
+    let order = rng.pick(&[EARLY, LATE, WRONG_AIMS[0], u32::MAX]);
+    same("plan", number, lent.plan_for(aim, order, bytes, calls))?;
     lent.kept()?;
-    let found = upload_planner::best_plan(bytes, &typed, typed_aim(rng.pick(&AIMS)));
+    let (aim, order) = (typed_aim(rng.pick(&AIMS)), typed_order(rng.pick(&ORDERS)));
+    let found = upload_planner::best_plan(bytes, &typed, aim, order);
     same("owned plan", Some(number), found.err().map(|refusal| refusal.number()))?;
     check_no_sitting(rng, bytes, number, table, planned)
 }
@@ -4031,13 +4133,27 @@ fn limits_group() -> Result<String, String> {
 // Job A as written, and refusals in their order.
 // ---------------------------------------------------------------------------
 
-/// Job A's best plan, its levels and totals, by hand. Unit 2 has choice 1, as its
-/// choice 0 takes 5 grains and the decoder holds 4. Unit 1 at choice 0 takes 4,
+/// Job A's best plan in the late order, its levels and totals, by hand. Unit 2 has choice
+/// 1, as its choice 0 takes 5 grains and the decoder holds 4. Unit 1 at choice 0 takes 4,
 /// so the decoder is just full before it leaves. Interval 1 sends nothing, and its
 /// drain of 2 goes by.
-const BEST_A: [u8; 9] = [0, 255, 255, 2, 0, 0, 1, 1, 0];
+const LATE_A: [u8; 9] = [0, 255, 255, 2, 0, 0, 1, 1, 0];
 const LEVELS_A: [u16; 6] = [0, 0, 0, 2, 0, 2];
 const TOTALS_A: [u64; 4] = [50, 6, 6, 2];
+
+/// Job A's best plan in the early order, and what it comes to on a line of two buckets, by
+/// hand: the first interval fills the decoder and leaves 2 in each bucket, the second sends
+/// nothing, and the third, in which unit 2 takes 2 grains, sends 4. No drain goes by.
+const EARLY_A: [u8; 9] = [2, 255, 255, 0, 0, 0, 2, 1, 0];
+const EARLY_TOTALS_A: [u64; 5] = [50, 6, 8, 0, 0];
+
+/// The plan in this order.
+fn best_a(order: Order) -> [u8; 9] {
+    match order {
+        Order::Early => EARLY_A,
+        Order::Late => LATE_A,
+    }
+}
 
 /// Job A's table by hand: a row for each decoder level, a word for each bucket
 /// level. Unit 1 at choice 0 needs a peak of just 4, which levels 0, 2 and 4 can
@@ -4049,12 +4165,22 @@ const TABLE_A: [[[u32; 4]; 5]; 4] = [
     [[0; 4]; 5],
 ];
 
-/// Job A on a line of one bucket or two, and what comes of its best plan.
+/// Job A on a line of one bucket or two, and what comes of its best plan in the late order.
 struct Known {
     draft: Draft,
     table: Vec<u32>,
     levels: Vec<u16>,
     totals: Vec<u64>,
+}
+
+impl Known {
+    /// What the best plan in this order comes to.
+    fn totals_in(&self, order: Order) -> &[u64] {
+        match order {
+            Order::Early => &EARLY_TOTALS_A[..self.totals.len()],
+            Order::Late => &self.totals,
+        }
+    }
 }
 
 /// By hand. The second bucket, `SECOND_A`, holds 2 and drains 2. A rate of 4 fills it
@@ -4088,24 +4214,42 @@ fn job_a_group() -> Result<String, String> {
     let aim = upload_planner::Aim::Total;
     let (first, second) = (Call::Pin { unit: 1, choice: 0 }, Call::Pin { unit: 2, choice: 0 });
     let (other, lifted) = (Call::Pin { unit: 1, choice: 1 }, Call::Lift { unit: 1 });
-    let best = |calls: &[Call]| best_plan(&job, calls, aim).map(|best| (best.entries, best.totals));
-    let found = (BEST_A.to_vec(), typed_totals(&TOTALS_A));
-    let coarse = (vec![0, 255, 255, 1, 1, 0, 1, 1, 0], typed_totals(&[70, 4, 4, 2]));
+    let rows = [
+        ((EARLY_A, EARLY_TOTALS_A[..4].to_vec()), ([2, 255, 255, 0, 1, 0, 1, 1, 0], [70, 4, 6, 0])),
+        ((LATE_A, TOTALS_A.to_vec()), ([0, 255, 255, 1, 1, 0, 1, 1, 0], [70, 4, 4, 2])),
+    ];
 
     let opened = open(&job).map_err(|refusal| refusal.to_string())?;
     let opened = (opened.bytes, opened.units, opened.intervals, opened.table_words);
     same("opened", (64, 2, 3, 80), opened)?;
-    same("no pins", Ok(found.clone()), best(&[]))?;
-    same("unit 1 pinned at 0", Ok(found.clone()), best(&[first]))?;
-    same("and lifted", Ok(found.clone()), best(&[first, lifted]))?;
-    same("unit 1 pinned at 1", Ok(coarse), best(&[other]))?;
-    same("unit 1 pinned at 1 and lifted", Ok(found.clone()), best(&[other, lifted]))?;
-    same("both pinned at 0", Err(Refusal::NoPlan), best(&[first, second]))?;
-    same("unit 2 pinned at 0", Err(Refusal::NoPlan), best(&[second]))?;
-    let table = best_plan(&job, &[], aim).map(|best| best.table);
-    same("the table", Ok(TABLE_A.concat().concat()), table)?;
-    let answers = best_plan(&job, &[lifted], aim).map(|best| best.answers);
-    same("lift of no pin", Ok(vec![Err(Refusal::NotPinned)]), answers)?;
+    same("the default order", upload_planner::Order::Early, upload_planner::Order::default())?;
+    for (order, (found, coarse)) in ORDERS.map(typed_order).into_iter().zip(rows) {
+        let best = |calls: &[Call]| {
+            best_plan(&job, calls, aim, order).map(|best| (best.entries, best.totals))
+        };
+        let found = (found.0.to_vec(), typed_totals(&found.1));
+        let coarse = (coarse.0.to_vec(), typed_totals(&coarse.1));
+        same("no pins", Ok(found.clone()), best(&[]))?;
+        same("unit 1 pinned at 0", Ok(found.clone()), best(&[first]))?;
+        same("and lifted", Ok(found.clone()), best(&[first, lifted]))?;
+        same("unit 1 pinned at 1", Ok(coarse), best(&[other]))?;
+        same("unit 1 pinned at 1 and lifted", Ok(found.clone()), best(&[other, lifted]))?;
+        same("both pinned at 0", Err(Refusal::NoPlan), best(&[first, second]))?;
+        same("unit 2 pinned at 0", Err(Refusal::NoPlan), best(&[second]))?;
+        let table = best_plan(&job, &[], aim, order).map(|best| best.table);
+        same("the table", Ok(TABLE_A.concat().concat()), table)?;
+        let answers = best_plan(&job, &[lifted], aim, order).map(|best| best.answers);
+        same("lift of no pin", Ok(vec![Err(Refusal::NotPinned)]), answers)?;
+
+        let sized = |words: usize, bytes: usize| {
+            plan(&job, &[], aim, order, &mut [], &mut vec![0; words], &mut vec![0; bytes])
+        };
+        same("79 words", Err(Refusal::TableTooShort), sized(79, 9))?;
+        for bytes in [0, 5, 6, 8] {
+            same("too few plan bytes", Err(Refusal::ListTooShort), sized(80, bytes))?;
+        }
+        same("80 words, nine bytes", Ok(found.1), sized(80, 9))?;
+    }
 
     let pinned = |calls: &[Call]| {
         let made = called(&job, calls).map(|made| (answer_numbers(&made.answers), made.totals));
@@ -4118,15 +4262,6 @@ fn job_a_group() -> Result<String, String> {
     same("pinned totals, both pinned", due(&[0, 0], [2, 9, 22]), pinned(&[first, second]))?;
     same("pinned totals, lift of no pin", due(&[10], [0; 3]), pinned(&[lifted]))?;
 
-    let sized = |words: usize, bytes: usize| {
-        plan(&job, &[], aim, &mut [], &mut vec![0; words], &mut vec![0; bytes])
-    };
-    same("79 words", Err(Refusal::TableTooShort), sized(79, 9))?;
-    for bytes in [0, 5, 6, 8] {
-        same("too few plan bytes", Err(Refusal::ListTooShort), sized(80, bytes))?;
-    }
-    same("80 words, nine bytes", Ok(found.1), sized(80, 9))?;
-
     let replayed = |calls: &[Call], entries: &[u8]| {
         let mut levels = [9; 6];
         replay(&job, calls, entries, &mut levels).map(|replayed| (replayed, levels))
@@ -4138,21 +4273,25 @@ fn job_a_group() -> Result<String, String> {
     same("decoder over", violated(Violation::DecoderOver, 2, [4, 2, 9, 9, 9, 9]), over)?;
     let short = replayed(&[], &[0, 255, 255, 0, 1, 0, 0, 1, 0]);
     same("decoder short", violated(Violation::DecoderShort, 2, [0, 0, 9, 9, 9, 9]), short)?;
-    let clean = Ok((Replayed::Clean(found.1), LEVELS_A));
-    same("the best plan", clean, replayed(&[], &BEST_A))?;
+    let clean = Ok((Replayed::Clean(typed_totals(&TOTALS_A)), LEVELS_A));
+    same("the best plan, late", clean, replayed(&[], &LATE_A))?;
+    let clean = Ok((Replayed::Clean(typed_totals(&EARLY_TOTALS_A[..4])), [4, 2, 0, 0, 2, 2]));
+    same("the best plan, early", clean, replayed(&[], &EARLY_A))?;
     // Of distortion 42, but with 2 + 4 grains in a decoder of 4 before unit 2
     // leaves with 5 of them.
     let finer = [1, 255, 255, 1, 1, 0, 2, 0, 0];
     let over = replayed(&[], &finer);
     same("over before unit 2", violated(Violation::DecoderOver, 3, [2, 0, 2, 0, 9, 9]), over)?;
     for (pinned, entries, levels) in
-        [(first, finer, [2, 0, 9, 9, 9, 9]), (other, BEST_A, [0, 0, 9, 9, 9, 9])]
+        [(first, finer, [2, 0, 9, 9, 9, 9]), (other, LATE_A, [0, 0, 9, 9, 9, 9])]
     {
         let unheld = replayed(&[pinned], &entries);
         same("a pin not held", violated(Violation::PinNotHeld, 2, levels), unheld)?;
     }
 
-    for (entries, due) in [(finer, [2, 2, 4, 9]), (BEST_A, [0, 4, 2, 9])] {
+    for (entries, due) in
+        [(finer, [2, 2, 4, 9]), (LATE_A, [0, 4, 2, 9]), (EARLY_A, [4, 0, 4, 9])]
+    {
         let mut sums = [9; 4];
         same("report", Ok(()), report(&job, &entries, &mut sums))?;
         same("effective buffers", due, sums)?;
@@ -4252,7 +4391,9 @@ fn order_group() -> Result<String, String> {
                 format!("{buckets} buckets, job {wrong}, defects {bits:b}: {trouble}")
             };
             check_calls_order(&mut rng, &job, wrong, has).map_err(named)?;
-            check_plan_order(&mut rng, known, &job, wrong, has).map_err(named)?;
+            for order in ORDERS {
+                check_plan_order(&mut rng, order, known, &job, wrong, has).map_err(named)?;
+            }
             check_other_orders(&mut rng, known, &job, wrong, has).map_err(named)?;
             for door in DOORS {
                 check_open_order(&mut rng, door, known, &job, wrong, has).map_err(named)?;
@@ -4286,6 +4427,7 @@ fn check_calls_order(
 
 fn check_plan_order(
     rng: &mut Rng,
+    order: Order,
     known: &Known,
     job: &[u8],
     wrong: Refusal,
@@ -4298,7 +4440,7 @@ fn check_plan_order(
     let lengths = [
         cut_to(2, answers, by_all),
         cut_to(known.table.len(), table, by_all),
-        cut_to(BEST_A.len(), entries, by_all),
+        cut_to(LATE_A.len(), entries, by_all),
         cut_to(known.totals.len(), values, by_all),
     ];
     let mut lent = PlanLists::new(rng, lengths);
@@ -4312,13 +4454,13 @@ fn check_plan_order(
         (values, 12),
         (no_plan, 13),
     ]);
-    same("plan", due, lent.plan(job, &calls))?;
+    same(&format!("plan, {order:?}"), due, lent.plan(order, job, &calls))?;
     match due {
         0 => {
             lent.answers.wrote("answers", &[0, 0])?;
             lent.table.wrote("table", &known.table)?;
-            lent.entries.wrote("entries", &BEST_A)?;
-            lent.values.wrote("values", &known.totals)
+            lent.entries.wrote("entries", &best_a(order))?;
+            lent.values.wrote("values", known.totals_in(order))
         }
         13 => {
             let read = read_job(&mut Reader { rest: job }).expect("Job A");
@@ -4338,7 +4480,7 @@ fn check_other_orders(
 ) -> Checked {
     let [short, kind, cut, shape, list] = std::array::from_fn(&has);
     let by_all = has(7);
-    let mut entries = BEST_A.to_vec();
+    let mut entries = LATE_A.to_vec();
     if shape {
         match has(5) {
             true => entries[3] = 3,
@@ -4403,7 +4545,7 @@ fn lengths_group() -> Result<String, String> {
 fn check_lengths(rng: &mut Rng, known: &Known) -> Result<usize, String> {
     let job = known.draft.bytes();
     let calls = [6, 1, 1, 7, 1, 0, 7, 1, 0, 6, 2, 1];
-    let needs = [4, known.table.len(), BEST_A.len(), known.totals.len()];
+    let needs = [4, known.table.len(), LATE_A.len(), known.totals.len()];
     let mut lists = 0;
     for (which, need) in needs.into_iter().enumerate() {
         for length in 0..=need + 2 {
@@ -4412,15 +4554,16 @@ fn check_lengths(rng: &mut Rng, known: &Known) -> Result<usize, String> {
             let mut lent = PlanLists::new(rng, lengths);
             let number = if which == 1 { 11 } else { 12 };
             let due = if length < need { number } else { 0 };
-            let found = lent.plan(&job, &calls);
+            let order = order_in_turn(length);
+            let found = lent.plan(order, &job, &calls);
             let what = format!("list {which} of {length}");
             same(&what, due, found)?;
             if due > 0 {
                 lent.kept().map_err(|trouble| format!("{what}: {trouble}"))?;
             } else {
                 lent.answers.wrote("answers", &[0, 0, 10, 0])?;
-                lent.entries.wrote("entries", &BEST_A)?;
-                lent.values.wrote("values", &known.totals)?;
+                lent.entries.wrote("entries", &best_a(order))?;
+                lent.values.wrote("values", known.totals_in(order))?;
             }
             lists += 1;
         }
@@ -4461,14 +4604,14 @@ fn check_lengths(rng: &mut Rng, known: &Known) -> Result<usize, String> {
         lists += 3;
     }
     // A plan is 3 x T bytes, and no other length will do.
-    for length in 0..=2 * BEST_A.len() {
+    for length in 0..=2 * LATE_A.len() {
         let mut levels = Lent::<u16>::new(rng, needs[0]);
         let mut values = Lent::<u64>::new(rng, needs[1]);
         let mut sums = Lent::<u32>::new(rng, 3);
-        let entries: Vec<u8> = BEST_A.into_iter().cycle().take(length).collect();
+        let entries: Vec<u8> = LATE_A.into_iter().cycle().take(length).collect();
         let replayed = numbers::replay(&job, &[], &entries, levels.list(), values.list());
         let reported = numbers::report(&job, &entries, sums.list());
-        let due = if length == BEST_A.len() { 0 } else { 14 };
+        let due = if length == LATE_A.len() { 0 } else { 14 };
         same(&format!("a plan of {length} bytes"), [due; 2], [replayed, reported])?;
         levels.wrote("levels", if due > 0 { &[] } else { &known.levels })?;
         sums.wrote("sums", if due > 0 { &[] } else { &[0, 4, 2] })?;
@@ -4496,11 +4639,11 @@ fn kinds_group() -> Result<String, String> {
                 let due = first_of(&[(!known, 2), (!tail.is_empty(), 1)]);
                 let mut made = CallLists::new(&mut rng, [4, CALLS_VALUES]);
                 let alone = made.make(&job, &calls);
-                let mut lent = PlanLists::new(&mut rng, [4, 80, BEST_A.len(), TOTALS_A.len()]);
-                let found = lent.plan(&job, &calls);
+                let mut lent = PlanLists::new(&mut rng, [4, 80, LATE_A.len(), TOTALS_A.len()]);
+                let found = lent.plan(rng.pick(&ORDERS), &job, &calls);
                 let mut levels = Lent::<u16>::new(&mut rng, 6);
                 let mut values = Lent::<u64>::new(&mut rng, 2 + TOTALS_A.len());
-                let again = numbers::replay(&job, &calls, &BEST_A, levels.list(), values.list());
+                let again = numbers::replay(&job, &calls, &LATE_A, levels.list(), values.list());
                 same(&format!("calls {calls:?}"), [due; 3], [alone, found, again])?;
                 if due > 0 {
                     made.kept()?;
@@ -4656,9 +4799,9 @@ fn never_drains_group() -> Result<String, String> {
     for draft in &drains_of_a() {
         let asked = Asked::new(&mut rng, draft);
         let found = upload_planner::turned(&asked.bytes, &[0, 255, 2, 0, 1, 1]);
-        same("turned by hand", Ok(BEST_A.to_vec()), found)?;
+        same("turned by hand", Ok(LATE_A.to_vec()), found)?;
         let mut sums = Lent::new(&mut rng, 3);
-        same("report by hand", 0, numbers::report(&asked.bytes, &BEST_A, sums.list()))?;
+        same("report by hand", 0, numbers::report(&asked.bytes, &LATE_A, sums.list()))?;
         sums.wrote("sums by hand", &[0, 4, 2])?;
     }
     Ok(format!("{} replays by hand, each with {} lists of calls", rows.len(), idle_calls().len()))
@@ -4753,7 +4896,8 @@ fn check_never_order(
         [cut_to(2, list, by_all), cut_to(2000, shape, by_all), cut_to(9, has(5), by_all), 5];
     let mut lent = PlanLists::new(rng, lengths);
     let aim = if has(6) { rng.pick(&WRONG_AIMS) } else { rng.pick(&[TOTAL, EVEN]) };
-    same("plan", due, lent.plan_for(aim, job, &calls))?;
+    let order = if rng.one_in(2) { rng.pick(&WRONG_AIMS) } else { rng.pick(&[EARLY, LATE]) };
+    same("plan", due, lent.plan_for(aim, order, job, &calls))?;
     lent.kept()?;
 
     check_open_order(rng, Door::Opening, known, job, opened, &has)?;
@@ -4766,7 +4910,7 @@ fn check_never_order(
     let mut entries = Lent::new(rng, cut_to(9, list, by_all));
     let due = first_of(&[(wrong > 0, wrong), (shape, 14), (list, 12)]);
     same("turn", due, numbers::turn(job, &old, entries.list()))?;
-    entries.wrote("entries of turning", if due == 0 { &BEST_A } else { &[] })
+    entries.wrote("entries of turning", if due == 0 { &LATE_A } else { &[] })
 }
 
 /// Every short list of calls before a replay on a line that never drains, and calls of
@@ -4781,7 +4925,7 @@ fn stored_calls_group() -> Result<String, String> {
         }
         let known = &lines[index % lines.len()];
         let asked = Asked::new(&mut rng, &known.draft.commanded(list));
-        let plan = read_plan(&asked.job, &BEST_A).expect("a plan");
+        let plan = read_plan(&asked.job, &LATE_A).expect("a plan");
         let mut check = || -> Checked {
             same("answers", vec![17; list.len()], asked.answers.clone())?;
             let due = follow(&asked.job, &asked.pins, &plan);
@@ -4803,7 +4947,7 @@ fn stored_calls_group() -> Result<String, String> {
             let due = first_of(&[(kind != 6 && kind != 7, 2), (!tail.is_empty(), 1)]);
             let mut levels = Lent::new(&mut rng, known.levels.len());
             let mut values = Lent::new(&mut rng, 2 + known.totals.len());
-            let found = numbers::replay(&job, &calls, &BEST_A, levels.list(), values.list());
+            let found = numbers::replay(&job, &calls, &LATE_A, levels.list(), values.list());
             same(&format!("calls {calls:?}"), due, found)?;
             let replayed = [&[0, 0], &known.totals[..]].concat();
             levels.wrote("levels", if due > 0 { &[] } else { &known.levels })?;
@@ -5094,7 +5238,7 @@ impl Desk {
     /// Plans, before that with one of the lists one short. Gives the plan due.
     fn plan(&mut self, rng: &mut Rng, aim: Aim, order: Order) -> Result<Option<Plan>, String> {
         let due = due_for(aim, &self.job, &self.pins());
-        let plan = due.plan_in(order).clone();
+        let plan = plan_in(order, &due.plans).clone();
         self.plan_due(rng, aim, order, due.table, &plan)
             .map_err(|trouble| format!("{aim:?}, {order:?}: {trouble}"))?;
         Ok(plan)
@@ -5160,6 +5304,7 @@ impl Desk {
             &asked.bytes,
             &asked.calls,
             TOTAL,
+            order_in_turn(asked.answers.len()).number(),
             &mut vec![0; answers],
             self.table.list(),
             &mut vec![0; entries],
@@ -5201,31 +5346,15 @@ impl Desk {
     }
 }
 
-/// The order in which planning by calls, which takes none, chooses.
-const ORDER_OF_CALLS: Order = Order::Late;
-
-/// What planning for an aim is to leave, and to give in either order.
-struct InOrders {
-    table: Vec<u32>,
-    /// As in `ORDERS`.
-    plans: [Option<Plan>; 2],
-}
-
-impl InOrders {
-    fn plan_in(&self, order: Order) -> &Option<Plan> {
-        &self.plans[order.number() as usize]
-    }
-}
-
-fn due_for(aim: Aim, job: &Job, pins: &Pins) -> InOrders {
+fn due_for(aim: Aim, job: &Job, pins: &Pins) -> Due {
     let limit = match aim {
         Aim::Total => None,
         Aim::Even => least_greatest(job, pins),
     };
     let job = limit.map_or(job.clone(), |limit| limited(job, limit));
     let table = fast_table(&job, pins);
-    let plans = ORDERS.map(|order| read_off_in(order, &job, pins, &table));
-    InOrders { table, plans }
+    let plans = read_off(&job, pins, &table);
+    Due { table, plans }
 }
 
 /// A call of a sitting: about a third are refused.
@@ -5868,7 +5997,7 @@ fn check_plan_set_order(
     ]);
     let job = &asked.job;
     let mut table = Lent::new(rng, cut_to(job.words(), table, by_all));
-    let mut entries = Lent::new(rng, cut_to(BEST_A.len(), entries, by_all));
+    let mut entries = Lent::new(rng, cut_to(LATE_A.len(), entries, by_all));
     let mut values = Lent::new(rng, cut_to(plan_values(job), values, by_all));
     let named = [(aim, rng.pick(&[TOTAL, EVEN])), (order, rng.pick(&[EARLY, LATE]))];
     let [aim, order] =
@@ -5887,21 +6016,16 @@ fn check_plan_set_order(
     }
     match due {
         0 => {
-            let plan = if order == EARLY { &EARLY_A } else { &BEST_A };
+            let plan = if order == EARLY { &EARLY_A } else { &LATE_A };
             entries.wrote("entries", plan)?;
             // Unused grains of each bucket: the drain of the first interval, or none.
-            let totals: [u64; 5] = if order == EARLY { [50, 6, 8, 0, 0] } else { [50, 6, 6, 2, 2] };
+            let totals = if order == EARLY { EARLY_TOTALS_A } else { [50, 6, 6, 2, 2] };
             values.wrote("values", &totals[..plan_values(job)])
         }
         13 => table.wrote("table", &fast_table(job, &pins_of(job, &book))),
         _ => Ok(()),
     }
 }
-
-/// Job A's best plan where as much as possible is sent early, and which comes to the same
-/// total: the first interval fills the decoder, the second sends nothing, and the third,
-/// in which unit 2 takes 2 grains, sends 4.
-const EARLY_A: [u8; 9] = [2, 255, 255, 0, 0, 0, 2, 1, 0];
 
 /// On a line that never drains too: there the plan is followed with the set's pins.
 fn check_replay_set_order(
@@ -5914,7 +6038,7 @@ fn check_replay_set_order(
     let job = &asked.job;
     let book = if not_held { Book::from([(2, 0)]) } else { Book::from([(2, 1)]) };
     let set = faulty_set(rng, asked, &book, &has);
-    let mut entries = BEST_A.to_vec();
+    let mut entries = LATE_A.to_vec();
     if shape {
         match other {
             true => entries[3] = 3,
@@ -5933,7 +6057,7 @@ fn check_replay_set_order(
         levels.kept("levels")?;
         return values.kept("values of replay");
     }
-    let plan = read_plan(job, &BEST_A).expect("a plan");
+    let plan = read_plan(job, &LATE_A).expect("a plan");
     let followed = follow(job, &pins_of(job, &book), &plan);
     levels.wrote("levels", &followed.levels)?;
     values.wrote("values of replay", &followed.values)
@@ -5970,7 +6094,7 @@ fn seen_by_hand_group() -> Result<String, String> {
     let mut calls = 0;
     for Known { draft, table, totals, .. } in known_lines() {
         let mut desk = Desk::new(&mut rng, &draft)?;
-        for (order, entries) in [(Order::Early, EARLY_A), (Order::Late, BEST_A)] {
+        for (order, entries) in [(Order::Early, EARLY_A), (Order::Late, LATE_A)] {
             let plan = desk.plan(&mut rng, Aim::Total, order)?.map(|plan| plan_bytes(&plan));
             same(&format!("{order:?}"), Some(entries.to_vec()), plan)?;
         }
@@ -6505,8 +6629,7 @@ struct Ends {
 }
 
 /// The end of a sitting: a fresh session with its pins, its plans for both aims and in
-/// both orders, and their replays. By calls that set the same pins the plans are those of
-/// one order.
+/// both orders, and their replays. By calls that set the same pins the plans are the same.
 fn check_end(rng: &mut Rng, desk: &mut Desk, ends: &mut Ends) -> Checked {
     let (pins, words) = (desk.pins(), desk.job.words());
     let calls = fresh_calls(rng, &pins);
@@ -6527,9 +6650,11 @@ fn check_end(rng: &mut Rng, desk: &mut Desk, ends: &mut Ends) -> Checked {
         let [early, late] = ORDERS.map(|order| desk.plan(rng, aim, order));
         let (early, late) = (early?, late?);
         same("a plan in both orders", early.is_some(), late.is_some())?;
-        let due = planned_numbers_for(aim, &asked);
-        let found = set_planned(aim, ORDER_OF_CALLS, desk);
-        ensure!(due == found, "{aim:?}: by calls another plan than by the set");
+        for order in ORDERS {
+            let due = planned_numbers_for(aim, order, &asked);
+            let found = set_planned(aim, order, desk);
+            ensure!(due == found, "{aim:?}, {order:?}: by calls another plan than by the set");
+        }
         for plan in early.iter().chain(&late) {
             same("a plan's replay", 0, desk.replay(rng, plan)?[0])?;
         }
@@ -6725,8 +6850,11 @@ fn set_plans_group(seed: u64, asks: bool) -> Result<String, String> {
                     desk.plan(&mut rng, aim, Order::Late)?,
                 ];
                 same("every plan, and those read off", [&early, &late], [&found[0], &found[1]])?;
-                let found = set_planned(aim, ORDER_OF_CALLS, &desk);
-                ensure!(planned_numbers_for(aim, &asked) == found, "by calls another plan");
+                for order in ORDERS {
+                    let found = set_planned(aim, order, &desk);
+                    let due = planned_numbers_for(aim, order, &asked);
+                    ensure!(due == found, "{order:?}: by calls another plan");
+                }
                 plans[which] += late.is_some() as usize;
                 orders[which] += (early != late) as usize;
                 // Early and late differ in a rate first; a choice decides after that.
@@ -6826,7 +6954,7 @@ fn set_never_group() -> Result<String, String> {
     for Known { draft, levels, totals, .. } in stored_lines() {
         let Asked { bytes, job, .. } = Asked::new(&mut rng, &draft);
         let each = 1 + job.buckets.len();
-        let plan = read_plan(&job, &BEST_A).expect("a plan");
+        let plan = read_plan(&job, &LATE_A).expect("a plan");
         let clean = [&[0, 0], &totals[..]].concat();
         // Unit 1 has choice 0 in interval 2, unit 2 choice 1 in interval 3.
         for (book, held) in [
@@ -7106,20 +7234,20 @@ fn check_example(rng: &mut Rng, input: &[u8]) -> Result<[usize; 3], String> {
     Ok(counts)
 }
 
-/// Has the draft's job written, opened and planned. Gives the best plan.
+/// Has the draft's job written, opened and planned. Gives the best plan in the early order.
 fn check_changed(rng: &mut Rng, draft: &Draft) -> Result<Option<Plan>, String> {
     let lists = Lists::of_draft(draft);
     same("write", 0, check_write(rng, &lists, room_for(&lists), 1)?)?;
     let asked = Asked { bytes: written(&lists)?, ..Asked::new(rng, draft) };
     let table = fast_table(&asked.job, &asked.pins);
-    let plan = read_off(&asked.job, &asked.pins, &table);
+    let plans = read_off(&asked.job, &asked.pins, &table);
     if asked.job.plans().is_some_and(|plans| plans <= ENUMERATION_LIMIT) {
-        same("plan read off", &enumerate(&asked.job, &asked.pins).best, &plan)?;
+        same("plan read off", &enumerate(&asked.job, &asked.pins).best, &plans)?;
     }
     check_open(rng, &asked)?;
-    check_plan(rng, &asked, &table, &plan)?;
-    check_typed(&asked, &table, &plan)?;
-    Ok(plan)
+    check_plan(rng, &asked, &table, &plans)?;
+    check_typed(&asked, &table, &plans)?;
+    Ok(plan_in(Order::Early, &plans).clone())
 }
 
 // ---------------------------------------------------------------------------
@@ -7751,13 +7879,16 @@ fn check_large(rng: &mut Rng, size: &Size, second: Option<[u16; 3]>) -> Result<u
     let draft = large_job(rng, size, second);
     let asked = Asked::new(rng, &draft);
     let table = fast_table(&asked.job, &asked.pins);
-    let plan = read_off(&asked.job, &asked.pins, &table).ok_or("no plan".to_string())?;
+    let plans = read_off(&asked.job, &asked.pins, &table);
     let word = table[asked.job.word(0, asked.job.start_decoder, &asked.job.start_levels())];
-    let distortion = totals_of(&asked, &plan).map(|totals| totals[0]);
-    same("the table's word of the start", Some(word as u64), distortion)?;
     check_open(rng, &asked)?;
-    check_report(rng, &asked, &plan)?;
-    check_plan(rng, &asked, &table, &Some(plan))?;
+    for plan in &plans {
+        let plan = plan.as_ref().ok_or("no plan".to_string())?;
+        let distortion = totals_of(&asked, plan).map(|totals| totals[0]);
+        same("the table's word of the start", Some(word as u64), distortion)?;
+        check_report(rng, &asked, plan)?;
+    }
+    check_plan(rng, &asked, &table, &plans)?;
     Ok(table.len())
 }
 
@@ -7832,6 +7963,7 @@ fn run_all(new_seed: u64, with_full: bool, examples: Option<&Path>) -> bool {
     seeded("tiny jobs", &[1, 2, 3], tiny_group);
     seeded("tight jobs", &[1, 2], tight_group);
     seeded("idle jobs", &[1, 2], idle_group);
+    seeded("jobs full of ties", &[1, 2], equal_group);
     seeded("calls", &[1, 2], calls_group);
     seeded("long sessions", &[1, 2], sessions_group);
     seeded("books of pins", &[1, 2], books_group);

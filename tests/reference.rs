@@ -438,10 +438,18 @@ pub const RULES: Rules = Rules { decoder: by_peak, fill: by_each, meet: |levels|
 // The best plan: every plan replayed, and a dynamic program.
 // ---------------------------------------------------------------------------
 
-/// Rate index and choice index of one interval. The order of tuples and of
-/// lists of them is the order that decides between equal plans.
+/// Rate index and choice index of one interval. Which of two equal plans is given is
+/// decided by their ranks in an `Order`.
 pub type Entry = (usize, usize);
 pub type Plan = Vec<Entry>;
+
+/// The plan due in each order, as in `ORDERS`.
+pub type Plans = [Option<Plan>; 2];
+
+/// The one that is due in this order.
+pub fn plan_in(order: Order, plans: &Plans) -> &Option<Plan> {
+    &plans[order.number() as usize]
+}
 
 #[derive(Clone, Debug, Default, PartialEq)]
 pub struct Totals {
@@ -521,53 +529,62 @@ pub fn next_plan(job: &Job, plan: &mut Plan) -> bool {
 }
 
 pub struct Enumerated {
-    pub best: Option<Plan>,
+    pub best: Plans,
     /// How many admissible plans share the least distortion.
     pub equals: usize,
 }
 
-/// Replays every plan in range and keeps the first in the paper's order.
+/// Replays every plan in range and keeps the first in each of the paper's orders.
 pub fn enumerate(job: &Job, pins: &Pins) -> Enumerated {
     let first = |t| (0, if t > job.delay { 0 } else { NO_CHOICE });
     let mut plan: Plan = (1..=job.intervals()).map(first).collect();
-    let mut best: Option<(i64, Plan)> = None;
+    let mut least = i64::MAX;
+    let mut best: Plans = [None, None];
     let mut equals = 0;
     loop {
         if let Some(totals) = replay(job, pins, &plan, |_, _| ()) {
-            let least = best.as_ref().map_or(i64::MAX, |found| found.0);
             if totals.distortion < least {
-                equals = 0;
+                (least, best, equals) = (totals.distortion, [None, None], 0);
             }
-            if totals.distortion <= least {
+            if totals.distortion == least {
                 equals += 1;
-                let candidate = (totals.distortion, plan.clone());
-                best = Some(best.map_or(candidate.clone(), |found| found.min(candidate)));
+                for (order, held) in ORDERS.iter().zip(&mut best) {
+                    if held.as_ref().map_or(true, |held| order.prefers(job, &plan, held)) {
+                        *held = Some(plan.clone());
+                    }
+                }
             }
         }
         if !next_plan(job, &mut plan) {
-            return Enumerated { best: best.map(|found| found.1), equals };
+            return Enumerated { best, equals };
         }
     }
 }
 
-/// A path: where it has come to, at what distortion and by which entries.
+/// A path: where it has come to, at what distortion and by which entries, these ranked in
+/// the order asked for.
 pub struct Branch {
     pub decoder: i64,
     pub levels: Levels,
     pub distortion: i64,
-    pub entries: Plan,
+    pub ranks: Plan,
 }
 
-pub fn dynamic(job: &Job, pins: &Pins) -> Option<Plan> {
-    dynamic_by(&RULES, job, pins)
+pub fn dynamic(order: Order, job: &Job, pins: &Pins) -> Option<Plan> {
+    dynamic_by(&RULES, order, job, pins)
+}
+
+/// In each order.
+pub fn dynamics(job: &Job, pins: &Pins) -> Plans {
+    ORDERS.map(|order| dynamic(order, job, pins))
 }
 
 /// Carries the best path to each set of levels forward, interval by interval.
 /// Paths that meet in all levels have the same continuations, so the better
-/// of the two (then the earlier in order) may stand for both.
-pub fn dynamic_by(rules: &Rules, job: &Job, pins: &Pins) -> Option<Plan> {
+/// of the two (then the first in order) may stand for both.
+pub fn dynamic_by(rules: &Rules, order: Order, job: &Job, pins: &Pins) -> Option<Plan> {
     let (decoder, levels) = (job.start_decoder, job.start_levels());
-    let mut layer = vec![Branch { decoder, levels, distortion: 0, entries: Vec::new() }];
+    let mut layer = vec![Branch { decoder, levels, distortion: 0, ranks: Vec::new() }];
     for t in 1..=job.intervals() {
         let options = options(job, pins, t);
         let mut next: BTreeMap<(i64, Levels), Branch> = BTreeMap::new();
@@ -582,7 +599,8 @@ pub fn dynamic_by(rules: &Rules, job: &Job, pins: &Pins) -> Option<Plan> {
                     let Some(decoder) = decoder else { continue };
                     let place = next.entry((decoder, (rules.meet)(&levels)));
                     let distortion = branch.distortion + distortion;
-                    offer(place, branch, decoder, levels, distortion, (rate, choice));
+                    let rank = (order.place(job, rate), choice);
+                    offer(place, branch, decoder, levels, distortion, rank);
                 }
             }
         }
@@ -590,8 +608,8 @@ pub fn dynamic_by(rules: &Rules, job: &Job, pins: &Pins) -> Option<Plan> {
     }
     let best = layer
         .into_iter()
-        .min_by(|a, b| (a.distortion, &a.entries).cmp(&(b.distortion, &b.entries)))?;
-    Some(best.entries)
+        .min_by(|a, b| (a.distortion, &a.ranks).cmp(&(b.distortion, &b.ranks)))?;
+    Some(order.ranked(job, &best.ranks))
 }
 
 /// What interval t may decode: choice, grains and distortion.
@@ -605,36 +623,37 @@ pub fn options(job: &Job, pins: &Pins, t: usize) -> Vec<(usize, i64, i64)> {
     held.map(|(index, choice)| (index, choice.grains, choice.distortion)).collect()
 }
 
-/// Keeps `branch` extended by `entry` in a place if it is the better one there.
+/// Keeps `branch` extended by an entry of this rank in a place if it is the better one
+/// there.
 pub fn offer(
     place: MapEntry<(i64, Levels), Branch>,
     branch: &Branch,
     decoder: i64,
     levels: Levels,
     distortion: i64,
-    entry: Entry,
+    rank: Entry,
 ) {
     if let MapEntry::Occupied(held) = &place {
         let held = held.get();
-        let order = branch.entries.iter().chain([&entry]).cmp(held.entries.iter());
+        let order = branch.ranks.iter().chain([&rank]).cmp(held.ranks.iter());
         if distortion.cmp(&held.distortion).then(order).is_ge() {
             return;
         }
     }
-    let mut entries = branch.entries.clone();
-    entries.push(entry);
-    let better = Branch { decoder, levels, distortion, entries };
+    let mut ranks = branch.ranks.clone();
+    ranks.push(rank);
+    let better = Branch { decoder, levels, distortion, ranks };
     match place {
         MapEntry::Occupied(mut held) => drop(held.insert(better)),
         MapEntry::Vacant(free) => drop(free.insert(better)),
     }
 }
 
-pub fn best_plan(job: &Job, pins: &Pins) -> Option<Plan> {
+pub fn best_plan(order: Order, job: &Job, pins: &Pins) -> Option<Plan> {
     if job.plans().is_some_and(|plans| plans <= ENUMERATION_LIMIT) {
-        enumerate(job, pins).best
+        plan_in(order, &enumerate(job, pins).best).clone()
     } else {
-        dynamic(job, pins)
+        dynamic(order, job, pins)
     }
 }
 
@@ -701,6 +720,27 @@ impl Order {
     pub fn rank(self, job: &Job, plan: &Plan) -> Plan {
         plan.iter().map(|&(rate, choice)| (self.place(job, rate), choice)).collect()
     }
+
+    /// The plan of this rank.
+    pub fn ranked(self, job: &Job, ranks: &Plan) -> Plan {
+        let rate = |place| (0..job.rates.len()).find(|&rate| self.place(job, rate) == place);
+        ranks.iter().map(|&(place, choice)| (rate(place).expect("a rate"), choice)).collect()
+    }
+
+    /// In the words of document 02, and apart from the ranks: at the first difference the
+    /// rate decides by its index, and where that is the same the smaller choice.
+    pub fn prefers(self, job: &Job, plan: &Plan, other: &Plan) -> bool {
+        for t in 0..job.intervals() {
+            let ((rate, choice), (held, held_choice)) = (plan[t], other[t]);
+            if rate != held {
+                return if self == Order::Early { rate > held } else { rate < held };
+            }
+            if choice != held_choice {
+                return choice < held_choice;
+            }
+        }
+        false
+    }
 }
 
 /// No choice is left out: more than any distortion.
@@ -737,7 +777,7 @@ pub fn admissible_plans(job: &Job, pins: &Pins) -> Vec<Judged> {
 }
 
 pub struct Evened {
-    pub best: Option<Plan>,
+    pub best: Plans,
     /// The least that the greatest distortion of a plan can be.
     pub greatest: Option<i64>,
     /// How many admissible plans have it.
@@ -756,7 +796,7 @@ pub fn enumerate_even(job: &Job, pins: &Pins) -> Evened {
     let total = plans.iter().map(|judged| judged.total).min();
     plans.retain(|judged| Some(judged.total) == total);
     let equals = plans.len();
-    let best = plans.into_iter().map(|judged| judged.plan).min();
+    let best = ORDERS.map(|order| first_plan(job, Aim::Even, order, &plans));
     Evened { best, greatest, as_even, equals }
 }
 
@@ -767,6 +807,47 @@ pub fn first_plan(job: &Job, aim: Aim, order: Order, plans: &[Judged]) -> Option
         (greatest, judged.total, order.rank(job, &judged.plan))
     };
     plans.iter().min_by_key(key).map(|judged| judged.plan.clone())
+}
+
+/// The plan that is first in this order of those whose every entry attains the table's
+/// word.
+pub fn read_off_in(order: Order, job: &Job, pins: &Pins, table: &[u32]) -> Option<Plan> {
+    read_off_by(by_peak, order, job, pins, table)
+}
+
+pub fn read_off_by(
+    decoder_rule: Decoder,
+    order: Order,
+    job: &Job,
+    pins: &Pins,
+    table: &[u32],
+) -> Option<Plan> {
+    let word = |t: usize, decoder: i64, levels: &Levels| table[job.word(t, decoder, levels)];
+    let mut rates: Vec<(usize, i64)> = job.rates.iter().copied().enumerate().collect();
+    rates.sort_by_key(|&(rate, _)| order.place(job, rate));
+    let (mut decoder, mut levels) = (job.start_decoder, job.start_levels());
+    if word(0, decoder, &levels) == u32::MAX {
+        return None;
+    }
+    let mut plan = Vec::new();
+    for t in 1..=job.intervals() {
+        let due = word(t - 1, decoder, &levels);
+        let mut taken = None;
+        for &(rate, sent) in &rates {
+            for (choice, grains, distortion) in options(job, pins, t) {
+                let Some(level) = decoder_rule(job, decoder, sent, grains) else { continue };
+                let Some(after) = filled(job, &levels, sent) else { continue };
+                let rest = word(t, level, &after);
+                if taken.is_none() && rest != u32::MAX && distortion as u32 + rest == due {
+                    taken = Some(((rate, choice), level, after));
+                }
+            }
+        }
+        let (entry, level, after) = taken.expect("an entry that attains the word");
+        plan.push(entry);
+        (decoder, levels) = (level, after);
+    }
+    Some(plan)
 }
 
 /// The least that intervals t + 1 to T add from these levels, by trying every
@@ -862,9 +943,9 @@ pub fn limited(job: &Job, limit: i64) -> Job {
 
 /// The least greatest distortion by the search forward, then the dynamic program over
 /// the choices that this leaves.
-pub fn dynamic_even(job: &Job, pins: &Pins) -> Option<Plan> {
+pub fn dynamic_even(order: Order, job: &Job, pins: &Pins) -> Option<Plan> {
     let limit = least_greatest(job, pins)?;
-    dynamic(&limited(job, limit), pins)
+    dynamic(order, &limited(job, limit), pins)
 }
 
 // ---------------------------------------------------------------------------
@@ -1014,20 +1095,24 @@ pub fn read_set(job: &Job, numbers: &[u32]) -> Option<Book> {
 
 /// Says of each mistaken rule, by its name, whether a job has another answer under
 /// it, only to count the jobs that tell it from the right one. The plan is the
-/// job's best, if there is one.
-pub type Mistakes = fn(&Job, &Pins, Option<&Plan>) -> Vec<(&'static str, bool)>;
+/// job's best in the order, if there is one.
+pub type Mistakes = fn(Order, &Job, &Pins, Option<&Plan>) -> Vec<Mistake>;
+
+/// A mistaken rule by its name, and whether it shows.
+pub type Mistake = (&'static str, bool);
 
 /// The decoder's: another plan is best, or there is one where there is none.
-pub fn decoder_mistakes(job: &Job, pins: &Pins, plan: Option<&Plan>) -> Vec<(&'static str, bool)> {
+pub fn decoder_mistakes(order: Order, job: &Job, pins: &Pins, plan: Option<&Plan>) -> Vec<Mistake> {
     let rules: [(&str, Decoder); 2] = [
         ("the size asked of the level alone", by_level),
         ("the peak cut down to the size", by_cut),
     ];
-    let told = |decoder| dynamic_by(&Rules { decoder, ..RULES }, job, pins).as_ref() != plan;
+    let told = |decoder| dynamic_by(&Rules { decoder, ..RULES }, order, job, pins).as_ref() != plan;
     rules.map(|(name, rule)| (name, told(rule))).to_vec()
 }
 
-fn by_level(job: &Job, before: i64, sent: i64, taken: i64) -> Option<i64> {
+/// The decoder's former rule: the size is asked of the level after the unit has left.
+pub fn by_level(job: &Job, before: i64, sent: i64, taken: i64) -> Option<i64> {
     let level = before + sent - taken;
     (0..=job.decoder_size).contains(&level).then_some(level)
 }
@@ -1037,8 +1122,84 @@ fn by_cut(job: &Job, before: i64, sent: i64, taken: i64) -> Option<i64> {
     (level >= 0).then_some(level)
 }
 
+/// The same, and that of a program that fills the table by the right rule and reads the
+/// plan off it by the decoder's former one. Every completion is tried for the table.
+pub fn tight_mistakes(order: Order, job: &Job, pins: &Pins, plan: Option<&Plan>) -> Vec<Mistake> {
+    let table = completed_table(job, pins, NO_LIMIT);
+    let former = former_mistakes(order, job, pins, plan, &table);
+    [decoder_mistakes(order, job, pins, plan), former].concat()
+}
+
+/// The plan read off the right table by the decoder's former rule. In the late order it is
+/// never another: a smaller rate than one that the decoder holds has a smaller peak.
+pub fn former_mistakes(
+    order: Order,
+    job: &Job,
+    pins: &Pins,
+    plan: Option<&Plan>,
+    table: &[u32],
+) -> Vec<Mistake> {
+    match order {
+        Order::Early => {
+            let found = read_off_by(by_level, order, job, pins, table);
+            vec![("read off by the level", found.as_ref() != plan)]
+        }
+        Order::Late => vec![],
+    }
+}
+
+/// Those of programs that decide between equal plans in another way.
+pub fn order_mistakes(order: Order, job: &Job, pins: &Pins, plan: Option<&Plan>) -> Vec<Mistake> {
+    let other = match order {
+        Order::Early => Order::Late,
+        Order::Late => Order::Early,
+    };
+    // With each unit's choices turned about the smaller index is the larger.
+    let last = job.choices() - 1;
+    let mut turned = job.clone();
+    turned.units.iter_mut().for_each(|unit| unit.reverse());
+    let pinned = pins.iter().map(|pinned| pinned.map(|choice| last - choice)).collect();
+    let back = |&(rate, choice): &Entry| match choice {
+        NO_CHOICE => (rate, choice),
+        _ => (rate, last - choice),
+    };
+    let larger = dynamic(order, &turned, &pinned).map(|plan| plan.iter().map(back).collect());
+    vec![
+        ("the other order", dynamic(other, job, pins).as_ref() != plan),
+        ("the larger choice", larger.as_ref() != plan),
+    ]
+}
+
+/// The same, and more of them. Every plan is tried.
+pub fn tie_mistakes(order: Order, job: &Job, pins: &Pins, plan: Option<&Plan>) -> Vec<Mistake> {
+    let mut plans = admissible_plans(job, pins);
+    let total = plans.iter().map(|judged| judged.total).min();
+    plans.retain(|judged| Some(judged.total) == total);
+    let by = |key: &dyn Fn(&Plan) -> Plan| {
+        let first = plans.iter().min_by_key(|judged| key(&order.rank(job, &judged.plan)));
+        first.map(|judged| &judged.plan) != plan
+    };
+    let grains = |ranks: &Plan| ranks.iter().map(|&(place, _)| place).sum();
+    let choice_first = |ranks: &Plan| ranks.iter().map(|&(place, choice)| (choice, place)).collect();
+    let rates_first = |ranks: &Plan| {
+        let rates = ranks.iter().map(|&(place, _)| (place, 0));
+        rates.chain(ranks.iter().map(|&(_, choice)| (choice, 0))).collect()
+    };
+    let mut told = order_mistakes(order, job, pins, plan);
+    told.extend([
+        ("all rates before the choices", by(&rates_first)),
+        ("the last difference", by(&|ranks| ranks.iter().rev().copied().collect())),
+        ("the sum of the rates", by(&|ranks| [&[(grains(ranks), 0)], &ranks[..]].concat())),
+    ]);
+    // Early the larger rate nearly always leaves the smaller choice too.
+    if order == Order::Late {
+        told.push(("the choice before the rate", by(&choice_first)));
+    }
+    told
+}
+
 /// The first bucket's: the best plan has another sum of unused drain.
-pub fn unused_mistakes(job: &Job, pins: &Pins, plan: Option<&Plan>) -> Vec<(&'static str, bool)> {
+pub fn unused_mistakes(_: Order, job: &Job, pins: &Pins, plan: Option<&Plan>) -> Vec<Mistake> {
     // Of each interval the level before, what is sent, and the level after.
     let mut steps = Vec::new();
     let bucket = job.buckets[0];
@@ -1066,7 +1227,7 @@ pub fn unused_mistakes(job: &Job, pins: &Pins, plan: Option<&Plan>) -> Vec<(&'st
 
 /// The second bucket's: something else is printed, be it the plan, a level or a
 /// total.
-pub fn second_mistakes(job: &Job, pins: &Pins, plan: Option<&Plan>) -> Vec<(&'static str, bool)> {
+pub fn second_mistakes(order: Order, job: &Job, pins: &Pins, plan: Option<&Plan>) -> Vec<Mistake> {
     let first = job.buckets[0];
     let second = |change: &dyn Fn(&mut Bucket)| job.with_bucket(1, change);
     let fill = |fill| Rules { fill, ..RULES };
@@ -1081,7 +1242,7 @@ pub fn second_mistakes(job: &Job, pins: &Pins, plan: Option<&Plan>) -> Vec<(&'st
     ];
     let due = plan.and_then(|plan| followed_by(&RULES, job, pins, plan));
     let told = |job: &Job, rules: &Rules| {
-        let other = dynamic_by(rules, job, pins);
+        let other = dynamic_by(rules, order, job, pins);
         let found = other.as_ref().and_then(|plan| followed_by(rules, job, pins, plan));
         other.as_ref() != plan || found != due
     };
@@ -1090,19 +1251,20 @@ pub fn second_mistakes(job: &Job, pins: &Pins, plan: Option<&Plan>) -> Vec<(&'st
 
 /// The same, and those of a search that takes paths for each other which differ in
 /// one bucket. Plans of few intervals seldom tell these.
-pub fn meeting_mistakes(job: &Job, pins: &Pins, plan: Option<&Plan>) -> Vec<(&'static str, bool)> {
+pub fn meeting_mistakes(order: Order, job: &Job, pins: &Pins, plan: Option<&Plan>) -> Vec<Mistake> {
     let meet = |meet| Rules { meet, ..RULES };
     let rows: [(&str, Rules); 2] = [
         ("paths met without the second level", meet(|levels| [levels[0], 0])),
         ("paths met without the first level", meet(|levels| [0, levels[1]])),
     ];
-    let told = rows.map(|(name, rules)| (name, dynamic_by(&rules, job, pins).as_ref() != plan));
-    [&second_mistakes(job, pins, plan)[..], &told].concat()
+    let other = |rules: &Rules| dynamic_by(rules, order, job, pins).as_ref() != plan;
+    let told = rows.map(|(name, rules)| (name, other(&rules)));
+    [&second_mistakes(order, job, pins, plan)[..], &told].concat()
 }
 
 /// Those of programs that count choices in a byte, or that have one price for all the
 /// choices of a size and take another choice than the best of them for it.
-pub fn choice_mistakes(job: &Job, pins: &Pins, plan: Option<&Plan>) -> Vec<(&'static str, bool)> {
+pub fn choice_mistakes(order: Order, job: &Job, pins: &Pins, plan: Option<&Plan>) -> Vec<Mistake> {
     let chosen = || plan.into_iter().flat_map(|plan| &plan[job.delay..]).map(|entry| entry.1);
     // Another choice like the one made stands behind it.
     let again = |(unit, choice): (usize, usize)| {
@@ -1112,7 +1274,7 @@ pub fn choice_mistakes(job: &Job, pins: &Pins, plan: Option<&Plan>) -> Vec<(&'st
         };
         pins[unit].is_none() && job.units[unit][choice + 1..].iter().any(like)
     };
-    let told = |replaces| dynamic(&priced(job, pins, replaces), pins).as_ref() != plan;
+    let told = |replaces| dynamic(order, &priced(job, pins, replaces), pins).as_ref() != plan;
     vec![
         ("the high byte lost", chosen().any(|choice| choice > 255)),
         ("255 for no unit", chosen().any(|choice| choice == 255)),
@@ -1126,7 +1288,7 @@ pub fn choice_mistakes(job: &Job, pins: &Pins, plan: Option<&Plan>) -> Vec<(&'st
 
 /// Those of programs for even pictures: another plan, or another table. Every plan is
 /// tried, and `plan` is the one due.
-pub fn even_mistakes(job: &Job, pins: &Pins, plan: Option<&Plan>) -> Vec<(&'static str, bool)> {
+pub fn even_mistakes(order: Order, job: &Job, pins: &Pins, plan: Option<&Plan>) -> Vec<Mistake> {
     let plans = admissible_plans(job, pins);
     let table = even_table(job, pins, plan.map(|plan| greatest(job, plan)));
     // The greatest of the units that are not pinned; 0 where all are.
@@ -1137,7 +1299,8 @@ pub fn even_mistakes(job: &Job, pins: &Pins, plan: Option<&Plan>) -> Vec<(&'stat
     };
     // The first plan by these numbers and then in order.
     let by = |key: &dyn Fn(&Judged) -> (i64, i64)| {
-        let first = plans.iter().min_by_key(|judged| (key(judged), &judged.plan));
+        let rank = |judged: &Judged| order.rank(job, &judged.plan);
+        let first = plans.iter().min_by_key(|judged| (key(judged), rank(judged)));
         first.map(|judged| &judged.plan)
     };
     let least_total = by(&|judged| (judged.total, 0));
@@ -1146,7 +1309,8 @@ pub fn even_mistakes(job: &Job, pins: &Pins, plan: Option<&Plan>) -> Vec<(&'stat
         let due = replay(job, pins, plan, |_, _| ())?.distortion;
         let as_good =
             |judged: &&Judged| (judged.greatest, judged.total) == (greatest(job, plan), due);
-        plans.iter().filter(as_good).map(|judged| &judged.plan).max()
+        let of = plans.iter().filter(as_good).map(|judged| &judged.plan);
+        of.max_by_key(|plan| order.rank(job, plan))
     });
     // Each unit at the least that any of its choices loses: what no plan goes below.
     let floor = |unit: &Vec<Choice>| unit.iter().map(|choice| choice.distortion).min();
@@ -1276,8 +1440,22 @@ pub struct Told {
 }
 
 impl Told {
-    pub fn count(&mut self, mistakes: Mistakes, job: &Job, pins: &Pins, plan: Option<&Plan>) {
-        self.add(&mistakes(job, pins, plan));
+    /// In each order, with the plans due.
+    pub fn count(&mut self, mistakes: Mistakes, job: &Job, pins: &Pins, plans: &Plans) {
+        for order in ORDERS {
+            self.count_in(order, mistakes, job, pins, plan_in(order, plans));
+        }
+    }
+
+    pub fn count_in(
+        &mut self,
+        order: Order,
+        mistakes: Mistakes,
+        job: &Job,
+        pins: &Pins,
+        plan: &Option<Plan>,
+    ) {
+        self.add(&mistakes(order, job, pins, plan.as_ref()));
     }
 
     pub fn add(&mut self, mistakes: &[(&'static str, bool)]) {
@@ -1632,13 +1810,37 @@ pub fn sent_as_decoded(levels: [u16; 4], taken: &[u16]) -> Draft {
     Draft::new([delay, decoder, bucket, drain, 0, start], &rates, &units)
 }
 
-/// Jobs with the sums of their unused drain, worked out by hand. In some a bucket never
-/// drains; of these no plan is made, and what is worked out is a replay.
-pub fn unused_by_hand() -> Vec<(String, Draft, Vec<i64>)> {
-    [one_unused_by_hand(), two_unused_by_hand()].concat()
+/// A job that is sent before it is decoded: in each interval what is to be sent just fills
+/// the decoder, and a unit takes what the next interval is to send, the last one nothing.
+/// Nothing is to be sent in the delay and in the interval after it. `levels`: delay, bucket
+/// size, drain, the bucket's starting level.
+pub fn sent_before_decoded(levels: [u16; 4], sent: &[u16]) -> Draft {
+    let [delay, bucket, drain, start] = levels;
+    let mut rates = [&[0][..], sent].concat();
+    rates.sort();
+    rates.dedup();
+    let taken = sent[1..].iter().chain(&[0]);
+    let units: Vec<_> = taken.map(|&grains| vec![(grains, 1)]).collect();
+    let decoder = rates[rates.len() - 1];
+    let level = if delay > 0 { decoder } else { decoder - sent[0] };
+    Draft::new([delay, decoder, bucket, drain, level, start], &rates, &units)
 }
 
-fn one_unused_by_hand() -> Vec<(String, Draft, Vec<i64>)> {
+/// Jobs with the sums of their unused drain, worked out by hand: in this order the plan
+/// sends what they are to send. In some a bucket never drains; of these no plan is made,
+/// and what is worked out is a replay.
+pub fn unused_by_hand(order: Order) -> Vec<(String, Draft, Vec<i64>)> {
+    let sending = match order {
+        Order::Early => sent_before_decoded,
+        Order::Late => sent_as_decoded,
+    };
+    [one_unused_by_hand(sending), two_unused_by_hand(sending)].concat()
+}
+
+/// A job that sends so much in each interval after the delay.
+type Sending = fn([u16; 4], &[u16]) -> Draft;
+
+fn one_unused_by_hand(sending: Sending) -> Vec<(String, Draft, Vec<i64>)> {
     // Each line: delay, bucket size, drain, the bucket's starting level; what is
     // sent after the delay; how many times this is sent; what goes by unused.
     let rows: [([u16; 4], &[u16], usize, i64); 32] = [
@@ -1671,8 +1873,8 @@ fn one_unused_by_hand() -> Vec<(String, Draft, Vec<i64>)> {
         ([0, 9, 4, 0], &[6, 3, 0], 1, 3),
         // The level is 5, 1, 0, 4, 0: the third interval drains 1 + 1, the last 4.
         ([0, 9, 4, 0], &[9, 0, 1, 8, 0], 1, 2),
-        // The delay counts: 4, then 1 are there; then 3 are sent, then none.
-        ([2, 9, 3, 4], &[3, 0], 1, 2 + 3),
+        // The delay counts: 4, then 1 are there; then none are sent, then 3.
+        ([2, 9, 3, 4], &[0, 3], 1, 2 + 3),
         // A bucket that starts filled: 255, 155, 55 and 0 are there.
         ([0, 255, 100, 255], &[0], 4, 45 + 100),
         ([0, 255, 100, 255], &[0], 2, 0),
@@ -1693,12 +1895,12 @@ fn one_unused_by_hand() -> Vec<(String, Draft, Vec<i64>)> {
         let label = format!(
             "delay {delay}, bucket {bucket} from {start}, drain {drain}, {times} times {taken:?}"
         );
-        (label, sent_as_decoded(levels, &taken.repeat(times)), vec![unused])
+        (label, sending(levels, &taken.repeat(times)), vec![unused])
     };
     rows.map(case).to_vec()
 }
 
-fn two_unused_by_hand() -> Vec<(String, Draft, Vec<i64>)> {
+fn two_unused_by_hand(sending: Sending) -> Vec<(String, Draft, Vec<i64>)> {
     // Each line: delay; size, drain and starting level of both buckets; what is sent
     // after the delay; how many times this is sent; what goes by unused.
     let rows: [(u16, [[u16; 3]; 2], &[u16], usize, [i64; 2]); 24] = [
@@ -1713,10 +1915,10 @@ fn two_unused_by_hand() -> Vec<(String, Draft, Vec<i64>)> {
         (0, [[9, 4, 0], [6, 3, 0]], &[9, 0, 1, 8, 0], 1, [2, 0]),
         (0, [[9, 4, 0], [3, 6, 0]], &[9, 0, 1, 8, 0], 1, [2, 3 + 5 + 4]),
         (0, [[3, 6, 0], [9, 4, 0]], &[9, 0, 1, 8, 0], 1, [3 + 5 + 4, 2]),
-        // The delay counts in both: the second goes 39, 38, 40, 39; or is 5, and then
+        // The delay counts in both: the second goes 39, 38, 37, 39; or is 5, and then
         // all of its drain goes by but what is sent.
-        (2, [[9, 3, 4], [63, 1, 40]], &[3, 0], 1, [2 + 3, 0]),
-        (2, [[9, 3, 4], [5, 9, 5]], &[3, 0], 1, [2 + 3, 4 + 9 + 6 + 9]),
+        (2, [[9, 3, 4], [63, 1, 40]], &[0, 3], 1, [2 + 3, 0]),
+        (2, [[9, 3, 4], [5, 9, 5]], &[0, 3], 1, [2 + 3, 4 + 9 + 9 + 6]),
         // Buckets that start filled: 31, 21, 11 and 1 are there; 63, 13 and none.
         (0, [[31, 10, 31], [63, 50, 63]], &[0], 4, [9, 37 + 50 + 50]),
         (0, [[63, 50, 63], [31, 10, 31]], &[0], 4, [37 + 50 + 50, 9]),
@@ -1743,7 +1945,7 @@ fn two_unused_by_hand() -> Vec<(String, Draft, Vec<i64>)> {
     for (delay, [first, second], taken, times, unused) in rows {
         let [bucket, drain, start] = first;
         let sent = taken.repeat(times);
-        let draft = sent_as_decoded([delay, bucket, drain, start], &sent).doubled(second);
+        let draft = sending([delay, bucket, drain, start], &sent).doubled(second);
         let label = format!("delay {delay}, buckets {first:?} {second:?}, {times} times {taken:?}");
         cases.push((label, draft, unused.to_vec()));
     }
@@ -2065,6 +2267,31 @@ pub const IDLE: [Shape; 3] = [
     Shape { choices: 4, grains: 0, commands: 1, ..TIGHT[1] },
     Shape { decoder: 7, bucket: 5, choices: 3, grains: 0, commands: 1, ..TIGHT[2] },
 ];
+
+/// The shapes of jobs full of ties, drawn as idle ones are.
+pub const EQUAL: [Shape; 3] = IDLE;
+
+/// A job in which many plans are as good as the best: all choices of a unit are alike; or
+/// they lose the same at other sizes; or they have the same size, and one in two loses
+/// more; or they take next to nothing, so that rates differ in filler alone.
+pub fn random_equal_job(rng: &mut Rng, shape: &Shape) -> Draft {
+    let mut draft = random_tight_job(rng, shape);
+    let most = draft.header[DECODER] as usize;
+    let flavour = rng.from(0, 3);
+    for unit in &mut draft.units {
+        let size = rng.from(0, most.div_ceil(2)) as u16;
+        let lost = rng.pick(&[0, 1, 7, 256, 65_535, 999_999]);
+        for coding in unit {
+            *coding = match flavour {
+                0 => (size, lost),
+                1 => (coding.0, lost),
+                2 => (size, lost + rng.one_in(2) as u32),
+                _ => (rng.from(0, 1) as u16, lost),
+            };
+        }
+    }
+    either_line(rng, draft, shape)
+}
 
 pub fn random_job(rng: &mut Rng, shape: &Shape) -> Draft {
     let decoder = rng.from(0, shape.decoder);

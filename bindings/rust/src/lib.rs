@@ -18,7 +18,9 @@
 //! all that it has. Grains of the drain that find nothing there go by unused.
 //!
 //! Every call that plans names an [`Aim`]: the least total distortion, or even
-//! pictures, where the worst unit is as good as it can be.
+//! pictures, where the worst unit is as good as it can be. It names an [`Order`] too,
+//! which says which of several plans as good is given: the one that sends early, or the
+//! one that sends late.
 //!
 //! [`write()`] makes the bytes of a job from its header and lists; [`open`],
 //! [`archive`], [`calls()`], [`plan`], [`replay`], [`report`] and [`turn`] take these
@@ -48,7 +50,7 @@
 //! are in C.
 //!
 //! ```
-//! use upload_planner::{best_plan, Aim, Call, Refusal};
+//! use upload_planner::{best_plan, Aim, Call, Order, Refusal};
 //!
 //! // Two units over three intervals: the header, the rates 0, 2 and 4, then
 //! // grains and distortion of both choices of each unit.
@@ -61,23 +63,34 @@
 //! ];
 //!
 //! // A plan has three bytes for each interval: a rate, then a choice or 65,535.
-//! let best = best_plan(&job, &[], Aim::Total)?;
+//! let best = best_plan(&job, &[], Aim::Total, Order::Early)?;
 //! assert_eq!(best.totals.distortion, 50);
-//! assert_eq!(best.entries, [0, 255, 255, 2, 0, 0, 1, 1, 0]);
+//! assert_eq!(best.entries, [2, 255, 255, 0, 0, 0, 2, 1, 0]);
 //!
-//! // Interval 1 sends nothing, the bucket is empty, and the drain is 2.
-//! assert_eq!(best.totals.unused_grains, 2);
+//! // Interval 2 sends nothing, but interval 1 has left two grains in the bucket, and the
+//! // drain is 2.
+//! assert_eq!(best.totals.unused_grains, 0);
+//!
+//! // Of the plans that lose 50 the late one sends nothing in interval 1, when the bucket
+//! // is empty.
+//! let late = best_plan(&job, &[], Aim::Total, Order::Late)?;
+//! assert_eq!(late.totals.distortion, 50);
+//! assert_eq!(late.entries, [0, 255, 255, 2, 0, 0, 1, 1, 0]);
+//! assert_eq!(late.totals.unused_grains, 2);
 //!
 //! let coarse = Call::Pin { unit: 1, choice: 1 };
-//! let best = best_plan(&job, &[coarse], Aim::Total)?;
+//! let best = best_plan(&job, &[coarse], Aim::Total, Order::Early)?;
 //! assert_eq!(best.totals.distortion, 70);
+//! assert_eq!(best.entries, [2, 255, 255, 0, 1, 0, 1, 1, 0]);
 //!
 //! // Five grains, and the decoder holds four.
 //! let large = Call::Pin { unit: 2, choice: 0 };
-//! assert_eq!(best_plan(&job, &[coarse, large], Aim::Total), Err(Refusal::NoPlan));
+//! let both = best_plan(&job, &[coarse, large], Aim::Total, Order::Early);
+//! assert_eq!(both, Err(Refusal::NoPlan));
 //!
 //! let lifts = [Call::Lift { unit: 2 }, Call::Lift { unit: 1 }];
-//! let best = best_plan(&job, &[coarse, large, lifts[0], lifts[1]], Aim::Total)?;
+//! let calls = [coarse, large, lifts[0], lifts[1]];
+//! let best = best_plan(&job, &calls, Aim::Total, Order::Early)?;
 //! assert_eq!(best.totals.distortion, 50);
 //! # Ok::<(), Refusal>(())
 //! ```
@@ -244,10 +257,9 @@ fn numbers_of(calls: &[Call]) -> Vec<u16> {
 /// What a plan is to make least. The caller names it in every call that plans.
 ///
 /// Pinned units count as all others do. Among plans that are equal in what the aim
-/// names, the first interval at which they differ decides, whatever the aim: the
-/// smaller rate index, then the smaller choice index; in a [`Session`] by the [`Order`]
-/// that the caller names. There is no plan for the one aim exactly where there is none
-/// for the other.
+/// names, the first interval at which they differ decides, whatever the aim, by the
+/// [`Order`] that the caller names. There is no plan for the one aim exactly where there
+/// is none for the other.
 ///
 /// # Examples
 ///
@@ -255,7 +267,7 @@ fn numbers_of(calls: &[Call]) -> Vec<u16> {
 /// leave none for unit 2, which then loses 90; two for each lose 50 and 50.
 ///
 /// ```
-/// use upload_planner::{best_plan, written, Aim, Call, Header, Refusal, NEVER};
+/// use upload_planner::{best_plan, written, Aim, Call, Header, Order, Refusal, NEVER};
 ///
 /// let header = Header {
 ///     units: 2,
@@ -272,11 +284,11 @@ fn numbers_of(calls: &[Call]) -> Vec<u16> {
 /// let (sizes, distortions) = ([4, 2, 0].repeat(2), [0, 50, 90].repeat(2));
 /// let job = written(&header, &[0], &sizes, &distortions)?;
 ///
-/// let total = best_plan(&job, &[], Aim::Total)?;
+/// let total = best_plan(&job, &[], Aim::Total, Order::Early)?;
 /// assert_eq!(total.totals.distortion, 0 + 90);
 /// assert_eq!(total.entries, [0, 0, 0, 0, 2, 0]);
 ///
-/// let even = best_plan(&job, &[], Aim::Even)?;
+/// let even = best_plan(&job, &[], Aim::Even, Order::Early)?;
 /// assert_eq!(even.totals.distortion, 50 + 50);
 /// assert_eq!(even.entries, [0, 1, 0, 0, 1, 0]);
 ///
@@ -287,7 +299,7 @@ fn numbers_of(calls: &[Call]) -> Vec<u16> {
 ///
 /// // Unit 2 is to lose 90: then no plan is more even than that, and unit 1 has all.
 /// let coarse = Call::Pin { unit: 2, choice: 2 };
-/// let even = best_plan(&job, &[coarse], Aim::Even)?;
+/// let even = best_plan(&job, &[coarse], Aim::Even, Order::Early)?;
 /// assert_eq!(even.entries, total.entries);
 /// assert_eq!(Aim::default(), Aim::Total);
 /// # Ok::<(), Refusal>(())
@@ -312,9 +324,13 @@ impl Aim {
     }
 }
 
-/// Which of several plans that are as good a [`Session`] gives: the first interval at
-/// which they differ decides. The caller names it in every call that plans there;
-/// [`plan`] and [`best_plan`] give the late one.
+/// Which of several plans that are as good is given: the first interval at which they
+/// differ decides. The caller names it in every call that plans.
+///
+/// Lines drop more near the end of a programme than at its start, so that
+/// [`Order::Early`] is the default. [`Order::Late`] was the only order once: it is the one
+/// to name where a plan is compared with the archive or with stored listings. The table,
+/// what the aim makes least and whether there is a plan at all do not depend on the order.
 ///
 /// # Examples
 ///
@@ -349,12 +365,17 @@ impl Aim {
 /// assert_eq!(late.entries, [0, 255, 255, 2, 0, 0, 1, 1, 0]);
 /// assert_eq!(late.totals.distortion, 10 + 40);
 /// assert_eq!(late.totals.channel_grains, 0 + 4 + 2);
-/// assert_eq!(late, best_plan(&job, &[], Aim::Total)?);
+///
+/// // The table is the same, and so are the plans without a session.
+/// assert_eq!(early.table, late.table);
+/// assert_eq!(early, best_plan(&job, &[], Aim::Total, Order::default())?);
+/// assert_eq!(late, best_plan(&job, &[], Aim::Total, Order::Late)?);
 /// # Ok::<(), Refusal>(())
 /// ```
-#[derive(Clone, Copy, Debug, PartialEq, Eq, Hash)]
+#[derive(Clone, Copy, Debug, Default, PartialEq, Eq, Hash)]
 pub enum Order {
     /// The larger rate index, then the smaller choice index.
+    #[default]
     Early,
     /// The smaller rate index, then the smaller choice index.
     Late,
@@ -715,7 +736,7 @@ pub fn open(job: &[u8]) -> Result<Opened, Refusal> {
 ///
 /// ```
 /// use upload_planner::{archive, best_plan, open, replayed, turned, written};
-/// use upload_planner::{Aim, Call, Header, Refusal, Replayed};
+/// use upload_planner::{Aim, Call, Header, Order, Refusal, Replayed};
 ///
 /// let header = Header {
 ///     units: 2,
@@ -736,7 +757,8 @@ pub fn open(job: &[u8]) -> Result<Opened, Refusal> {
 /// // Such a job is not written any more; its drain stands in bytes 12 and 13.
 /// job[12] = 0;
 /// assert_eq!(open(&job), Err(Refusal::NeverDrains));
-/// assert_eq!(best_plan(&job, &[], Aim::Total), Err(Refusal::NeverDrains));
+/// let best = best_plan(&job, &[], Aim::Total, Order::Early);
+/// assert_eq!(best, Err(Refusal::NeverDrains));
 /// assert_eq!(archive(&job), opened);
 ///
 /// // Its plans are turned and replayed. What is sent stays in the bucket.
@@ -776,6 +798,7 @@ pub fn calls(job: &[u8], calls: &[Call], answers: &mut [u8]) -> Result<PinTotals
 /// end.
 ///
 /// - `aim`: what the plan is to make least.
+/// - `order`: which of several such plans it is to be.
 /// - `answers`: one byte for each call is written, as [`calls()`] writes them.
 /// - `table`: [`Opened::table_words`] words are written. Word
 ///   (t × (decoder size + 1) + b) × (bucket size + 1) + l is the least
@@ -791,8 +814,9 @@ pub fn calls(job: &[u8], calls: &[Call], answers: &mut [u8]) -> Result<PinTotals
 ///
 /// Of all plans that are admissible it has the least total distortion, or for
 /// [`Aim::Even`] the least greatest distortion of a unit and among such plans the least
-/// total. Among several the first interval at which they differ decides: the smaller
-/// rate index, then the smaller choice index.
+/// total. Among several the first interval at which they differ decides: for
+/// [`Order::Early`] the larger rate index, for [`Order::Late`] the smaller one, and then
+/// the smaller choice index.
 ///
 /// # Errors
 ///
@@ -803,13 +827,14 @@ pub fn plan(
     job: &[u8],
     calls: &[Call],
     aim: Aim,
+    order: Order,
     answers: &mut [u8],
     table: &mut [u32],
     entries: &mut [u8],
 ) -> Result<Totals, Refusal> {
     let mut values = [0; numbers::PLAN_VALUES_MOST];
-    let (calls, aim) = (numbers_of(calls), aim.number());
-    checked(numbers::plan(job, &calls, aim, answers, table, entries, &mut values))?;
+    let (calls, aim, order) = (numbers_of(calls), aim.number(), order.number());
+    checked(numbers::plan(job, &calls, aim, order, answers, table, entries, &mut values))?;
     Ok(Totals::of(values, buckets_of(job)))
 }
 
@@ -889,7 +914,7 @@ pub struct Called {
 /// No plan holds both pins, and each of them was taken all the same.
 ///
 /// ```
-/// use upload_planner::{best_plan, called, written, Aim, Call, Header, Refusal};
+/// use upload_planner::{best_plan, called, written, Aim, Call, Header, Order, Refusal};
 ///
 /// let header = Header {
 ///     units: 2,
@@ -910,7 +935,8 @@ pub struct Called {
 ///     Call::Pin { unit: 1, choice: 0 },
 ///     Call::Pin { unit: 2, choice: 0 },
 /// ];
-/// assert_eq!(best_plan(&job, &calls, Aim::Total), Err(Refusal::NoPlan));
+/// let best = best_plan(&job, &calls, Aim::Total, Order::Early);
+/// assert_eq!(best, Err(Refusal::NoPlan));
 ///
 /// let made = called(&job, &calls)?;
 /// assert_eq!(made.answers, [Ok(()), Err(Refusal::Pinned), Ok(())]);
@@ -945,12 +971,17 @@ pub struct BestPlan {
 /// # Errors
 ///
 /// Numbers 1 to 5 and 17 for the job; 13.
-pub fn best_plan(job: &[u8], calls: &[Call], aim: Aim) -> Result<BestPlan, Refusal> {
+pub fn best_plan(
+    job: &[u8],
+    calls: &[Call],
+    aim: Aim,
+    order: Order,
+) -> Result<BestPlan, Refusal> {
     let opened = open(job)?;
     let mut answers = vec![0; calls.len()];
     let mut table = vec![0; opened.table_words];
     let mut entries = vec![0; opened.plan_bytes()];
-    let totals = plan(job, calls, aim, &mut answers, &mut table, &mut entries)?;
+    let totals = plan(job, calls, aim, order, &mut answers, &mut table, &mut entries)?;
     Ok(BestPlan { totals, entries, answers: met_with(answers), table })
 }
 
@@ -963,11 +994,12 @@ pub fn best_plan(job: &[u8], calls: &[Call], aim: Aim) -> Result<BestPlan, Refus
 ///
 /// # Examples
 ///
-/// The best plan over a line with one bucket sends four grains in interval 2.
+/// The best plan over a line with one bucket sends four grains in interval 1, and four in
+/// interval 3.
 ///
 /// ```
 /// use upload_planner::{best_plan, replayed, written, Aim, Bucket, Header, Levels};
-/// use upload_planner::{Refusal, Replayed, Violation};
+/// use upload_planner::{Order, Refusal, Replayed, Violation};
 ///
 /// let one = Header {
 ///     units: 2,
@@ -985,12 +1017,13 @@ pub fn best_plan(job: &[u8], calls: &[Call], aim: Aim) -> Result<BestPlan, Refus
 ///     written(&header, &[0, 2, 4], &[4, 2, 5, 2], &[10, 30, 12, 40])
 /// };
 /// let job = job_of(one)?;
-/// let best = best_plan(&job, &[], Aim::Total)?;
-/// assert_eq!(best.entries, [0, 255, 255, 2, 0, 0, 1, 1, 0]);
+/// let best = best_plan(&job, &[], Aim::Total, Order::Early)?;
+/// assert_eq!(best.entries, [2, 255, 255, 0, 0, 0, 2, 1, 0]);
 ///
 /// let (levels, found) = replayed(&job, &[], &best.entries)?;
 /// assert_eq!(levels.len(), 3);
-/// assert_eq!(levels[1], Levels { decoder: 0, bucket: 2, second: None });
+/// assert_eq!(levels[0], Levels { decoder: 4, bucket: 2, second: None });
+/// assert_eq!(levels[1], Levels { decoder: 0, bucket: 0, second: None });
 /// assert_eq!(found, Replayed::Clean(best.totals));
 ///
 /// // A second bucket for one grain, from which three drain, takes four.
@@ -998,18 +1031,19 @@ pub fn best_plan(job: &[u8], calls: &[Call], aim: Aim) -> Result<BestPlan, Refus
 /// let job = job_of(Header { second: Some(fast), ..one })?;
 /// let (levels, found) = replayed(&job, &[], &best.entries)?;
 /// let second: Vec<_> = levels.iter().map(|level| level.second).collect();
-/// assert_eq!(second, [Some(0), Some(1), Some(0)]);
+/// assert_eq!(second, [Some(1), Some(0), Some(1)]);
 /// let Replayed::Clean(totals) = found else { panic!("the plan is admissible") };
-/// assert_eq!((totals.unused_grains, totals.second_unused), (2, Some(3)));
+/// assert_eq!((totals.unused_grains, totals.second_unused), (0, Some(2)));
 ///
 /// // One from which two drain does not, and the best plan is another.
 /// let slow = Bucket { size: 1, drain: 2, level: 0 };
 /// let job = job_of(Header { second: Some(slow), ..one })?;
 /// let (levels, found) = replayed(&job, &[], &best.entries)?;
-/// assert_eq!(levels, [Levels { decoder: 0, bucket: 0, second: Some(0) }]);
+/// assert!(levels.is_empty());
 /// let violation = Violation::SecondBucketOver;
-/// assert_eq!(found, Replayed::Violated { violation, interval: 2 });
-/// assert_eq!(best_plan(&job, &[], Aim::Total)?.entries, [1, 255, 255, 1, 0, 0, 1, 1, 0]);
+/// assert_eq!(found, Replayed::Violated { violation, interval: 1 });
+/// let best = best_plan(&job, &[], Aim::Total, Order::Early)?;
+/// assert_eq!(best.entries, [1, 255, 255, 1, 0, 0, 1, 1, 0]);
 /// # Ok::<(), Refusal>(())
 /// ```
 pub fn replayed(
@@ -1115,8 +1149,8 @@ pub fn replayed(
 /// assert_eq!(session.pins().count(), 0);
 /// assert_eq!(session, Session::open(&job)?);
 ///
-/// // One grain for each unit.
-/// let best = session.plan(Aim::Total, Order::Late)?;
+/// // One grain for each unit; no other plan loses 200, so that the order does not matter.
+/// let best = session.plan(Aim::Total, Order::Early)?;
 /// assert_eq!(best.totals.distortion, 200);
 /// assert_eq!(best.entries, [0, 1, 0].repeat(20));
 /// # Ok::<(), Refusal>(())
@@ -1144,7 +1178,7 @@ impl<'a> Session<'a> {
         checked(numbers::set(job, &mut set))?;
         let mut session = Session { job, opened, set, table: Vec::new(), best: NEVER };
         let mut table = vec![0; opened.table_words];
-        match session.plan_into(&mut table, Aim::Total, Order::Late) {
+        match session.plan_into(&mut table, Aim::Total, Order::default()) {
             Ok((totals, _)) => session.best = totals.distortion as u32,
             Err(Refusal::NoPlan) => {}
             Err(refusal) => return Err(refusal),
@@ -1287,7 +1321,7 @@ impl<'a> Session<'a> {
     /// };
     /// let job = written(&header, &[0, 2, 4], &[4, 2, 5, 2], &[10, 30, 12, 40])?;
     /// let mut session = Session::open(&job)?;
-    /// let best = session.plan(Aim::Total, Order::Late)?;
+    /// let best = session.plan(Aim::Total, Order::Early)?;
     /// assert_eq!(session.replay(&best.entries)?.1, Replayed::Clean(best.totals));
     ///
     /// // Unit 1 is decoded in interval 2.
@@ -1391,10 +1425,11 @@ impl fmt::Debug for Session<'_> {
 ///
 /// # Examples
 ///
-/// The best plan of a job was stored while an entry had two bytes.
+/// The best plan of a job was stored while an entry had two bytes, and while the order was
+/// always the late one.
 ///
 /// ```
-/// use upload_planner::{best_plan, turned, written, Aim, Entry, Header, Refusal};
+/// use upload_planner::{best_plan, turned, written, Aim, Entry, Header, Order, Refusal};
 ///
 /// let header = Header {
 ///     units: 2,
@@ -1411,7 +1446,7 @@ impl fmt::Debug for Session<'_> {
 /// let job = written(&header, &[0, 2, 4], &[4, 2, 5, 2], &[10, 30, 12, 40])?;
 ///
 /// let entries = turned(&job, &[0, 255, 2, 0, 1, 1])?;
-/// assert_eq!(entries, best_plan(&job, &[], Aim::Total)?.entries);
+/// assert_eq!(entries, best_plan(&job, &[], Aim::Total, Order::Late)?.entries);
 /// let plan: Vec<Entry> = Entry::each(&entries).collect();
 /// assert_eq!(plan[0], Entry { rate: 0, choice: None });
 /// assert_eq!(plan[1], Entry { rate: 2, choice: Some(0) });
@@ -1469,7 +1504,7 @@ pub fn write(
 /// A distortion is corrected, and the plan follows.
 ///
 /// ```
-/// use upload_planner::{best_plan, written, Aim, Header, Refusal};
+/// use upload_planner::{best_plan, written, Aim, Header, Order, Refusal};
 ///
 /// let header = Header {
 ///     units: 2,
@@ -1488,16 +1523,16 @@ pub fn write(
 /// let mut distortions = [10, 30, 12, 40];
 ///
 /// let job = written(&header, &rates, &sizes, &distortions)?;
-/// let best = best_plan(&job, &[], Aim::Total)?;
+/// let best = best_plan(&job, &[], Aim::Total, Order::Early)?;
 /// assert_eq!(best.totals.distortion, 50);
-/// assert_eq!(best.entries, [0, 255, 255, 2, 0, 0, 1, 1, 0]);
+/// assert_eq!(best.entries, [2, 255, 255, 0, 0, 0, 2, 1, 0]);
 ///
 /// // Unit 1 at its second choice is better than was thought.
 /// distortions[1] = 5;
 /// let job = written(&header, &rates, &sizes, &distortions)?;
-/// let best = best_plan(&job, &[], Aim::Total)?;
+/// let best = best_plan(&job, &[], Aim::Total, Order::Early)?;
 /// assert_eq!(best.totals.distortion, 45);
-/// assert_eq!(best.entries, [0, 255, 255, 1, 1, 0, 1, 1, 0]);
+/// assert_eq!(best.entries, [2, 255, 255, 0, 1, 0, 1, 1, 0]);
 ///
 /// // A distortion is missing.
 /// assert_eq!(written(&header, &rates, &sizes, &distortions[..3]), Err(Refusal::Lengths));

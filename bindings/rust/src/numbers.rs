@@ -34,9 +34,10 @@ pub const EVEN: u32 = 1;
 
 /// The order that of several plans as good gives the one that sends early: the larger
 /// rate index at the first interval at which they differ, then the smaller choice index.
+/// It is the default.
 pub const EARLY: u32 = 0;
-/// The order that gives the one that sends late, as [`plan`] does: the smaller rate index,
-/// then the smaller choice index.
+/// The order that gives the one that sends late: the smaller rate index, then the smaller
+/// choice index. Stored listings are in it.
 pub const LATE: u32 = 1;
 
 /// How many numbers a set of pins has.
@@ -114,6 +115,7 @@ extern "C" {
         calls: *const u16,
         calls_len: usize,
         aim: u32,
+        order: u32,
         answers: *mut u8,
         answers_len: usize,
         table: *mut u32,
@@ -270,11 +272,13 @@ pub fn calls(job: &[u8], calls: &[u16], answers: &mut [u8], values: &mut [u64]) 
     }
 }
 
-/// Makes the calls, then plans for the aim, [`TOTAL`] or [`EVEN`].
+/// Makes the calls, then plans for the aim, [`TOTAL`] or [`EVEN`], in the order, [`EARLY`]
+/// or [`LATE`].
 pub fn plan(
     job: &[u8],
     calls: &[u16],
     aim: u32,
+    order: u32,
     answers: &mut [u8],
     table: &mut [u32],
     entries: &mut [u8],
@@ -287,6 +291,7 @@ pub fn plan(
             calls.as_ptr(),
             calls.len(),
             aim,
+            order,
             answers.as_mut_ptr(),
             answers.len(),
             table.as_mut_ptr(),
