@@ -1121,7 +1121,12 @@ fn peaks_group() -> Group {
         ),
         ([2, 5, 0], &[2], &[3], Refused(13)),
         // The largest rate that fills it, though more would leave no more than the size.
-        ([0, 4, 0], &[0, 1, 2, 3, 4, 5, 6], &[2], Text("plan 1 1 10\n1 4 0 2 0\ntotal 7 2 4 4091\n")),
+        (
+            [0, 4, 0],
+            &[0, 1, 2, 3, 4, 5, 6],
+            &[2],
+            Text("plan 1 1 10\n1 4 0 2 0\ntotal 7 2 4 4091\n"),
+        ),
         ([0, 4, 1], &[0, 1, 2, 4, 5], &[3], Text("plan 1 1 10\n1 2 0 0 0\ntotal 7 3 2 4093\n")),
         ([0, 4, 3], &[0, 1, 2, 3, 4], &[3], Text("plan 1 1 10\n1 1 0 1 0\ntotal 7 3 1 4094\n")),
         ([0, 4, 4], &[0, 1, 2, 3, 4], &[4], Text("plan 1 1 10\n1 0 0 0 0\ntotal 7 4 0 4095\n")),

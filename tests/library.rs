@@ -498,13 +498,7 @@ fn check_plan(rng: &mut Rng, asked: &Asked, table: &[u32], plans: &Plans) -> Che
     check_plan_for(Aim::Total, rng, asked, table, plans)
 }
 
-fn check_plan_for(
-    aim: Aim,
-    rng: &mut Rng,
-    asked: &Asked,
-    table: &[u32],
-    plans: &Plans,
-) -> Checked {
+fn check_plan_for(aim: Aim, rng: &mut Rng, asked: &Asked, table: &[u32], plans: &Plans) -> Checked {
     for order in ORDERS {
         check_plan_in(aim, order, rng, asked, table, plan_in(order, plans))
             .map_err(|trouble| format!("{order:?}: {trouble}"))?;
@@ -1712,11 +1706,7 @@ fn second_group() -> Result<String, String> {
         ([63, 1, 0], &[], own(0, 1)),
         ([63, 4095, 0], &[], own(3 * 4095 - 8, 3 * 4095 - 6)),
         // 4, none and 4 would leave 3, 2 and 5; late 4 and 2 leave 3 and 4.
-        (
-            [4, 1, 0],
-            &[],
-            Some([(last_less, [50, 6, 6, 0, 0]), (LATE_A, [50, 6, 6, 2, 1])]),
-        ),
+        ([4, 1, 0], &[], Some([(last_less, [50, 6, 6, 0, 0]), (LATE_A, [50, 6, 6, 2, 1])])),
         // 4 does not go in, so that 2 and 2 are sent for unit 1.
         ([1, 2, 0], &[], alike(even, [50, 6, 6, 0, 0])),
         ([1, 2, 0], &[Pin(1, 0)], alike(even, [50, 6, 6, 0, 0])),
@@ -3019,7 +3009,8 @@ fn check_shared(
 ) -> Checked {
     let plans =
         [enumerate(&asked.job, &asked.pins).best, enumerate_even(&asked.job, &asked.pins).best];
-    for (which, plan) in plans.iter().enumerate().flat_map(|(n, of)| of.iter().map(move |p| (n, p))) {
+    for (which, plan) in plans.iter().enumerate().flat_map(|(n, of)| of.iter().map(move |p| (n, p)))
+    {
         let due = due.map(|due| due[which]);
         let chosen = |plan: &Plan| plan.iter().map(|entry| entry.1).collect::<Vec<usize>>();
         same("choices", due.map(|due| due.0.to_vec()), plan.as_ref().map(chosen))?;
@@ -4289,9 +4280,7 @@ fn job_a_group() -> Result<String, String> {
         same("a pin not held", violated(Violation::PinNotHeld, 2, levels), unheld)?;
     }
 
-    for (entries, due) in
-        [(finer, [2, 2, 4, 9]), (LATE_A, [0, 4, 2, 9]), (EARLY_A, [4, 0, 4, 9])]
-    {
+    for (entries, due) in [(finer, [2, 2, 4, 9]), (LATE_A, [0, 4, 2, 9]), (EARLY_A, [4, 0, 4, 9])] {
         let mut sums = [9; 4];
         same("report", Ok(()), report(&job, &entries, &mut sums))?;
         same("effective buffers", due, sums)?;

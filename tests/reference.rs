@@ -606,9 +606,8 @@ pub fn dynamic_by(rules: &Rules, order: Order, job: &Job, pins: &Pins) -> Option
         }
         layer = next.into_values().collect();
     }
-    let best = layer
-        .into_iter()
-        .min_by(|a, b| (a.distortion, &a.ranks).cmp(&(b.distortion, &b.ranks)))?;
+    let best =
+        layer.into_iter().min_by(|a, b| (a.distortion, &a.ranks).cmp(&(b.distortion, &b.ranks)))?;
     Some(order.ranked(job, &best.ranks))
 }
 
@@ -1180,7 +1179,8 @@ pub fn tie_mistakes(order: Order, job: &Job, pins: &Pins, plan: Option<&Plan>) -
         first.map(|judged| &judged.plan) != plan
     };
     let grains = |ranks: &Plan| ranks.iter().map(|&(place, _)| place).sum();
-    let choice_first = |ranks: &Plan| ranks.iter().map(|&(place, choice)| (choice, place)).collect();
+    let choice_first =
+        |ranks: &Plan| ranks.iter().map(|&(place, choice)| (choice, place)).collect();
     let rates_first = |ranks: &Plan| {
         let rates = ranks.iter().map(|&(place, _)| (place, 0));
         rates.chain(ranks.iter().map(|&(_, choice)| (choice, 0))).collect()

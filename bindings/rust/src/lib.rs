@@ -971,12 +971,7 @@ pub struct BestPlan {
 /// # Errors
 ///
 /// Numbers 1 to 5 and 17 for the job; 13.
-pub fn best_plan(
-    job: &[u8],
-    calls: &[Call],
-    aim: Aim,
-    order: Order,
-) -> Result<BestPlan, Refusal> {
+pub fn best_plan(job: &[u8], calls: &[Call], aim: Aim, order: Order) -> Result<BestPlan, Refusal> {
     let opened = open(job)?;
     let mut answers = vec![0; calls.len()];
     let mut table = vec![0; opened.table_words];
