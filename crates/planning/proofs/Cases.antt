@@ -39,4 +39,4 @@ word-cases = refl
 -- calls that see
 pub see-cases : SeeCases
 unfolding base.evaluate evaluate computes on-read choice-under choice-number same-header bytes-a lines unpinned fresh pin-fits pins-fit same-totals fits accept checked opened open-call refuse take-in with-pin without-pin call-tests called call-in call call-of click-tests after run delayed set-after encode layer layers table-from c.refuse c.searched c.search-in c.plan-tests c.plan-in c.plan-call lowest charge offered rows row coding-offer pair-offer least-offer layer-from choice-in allowed-in refill refilled see.keep see.unit-of see.renewed see.seen see.see-in see.see-call look own-table sights sights-told
-see-cases = record { told = refl; pinned = refl; lifted = refl }
+see-cases = refl
