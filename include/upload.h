@@ -27,8 +27,9 @@
    long enough for every job; for a job with one bucket its last number keeps its
    value.
 
-   upload_write makes the bytes of a job from its header and lists. Every other
-   function takes these bytes and reads them again, by one of two doors (see
+   upload_write makes the bytes of a job from its header and lists, upload_trial
+   those of a job to try things with, from its header and a starting state. Every
+   other function takes these bytes and reads them again, by one of two doors (see
    below); bytes after the job are not looked at. Nothing is kept between calls,
    and no memory is taken: all that is written goes to lists that the caller
    lends. Calls from several threads are fine as long as no list that one writes
@@ -53,6 +54,7 @@
 
        function         door       of a job with drain 0
        upload_write     opening    is not written: 17, after 3 and before 16
+       upload_trial     opening    is not written: 17, after 3 and before 12
        upload_open      opening    17
        upload_calls     opening    17
        upload_plan      opening    17
@@ -475,6 +477,28 @@ uint32_t upload_write(const uint16_t *fields, size_t fields_len,
                       const uint16_t *rates, size_t rates_len,
                       const uint16_t *sizes, size_t sizes_len,
                       const uint32_t *distortions, size_t distortions_len,
+                      uint8_t *job, size_t job_len,
+                      uint64_t *values, size_t values_len);
+
+/* Writes a trial job: one with this header, whose rates, sizes and distortions are
+   drawn from a starting state. The same header and state give the same bytes on
+   every machine, and what is written opens.
+
+   A draw replaces the state by state x 1,664,525 + 1,013,904,223, of which the
+   lowest 32 bits are kept, and is the new state divided by 65,536, rounded down.
+   The first rate is a draw modulo 4, and each later one the rate before it plus 1
+   plus a draw modulo 4. Then for each choice of each unit in turn the grains are a
+   draw modulo 64, and the distortion is the draw after it.
+
+   fields: the header's, nine numbers or twelve as upload_write takes them.
+   state:  the starting state, any number.
+   job:    as many bytes written as upload_write writes for this header.
+   values: 1 number written: how many bytes the job took.
+
+   Refusals in order: 3 where `fields` is not nine or twelve numbers or one of
+   them is out of range; 17; 12 where `job` or `values` is too short. */
+uint32_t upload_trial(const uint16_t *fields, size_t fields_len,
+                      uint32_t state,
                       uint8_t *job, size_t job_len,
                       uint64_t *values, size_t values_len);
 
