@@ -143,12 +143,12 @@ limited j w =
     }
 
 -- and the other way: limits index by index are limits of the lists
-rates-within : (low : ℕ) (rs : List ℕ) → (0 < length rs → low ≤ getD rs 0 0) → ((y : ℕ) → y < length rs → getD rs y 0 ≤ 4095) → ((y : ℕ) → y + 1 < length rs → getD rs y 0 < getD rs (suc y) 0) → AllKept (rate-limits low rs)
+pub rates-within : (low : ℕ) (rs : List ℕ) → (0 < length rs → low ≤ getD rs 0 0) → ((y : ℕ) → y < length rs → getD rs y 0 ≤ 4095) → ((y : ℕ) → y + 1 < length rs → getD rs y 0 < getD rs (suc y) 0) → AllKept (rate-limits low rs)
 rates-within low [] l f g = tt
 rates-within low (r ∷ rs) l f g =
     ((l (omega arith), omega (arith, f 0 (omega arith))), rates-within _ rs (λ h. omega (arith, g 0 (omega arith))) (λ y h. f (suc y) (omega arith)) (λ y h. g (suc y) (omega arith)))
 
-codings-within : (u : List Coding) → ((x : ℕ) → x < length u → CodingKept (getD u x nothing)) → AllKept (coding-limits u)
+pub codings-within : (u : List Coding) → ((x : ℕ) → x < length u → CodingKept (getD u x nothing)) → AllKept (coding-limits u)
 codings-within [] f = tt
 codings-within (c ∷ u) f = let k = f 0 (omega arith) in ((omega arith, omega (arith, k .size)), ((omega arith, omega (arith, k .distortion)), codings-within u (λ x h. f (suc x) (omega arith))))
 

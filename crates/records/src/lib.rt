@@ -41,7 +41,7 @@ fn put_codings(out: &mut [u8], at: usize, sizes: &[u16], distortions: &[u32])
 }
 
 // A unit's record.
-fn put_unit(out: &mut [u8], at: usize, sizes: &[u16], distortions: &[u32])
+pub fn put_unit(out: &mut [u8], at: usize, sizes: &[u16], distortions: &[u32])
     requires { ⌜ (length (now sizes) ≡ length (now distortions)) × (length (now sizes) ≤ 1000) × (at + unit-size (length (now sizes)) ≤ length (now out)) ⌝ }
     ensures { λ _. ⌜ now (out .exit) ≡ put-at (now (out .entry)) at (unit-bytes (length (now (sizes .entry))) (codings-from (now (sizes .entry)) (now (distortions .entry)))) ⌝ }
 {

@@ -1,15 +1,18 @@
 -- The trial job of a header and a starting state, and what writing it answers and leaves (document 02, E11).
 use Prim.Native.Nat.{ℕ, _*_}
 use mathlib.Core.Option.{Option}
-use mathlib.Core.List.{List, _++_}
+use mathlib.Core.List.{List, [], _∷_, _++_}
+use lib.Dec.{leb}
+use lib.ListN.{length}
 use Rattle.base.specs.Lists.{build}
-use Rattle.base.specs.Refusals.{refusal, unless, first}
-use Rattle.base.specs.Lent.{Ended, refuse}
+use Rattle.base.specs.Answer.{gives}
+use Rattle.base.specs.Refusals.{test, refusal, unless, first}
+use Rattle.base.specs.Lent.{Ended, over, refuse}
 use Rattle.model.specs.Job.{Job}
 use Rattle.format.specs.Limits.{Limit, broken}
-use Rattle.format.specs.JobBytes.{Header, header-limits, opening, drain-limits}
+use Rattle.format.specs.JobBytes.{Header, header-limits, opening, drain-limits, encode}
+use Rattle.format.specs.Places.{job-size}
 use Rattle.writing.specs.Lists.{job-from}
-use Rattle.writing.specs.Calls.{room-tests, write-in}
 use Rattle.trials.specs.Draws.{after, rate-drawn, size-drawn, distortion-drawn}
 
 module _ (h : Header) (s : ℕ) where
@@ -31,9 +34,9 @@ unfoldable pub trial-limits : Header → List Limit
 trial-limits h = header-limits h ++ drain-limits opening (h .buckets)
 
 -- "then 12": the number by which writing to a list of so many bytes is refused, if there is one
-unfoldable pub trial-refusal : Header → ℕ → ℕ → Option ℕ
-trial-refusal h s out = first (broken (trial-limits h)) (refusal (room-tests (trial-job h s) out))
+unfoldable pub trial-refusal : Header → ℕ → Option ℕ
+trial-refusal h out = first (broken (trial-limits h)) (refusal (test 12 (leb (job-size h) out) ∷ []))
 
--- the bytes of the job, the rest of the list as before, and how many bytes the job took
+-- the job's bytes first, the rest of the list as before; the answer is how many bytes the job took
 unfoldable pub trial-call : Header → ℕ → List ℕ → Ended ℕ
-trial-call h s out = unless (refuse out) (broken (trial-limits h)) (write-in (trial-job h s) out)
+trial-call h s out = unless (refuse out) (trial-refusal h (length out)) (record { answer = gives (length (encode (trial-job h s))); list = over (encode (trial-job h s)) out })

@@ -90,7 +90,7 @@ done-first h rates sizes distortions out e = done h rates sizes distortions out 
 idle-broken : (h : Header) → ((Idle h → ⊥) → ⊥) → broken (drain-limits opening (h .buckets)) ≡ some 17
 idle-broken h f = broken-one 17 (drain-limits opening (h .buckets)) (drains-number opening (h .buckets)) (λ k. f (λ i. let z = none-idle (h .buckets) k (i .0) (i .1) in omega (arith, i .2)))
 
-no-idle : (h : Header) → AllKept (header-limits h) → (Idle h → ⊥) → AllKept (drain-limits opening (h .buckets))
+pub no-idle : (h : Header) → AllKept (header-limits h) → (Idle h → ⊥) → AllKept (drain-limits opening (h .buckets))
 no-idle h a f = all-drain (h .buckets) (kept-drains largest-sizes (h .buckets) (a .1 .1 .1 .1 .1 .1 .1) (omega arith)) (idle-or (h .buckets) (λ i l q. f (i, l, q)))
 
 -- all limits from the five parts

@@ -52,7 +52,7 @@ module _ (h : Header) (rates sizes distortions : List ℕ) where
       units = unfold job-from job-of in (parted-kept (h .units) (h .choices) cs counted (a .codings-kept));
     }
 
-    formed-given : Formed opening (job-from h rates sizes distortions)
+    pub formed-given : Formed opening (job-from h rates sizes distortions)
     formed-given = record { well-formed = well-given; drains = rw header-given (a .drains) }
 
     -- the bytes of the job over those of a list that is long enough
