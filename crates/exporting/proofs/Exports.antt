@@ -33,11 +33,13 @@ use Rattle.replaying.specs.Former.{turn-call}
 use Rattle.replaying.proofs.Former.{turns}
 use Rattle.planning.specs.Calls as planning
 use Rattle.planning.specs.Claims.{PlanClaim}
-use Rattle.writing.specs.Calls.{write-refusal, write-call}
 use Rattle.format.specs.Places.{job-size}
-use Rattle.writing.specs.Claims.{Asks}
+use Rattle.writing.specs.Claims.{Asks, Written}
 use Rattle.writing.proofs.Refusals.{refusal-order, done-first}
 use Rattle.writing.proofs.Writes.{writes}
+use Rattle.trials.specs.Claims as trials
+use Rattle.trials.specs.Claims.{Tried}
+use Rattle.trials.proofs.Trials as trial
 use Rattle.calling.specs.Commands.{calls-tests}
 use Rattle.calling.specs.Sessions.{answers-tests, calls-refusal, calls-call, Session, session-tests, plan-refusal, session-call, replay-refusal, replay-session}
 use Rattle.calling.specs.Claims.{book-numbers, book-pins, archive-pins, SessionClaim}
@@ -46,8 +48,8 @@ use Rattle.calling.proofs.Sessions.{call-sessions, session-decides, sessions, r
 use Rattle.values.specs.Lists.{buckets-in, opened-values, pins-list, totals-list, replayed-list}
 use Rattle.exporting.proofs.Fields.{is-header, no-header}
 use Rattle.exporting.specs.Exports as x
-use Rattle.exporting.specs.Exports.{number-of, room-for, opened, open-export, called, after-calls, calls-export, planned, after-session, plan-export, replayed, after-replay, replay-export, filled, done-export, report-export, turn-export, written, after-write, write-export}
-use Rattle.exporting.specs.Claims.{CallConditions, Opening, Calling, Planning, PlanConditions, Plans, Replaying, ReplayTold, ReplayConditions, Replays, Reporting, Reports, Turning, Turns, Writing, Writes}
+use Rattle.exporting.specs.Exports.{number-of, room-for, opened, open-export, called, after-calls, calls-export, planned, after-session, plan-export, replayed, after-replay, replay-export, filled, done-export, report-export, turn-export, written, after-write, job-export}
+use Rattle.exporting.specs.Claims.{CallConditions, Opening, Calling, Planning, PlanConditions, Plans, Replaying, ReplayTold, ReplayConditions, Replays, Reporting, Reports, Turning, Turns, Making, Makes, Writes, Trials}
 use Rattle.replaying.specs.Claims.{InShape, DemandTwo, Reported, WasPlan, Turned}
 use Rattle.replaying.specs.Entries.{plan-of}
 
@@ -209,42 +211,45 @@ in-front : {R : Type 0} (refuse : ℕ → R) (o : Option ℕ) (r : R) (cs ds : L
 in-front refuse o r [] ds Else p f g = g p
 in-front refuse o r (c ∷ cs) ds Else p f g = (λ h. f (c .number) (p .0 h), λ h. in-front refuse o r cs ds Else (p .1 h) f g)
 
-module _ (fields rates sizes distortions job values : List ℕ) where
-  abbrev H : Header
-  H = header-of fields
-
-  abbrev O : Option ℕ
-  O = write-refusal H rates sizes distortions (length job)
-
+-- a job that is made: what refuses it, in which order, how long it is where nothing does, and what holds of what is written
+module _ (fields job values : List ℕ) (looked : Option ℕ) (made : lent.Ended ℕ) where
   abbrev r : x.Written
-  r = write-export fields rates sizes distortions job values
-
-  abbrev W : x.Written
-  W = after-write (write-call H rates sizes distortions job) values
+  r = job-export fields looked made job values
 
   module _ (nine : (length fields ≡ 9) ⊎ (length fields ≡ 12)) where
-    on : r ≡ unless (λ n. written n job values) (first O (refusal (room-for 1 values))) W
-    unfolding write-export
+    on : r ≡ unless (λ n. written n job values) (first looked (refusal (room-for 1 values))) (after-write made values)
+    unfolding job-export
     on = guarded-last (λ n. written n job values) _ _ (is-header (length fields) nine)
 
-    refuses : (n : ℕ) → O ≡ some n → r ≡ written n job values
-    refuses n e = on ∙ unless-some (λ n. written n job values) _ n W (unless-some some O n _ e)
+    refuses : (n : ℕ) → looked ≡ some n → r ≡ written n job values
+    refuses n e = on ∙ unless-some (λ n. written n job values) _ n _ (unless-some some looked n _ e)
 
-    then-room : O ≡ none → InOrder r (λ n. written n job values) (condition 12 (1 ≤ length values) ∷ []) (Writing fields rates sizes distortions job values r)
-    then-room e =
-        in-order (λ n. written n job values) (room-decides 1 values) (Writing fields rates sizes distortions job values) W r
-        (on ∙ ap (λ (o : Option ℕ). unless (λ n. written n job values) o W) (unless-none some O _ e) ∙ unfold guarded in refl)
-        (λ h. shows (done-first H rates sizes distortions job e))
-      where
-        shows : write-call H rates sizes distortions job .answer ≡ gives (job-size H) → Writing fields rates sizes distortions job values W
-        shows q = unfold after-write number-of in (record {
-          taken = job-size H;
-          holds = writes H rates sizes distortions job (job-size H) q;
-          is = ap₂ (λ (n : ℕ) (vs : List ℕ). written n (write-call H rates sizes distortions job .list) vs) (rw q) (put-given _ (job-size H) (λ (n : ℕ). n ∷ []) values q);
-        })
+    module _ (Holds : ℕ → List ℕ → Type 0) (size : ℕ) (given : looked ≡ none → made .answer ≡ gives size) (holds : (n : ℕ) → made .answer ≡ gives n → Holds n (made .list)) where
+      then-room : looked ≡ none → InOrder r (λ n. written n job values) (condition 12 (1 ≤ length values) ∷ []) (Making Holds values r)
+      then-room e =
+          in-order (λ n. written n job values) (room-decides 1 values) (Making Holds values) (after-write made values) r
+          (on ∙ ap (λ (o : Option ℕ). unless (λ n. written n job values) o (after-write made values)) (unless-none some looked _ e) ∙ unfold guarded in refl)
+          (λ h. shows (given e))
+        where
+          shows : made .answer ≡ gives size → Making Holds values (after-write made values)
+          shows q = unfold after-write number-of in (record {
+            taken = size;
+            holds = holds size q;
+            is = ap₂ (λ (n : ℕ) (vs : List ℕ). written n (made .list) vs) (rw q) (put-given _ size (λ (n : ℕ). n ∷ []) values q);
+          })
+
+  makes : (asks : List Condition) (Holds : ℕ → List ℕ → Type 0) (size : ℕ) → InOrder looked some asks (looked ≡ none) → (looked ≡ none → made .answer ≡ gives size) → ((n : ℕ) → made .answer ≡ gives n → Holds n (made .list)) → Makes fields job values r asks Holds
+  makes asks Holds size order given holds = (
+    λ f. unfold job-export in (guarded-here (λ n. written n job values) _ _ _ (no-header (length fields) f)),
+    λ nine. in-front (λ n. written n job values) looked r asks (condition 12 (1 ≤ length values) ∷ []) (Making Holds values r) order (refuses nine) (then-room nine Holds size given holds),
+  )
 
 pub writes-exported : Writes
-writes-exported fields rates sizes distortions job values = (
-  λ f. unfold write-export in (guarded-here (λ n. written n job values) _ _ _ (no-header (length fields) f)),
-  λ nine. in-front (λ n. written n job values) (write-refusal (header-of fields) rates sizes distortions (length job)) (write-export fields rates sizes distortions job values) (Asks (header-of fields) rates sizes distortions job) (condition 12 (1 ≤ length values) ∷ []) (Writing fields rates sizes distortions job values (write-export fields rates sizes distortions job values)) (refusal-order (header-of fields) rates sizes distortions job) (refuses fields rates sizes distortions job values nine) (then-room fields rates sizes distortions job values nine),
-)
+writes-exported fields rates sizes distortions job values =
+    let h = header-of fields in
+    makes fields job values _ _ (Asks h rates sizes distortions job) (Written h rates sizes distortions job) (job-size h) (refusal-order h rates sizes distortions job) (done-first h rates sizes distortions job) (writes h rates sizes distortions job)
+
+pub trials-exported : Trials
+trials-exported fields state job values =
+    let h = header-of fields in
+    makes fields job values _ _ (trials.Asks h job) (Tried h state job) (job-size h) (trial.refusal-order h state job) (trial.done-first h state job) (trial.tries h state job)

@@ -19,11 +19,13 @@ use Rattle.replaying.specs.Entries.{plan-of}
 use Rattle.replaying.specs.Calls.{Replayed, totals-are, violated}
 use Rattle.replaying.specs.Claims.{InShape, DemandTwo, Reported, WasPlan, Turned}
 use Rattle.writing.specs.Claims.{Asks, Written}
+use Rattle.trials.specs.Claims as trials
+use Rattle.trials.specs.Claims.{Tried}
 use Rattle.calling.specs.Sessions.{Session}
 use Rattle.calling.specs.Claims.{Either, AllKinds, Whole, book-numbers, book-pins, archive-pins, SessionClaim}
 use Rattle.values.specs.Lists.{pins-list, violation-number}
 use Rattle.exporting.specs.Exports as x
-use Rattle.exporting.specs.Exports.{opened, open-export, called, calls-export, planned, after-session, plan-export, replayed, after-replay, replay-export, Filled, filled, report-export, turn-export, written, write-export}
+use Rattle.exporting.specs.Exports.{opened, open-export, called, calls-export, planned, after-session, plan-export, replayed, after-replay, replay-export, Filled, filled, report-export, turn-export, written, write-export, trial-export}
 
 -- the calls as numbers, before one is made
 abbrev pub CallConditions : List ℕ → List Condition
@@ -93,11 +95,19 @@ pub record Turning (j : Job) (old entries : List ℕ) (r : Filled) : Type 0 wher
 abbrev pub Turns : Type 0
 Turns = (b old entries : List ℕ) → Looks (turn-export b old entries) (λ n. filled n entries) (parse archive b) (λ j. condition 14 (WasPlan j old) ∷ condition 12 (3 * intervals j ≤ length entries) ∷ []) (λ j. Turning j old entries (turn-export b old entries))
 
--- writing: fields that are neither nine nor twelve are no header; then the writer's own order, then room for the value, which is how many bytes the job took
-pub record Writing (fields rates sizes distortions job values : List ℕ) (r : x.Written) : Type 0 where
+-- a job that is made of a header's fields: such as are neither nine nor twelve are no header; then what it asks itself, then room for the value, which is how many bytes the job took
+pub record Making (Holds : ℕ → List ℕ → Type 0) (values : List ℕ) (r : x.Written) : Type 0 where
   pub taken : ℕ
-  pub holds : Written (header-of fields) rates sizes distortions job taken (r .job)
+  pub holds : Holds taken (r .job)
   pub is : r ≡ written 0 (r .job) (over (taken ∷ []) values)
 
+abbrev pub Makes : List ℕ → List ℕ → List ℕ → x.Written → List Condition → (ℕ → List ℕ → Type 0) → Type 0
+Makes fields job values r asks Holds = InOrder r (λ n. written n job values) (condition 3 ((length fields ≡ 9) ⊎ (length fields ≡ 12)) ∷ (asks ++ (condition 12 (1 ≤ length values) ∷ []))) (Making Holds values r)
+
+-- writing, in the writer's own order
 abbrev pub Writes : Type 0
-Writes = (fields rates sizes distortions job values : List ℕ) → InOrder (write-export fields rates sizes distortions job values) (λ n. written n job values) (condition 3 ((length fields ≡ 9) ⊎ (length fields ≡ 12)) ∷ (Asks (header-of fields) rates sizes distortions job ++ (condition 12 (1 ≤ length values) ∷ []))) (Writing fields rates sizes distortions job values (write-export fields rates sizes distortions job values))
+Writes = (fields rates sizes distortions job values : List ℕ) → Makes fields job values (write-export fields rates sizes distortions job values) (Asks (header-of fields) rates sizes distortions job) (Written (header-of fields) rates sizes distortions job)
+
+-- a trial job
+abbrev pub Trials : Type 0
+Trials = (fields : List ℕ) (state : ℕ) (job values : List ℕ) → Makes fields job values (trial-export fields state job values) (trials.Asks (header-of fields) job) (Tried (header-of fields) state job)

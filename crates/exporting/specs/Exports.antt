@@ -1,6 +1,7 @@
 -- What the exported calls answer and leave: the inner calls' answers as a number, 0 where a call is not refused, and values in a list.
 use Prim.Native.Nat.{ℕ, _+_}
 use mathlib.Core.Bool.{Bool, true}
+use mathlib.Core.Option.{Option}
 use mathlib.Core.List.{List, [], _∷_}
 use lib.Dec.{leb, eqb}
 use lib.ListN.{length}
@@ -14,6 +15,7 @@ use Rattle.format.specs.JobBytes.{header-of, header-in, Door, parse}
 use Rattle.replaying.specs.Calls.{Replayed, report-call}
 use Rattle.replaying.specs.Former.{turn-call}
 use Rattle.writing.specs.Calls.{write-refusal, write-call}
+use Rattle.trials.specs.Calls.{trial-refusal, trial-call}
 use Rattle.calling.specs.Sessions.{calls-refusal, calls-call, Session, plan-refusal, session-call, replay-refusal, replay-session}
 use Rattle.values.specs.Lists.{buckets-in, opened-values, pins-list, totals-list, replayed-list}
 
@@ -121,9 +123,14 @@ after-write r values = written (number-of (r .answer)) (r .list) (put (r .answer
 unfoldable pub header-fields : ℕ → Bool
 header-fields n = if eqb n 12 then true else eqb n 9
 
--- fields that are neither nine nor twelve are no header
-unfoldable pub write-export : List ℕ → List ℕ → List ℕ → List ℕ → List ℕ → List ℕ → Written
-write-export fields rates sizes distortions job values =
+-- a job is made of a header's fields: such as are neither nine nor twelve are no header; then what refuses the job itself, then room for the value
+unfoldable pub job-export : List ℕ → Option ℕ → Ended ℕ → List ℕ → List ℕ → Written
+job-export fields looked made job values =
     guarded (λ n. written n job values) (test 3 (header-fields (length fields)) ∷ [])
-    (unless (λ n. written n job values) (first (write-refusal (header-of fields) rates sizes distortions (length job)) (refusal (room-for 1 values)))
-    (after-write (write-call (header-of fields) rates sizes distortions job) values))
+    (unless (λ n. written n job values) (first looked (refusal (room-for 1 values))) (after-write made values))
+
+abbrev pub write-export : List ℕ → List ℕ → List ℕ → List ℕ → List ℕ → List ℕ → Written
+write-export fields rates sizes distortions job values = job-export fields (write-refusal (header-of fields) rates sizes distortions (length job)) (write-call (header-of fields) rates sizes distortions job) job values
+
+abbrev pub trial-export : List ℕ → ℕ → List ℕ → List ℕ → Written
+trial-export fields state job values = job-export fields (trial-refusal (header-of fields) (length job)) (trial-call (header-of fields) state job) job values

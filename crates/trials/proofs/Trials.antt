@@ -32,7 +32,7 @@ use Rattle.writing.proofs.Writes.{formed-given}
 use Rattle.writing.proofs.Refusals as w-proofs
 use Rattle.writing.proofs.Refusals.{size-given, no-idle}
 use Rattle.trials.specs.Calls.{trial-rates, trial-sizes, trial-distortions, trial-job, trial-limits, trial-refusal, trial-call}
-use Rattle.trials.specs.Claims.{Tried, Tries, Refusals, Alone, AsWritten}
+use Rattle.trials.specs.Claims.{Tried, Tries, Asks, Refusals, Alone, AsWritten}
 use Rattle.trials.proofs.Drawn.{accepted, drawn}
 
 module _ (h : Header) (s : ℕ) where
@@ -141,3 +141,20 @@ refusals h s out = rw (as-written h s out) (
   where
     r : InOrder (write-call h (rates h s) (sizes h s) (distortions h s) out) (refuse out) (w.Asks h (rates h s) (sizes h s) (distortions h s) out) (write-call h (rates h s) (sizes h s) (distortions h s) out .answer ≡ gives (job-size h)) × Keeping out (write-call h (rates h s) (sizes h s) (distortions h s) out)
     r = w-proofs.refusals h (rates h s) (sizes h s) (distortions h s) out
+
+-- the same order of the refusal that is found before writing
+pub refusal-order : (h : Header) (s : ℕ) (out : List ℕ) → InOrder (trial-refusal h (length out)) some (Asks h out) (trial-refusal h (length out) ≡ none)
+refusal-order h s out = rw (refusal-same h s (length out)) (
+  r .0,
+  λ a. (
+    r .1 a .0,
+    λ idle. let k = accepted h s a (no-idle h a idle) in r .1 a .1 idle .1 (k .lengths) .1 (k .rates-kept) .1 (k .codings-kept),
+  ),
+)
+  where
+    r : InOrder (write-refusal h (rates h s) (sizes h s) (distortions h s) (length out)) some (w.Asks h (rates h s) (sizes h s) (distortions h s) out) (write-refusal h (rates h s) (sizes h s) (distortions h s) (length out) ≡ none)
+    r = w-proofs.refusal-order h (rates h s) (sizes h s) (distortions h s) out
+
+-- where nothing refuses, the answer is how many bytes the job takes
+pub done-first : (h : Header) (s : ℕ) (out : List ℕ) → trial-refusal h (length out) ≡ none → trial-call h s out .answer ≡ gives (job-size h)
+done-first h s out e = rw (as-written h s out) (w-proofs.done-first h (rates h s) (sizes h s) (distortions h s) out (sym (refusal-same h s (length out)) ∙ e))

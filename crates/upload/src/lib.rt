@@ -4,7 +4,7 @@ ghost use mathlib.Core.Path.{_≡_};
 ghost use Rattle.format.specs.JobBytes.{opening, archive};
 ghost use Rattle.model.specs.Pins.{pin, lift};
 ghost use Rattle.exporting.specs.Sets.{set-export, call-export, seen, see-export, set-planned, set-plan-export, set-replay-export};
-ghost use Rattle.exporting.specs.Exports.{opened, open-export, called, calls-export, planned, plan-export, replayed, replay-export, filled, report-export, turn-export, written, write-export};
+ghost use Rattle.exporting.specs.Exports.{opened, open-export, called, calls-export, planned, plan-export, replayed, replay-export, filled, report-export, turn-export, written, write-export, trial-export};
 use header::Door;
 
 // Opens a job. Values: how many bytes it took, N, T, and how many words its table has.
@@ -187,4 +187,17 @@ pub extern "C" fn upload_write(
     ensures { λ r. ⌜ written r (now (job .exit)) (now (values .exit)) ≡ write-export (now (fields .entry)) (now (rates .entry)) (now (sizes .entry)) (now (distortions .entry)) (now (job .entry)) (now (values .entry)) ⌝ }
 {
     written::write(fields, rates, sizes, distortions, job, values)
+}
+
+// Writes the trial job of the nine fields of a header, or twelve, and a starting state. Values: how many bytes the job took. Another number of fields is no header.
+#[no_mangle]
+pub extern "C" fn upload_trial(
+    fields: &[u16],
+    state: u32,
+    job: &mut [u8],
+    values: &mut [u64],
+) -> u32
+    ensures { λ r. ⌜ written r (now (job .exit)) (now (values .exit)) ≡ trial-export (now (fields .entry)) state (now (job .entry)) (now (values .entry)) ⌝ }
+{
+    written::write_trial(fields, state, job, values)
 }

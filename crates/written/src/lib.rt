@@ -1,11 +1,14 @@
 // A job that is written from lists of numbers: its header from nine fields, or twelve.
 ghost use mathlib.Core.Path.{_≡_};
-ghost use Prim.Native.Nat.{_+_, _*_};
+ghost use mathlib.Core.List.{[], _∷_};
+ghost use Prim.Native.Nat.{_+_, _*_, _≤_};
 ghost use lib.ListN.{length, drop};
 ghost use Rattle.base.specs.If.{one-if};
 ghost use Rattle.format.specs.JobBytes.{policed-by, header-of};
 ghost use Rattle.header.specs.Answers.{extra, policed-of, plain};
-ghost use Rattle.exporting.specs.Exports.{header-fields, written, write-export};
+ghost use Rattle.base.specs.Lent.{put};
+ghost use Rattle.writer.specs.Answers.{wrote-answer};
+ghost use Rattle.exporting.specs.Exports.{number-of, header-fields, written, write-export, trial-export};
 use header::Bucket;
 use header::Header;
 use header::Verdict;
@@ -76,6 +79,20 @@ fn header_of(fields: &[u16], two: bool) -> Header
     }
 }
 
+// The number of what was answered, and how many bytes the job took as a value.
+fn tell(made: Wrote, values: &mut [u64]) -> u32
+    requires { ⌜ 1 ≤ length (now values) ⌝ }
+    ensures { λ r. ⌜ (r ≡ number-of (wrote-answer made)) × (now (values .exit) ≡ put (wrote-answer made) (λ taken. taken ∷ []) (now (values .entry))) ⌝ }
+{
+    match made {
+        Wrote::Refused(n) => n as u32,
+        Wrote::Done(taken) => {
+            values[0] = taken as u64;
+            DONE
+        }
+    }
+}
+
 // Writes a job from the nine fields of its header, or twelve, its rates, and sizes and distortions by unit and choice, unit after unit. Values: how many bytes the job took. Another number of fields is no header.
 pub fn write(
     fields: &[u16],
@@ -104,11 +121,23 @@ pub fn write(
     if values.len() < WRITE_VALUES {
         return SHORT_LIST;
     }
-    match writer::write_job(header, rates, sizes, distortions, job) {
-        Wrote::Refused(n) => n as u32,
-        Wrote::Done(taken) => {
-            values[0] = taken as u64;
-            DONE
-        }
+    tell(writer::write_job(header, rates, sizes, distortions, job), values)
+}
+
+// Writes the trial job of the nine fields of a header, or twelve, and a starting state. Values: how many bytes the job took. Another number of fields is no header.
+pub fn write_trial(fields: &[u16], state: u32, job: &mut [u8], values: &mut [u64]) -> u32
+    ensures { λ r. ⌜ written r (now (job .exit)) (now (values .exit)) ≡ trial-export (now (fields .entry)) state (now (job .entry)) (now (values .entry)) ⌝ }
+{
+    if !fields_fit(fields.len()) {
+        return NO_HEADER;
     }
+    let two = fields.len() == TWO_FIELDS;
+    let header = header_of(fields, two);
+    if let Verdict::Refused(n) = trial::trial_refusal(header, job.len()) {
+        return n as u32;
+    }
+    if values.len() < WRITE_VALUES {
+        return SHORT_LIST;
+    }
+    tell(trial::write_trial(header, state, job), values)
 }
