@@ -10,7 +10,7 @@ use Rattle.format.specs.Limits.{broken}
 use Rattle.format.specs.JobBytes.{Header, header-limits, opening, drain-limits}
 use Rattle.format.specs.Places.{job-size}
 use Rattle.format.proofs.Limits.{all-kept, broken-first, broken-later}
-use Rattle.trials.specs.Calls.{trial-limits, trial-refusal}
+use Rattle.trials.specs.Calls.{trial-limits, trial-room, trial-refusal}
 
 module _ (h : Header) (out : ℕ) where
   limit-refuses : (n : ℕ) → broken (trial-limits h) ≡ some n → some n ≡ trial-refusal h out
@@ -30,9 +30,9 @@ module _ (h : Header) (out : ℕ) where
 
     module _ (f : none ≡ broken (drain-limits opening (h .buckets))) where
       pub room-refuses : out < job-size h → some 12 ≡ trial-refusal h out
-      unfolding trial-refusal
+      unfolding trial-refusal trial-room
       room-refuses l = sym (unless-none some (broken (trial-limits h)) _ (limits-are ∙ sym f) ∙ refusal-here _ _ (lt-leb (job-size h) out l))
 
       pub none-refuses : job-size h ≤ out → none ≡ trial-refusal h out
-      unfolding trial-refusal
+      unfolding trial-refusal trial-room
       none-refuses l = sym (unless-none some (broken (trial-limits h)) _ (limits-are ∙ sym f) ∙ refusal-last _ (le-leb (job-size h) out l))

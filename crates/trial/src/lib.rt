@@ -115,7 +115,13 @@ fn put_next_unit(out: &mut [u8], at: usize, choices: usize, state: u32) -> u32
 {
     let mut sizes = [0; MOST_CHOICES];
     let mut distortions = [0; MOST_CHOICES];
-    put_drawn_unit(out, at, &mut sizes[0..choices], &mut distortions[0..choices], state)
+    put_drawn_unit(
+        out,
+        at,
+        &mut sizes[0..choices],
+        &mut distortions[0..choices],
+        state,
+    )
 }
 
 // The records of all units.

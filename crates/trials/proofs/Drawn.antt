@@ -1,5 +1,5 @@
 -- The lists that are drawn keep the writer's limits, and each number of the job is drawn in its turn.
-use Prim.Native.Nat.{ℕ, zero, suc, _+_, _*_, _<_, _≤_}
+use Prim.Native.Nat.{ℕ, zero, suc, _+_, _*_, _%_, _<_, _≤_}
 use mathlib.Core.Path.{_≡_, refl, sym, ap, _∙_}
 use mathlib.Core.List.{List, []}
 use native.Mathlib.Omega.{arith}
@@ -40,27 +40,27 @@ parted-at (suc n) m l (suc i) h = let e : m + i * m ≡ suc i * m = omega (arith
 module _ (h : Header) (s : ℕ) where
   rates-long : length (trial-rates h s) ≡ h .rates
   unfolding trial-rates
-  rates-long = build-length (h .rates) (rate-drawn s)
+  rates-long = build-length _ _
 
   sizes-long : length (trial-sizes h s) ≡ h .units * h .choices
   unfolding trial-sizes
-  sizes-long = build-length (h .units * h .choices) (size-drawn (after (h .rates) s))
+  sizes-long = build-length _ _
 
   distortions-long : length (trial-distortions h s) ≡ h .units * h .choices
   unfolding trial-distortions
-  distortions-long = build-length (h .units * h .choices) (distortion-drawn (after (h .rates) s))
+  distortions-long = build-length _ _
 
   rate-is : (y : ℕ) → y < h .rates → getD (trial-rates h s) y 0 ≡ rate-drawn s y
   unfolding trial-rates
-  rate-is y l = build-at (h .rates) (rate-drawn s) y l
+  rate-is y l = build-at _ _ y l
 
   size-is : (k : ℕ) → k < h .units * h .choices → getD (trial-sizes h s) k 0 ≡ size-drawn (after (h .rates) s) k
   unfolding trial-sizes
-  size-is k l = build-at (h .units * h .choices) (size-drawn (after (h .rates) s)) k l
+  size-is k l = build-at _ _ k l
 
   distortion-is : (k : ℕ) → k < h .units * h .choices → getD (trial-distortions h s) k 0 ≡ distortion-drawn (after (h .rates) s) k
   unfolding trial-distortions
-  distortion-is k l = build-at (h .units * h .choices) (distortion-drawn (after (h .rates) s)) k l
+  distortion-is k l = build-at _ _ k l
 
   abbrev cs : List Coding
   cs = codings-from (trial-sizes h s) (trial-distortions h s)
@@ -104,13 +104,22 @@ module _ (h : Header) (s : ℕ) where
         inside : suc u * h .choices ≤ h .units * h .choices
         inside = mul-le-mul {n₂ = h .units} {m₂ = h .choices} l (omega arith)
 
+    -- which draws they are, counted from the starting state
+    size-there : (k : ℕ) → size-drawn (after (h .rates) s) k ≡ draw s (h .rates + 2 * k) % 64
+    unfolding size-drawn
+    size-there k = ap (λ (v : ℕ). v % 64) (draw-later (h .rates) _ s ∙ ap (draw s) (omega arith))
+
+    distortion-there : (k : ℕ) → distortion-drawn (after (h .rates) s) k ≡ draw s (h .rates + 2 * k + 1)
+    unfolding distortion-drawn
+    distortion-there k = draw-later (h .rates) _ s ∙ ap (draw s) (omega arith)
+
     pub drawn : Drawn h s (trial-job h s)
     drawn = record {
       header = header-is;
       first-rate = rw (rates-there 0 (omega arith)) (unfold rate-drawn in (left-four (draw s 0)));
       later-rate = λ y left l o. rates-there (suc y) l ∙ unfold rate-drawn in (omega (arith, rates-there y (omega arith), four-left (draw s (suc y)) left o));
-      size = λ u x l m. rw (coded u x l m) (unfold size-drawn in (rw (draw-later (h .rates) (2 * (u * h .choices + x)) s) (left-64 _)));
-      distortion = λ u x l m. ap (λ (c : Coding). c .distortion) (coded u x l m) ∙ unfold distortion-drawn in (draw-later (h .rates) (2 * (u * h .choices + x) + 1) s ∙ ap (draw s) (omega arith));
+      size = λ u x l m. rw (coded u x l m) (rw (size-there (u * h .choices + x)) (left-64 _));
+      distortion = λ u x l m. ap (λ (c : Coding). c .distortion) (coded u x l m) ∙ distortion-there (u * h .choices + x);
     }
       where
         rates-there : (y : ℕ) → y < h .rates → getD (trial-job h s .line .rates) y 0 ≡ rate-drawn s y

@@ -22,14 +22,17 @@ wraps x = omega arith
 
 pub stream : Stream
 unfolding after draw
-stream s n = (record {
-  wraps = (after n s * 1664525 + 1013904223) / 4294967296;
-  low = next (after n s) % 65536;
-  next-is = unfold next in (wraps (after n s * 1664525 + 1013904223));
-  small = next-fits (after n s);
-  halves = halves (next (after n s));
-  low-small = omega arith;
-}, refl)
+stream s n = (
+  record {
+    wraps = (after n s * 1664525 + 1013904223) / 4294967296;
+    low = next (after n s) % 65536;
+    next-is = unfold next in (wraps (after n s * 1664525 + 1013904223));
+    small = next-fits (after n s);
+    halves = halves (next (after n s));
+    low-small = omega arith;
+  },
+  refl,
+)
 
 -- draws from a state that draws led to are later draws
 pub after-more : (k n s : ℕ) → after k (after n s) ≡ after (n + k) s
@@ -54,11 +57,11 @@ rate-rises s y = omega arith
 -- codings further on are those from the state there
 pub size-later : (s n k : ℕ) → size-drawn (after (2 * n) s) k ≡ size-drawn s (n + k)
 unfolding size-drawn
-size-later s n k = let e : 2 * n + 2 * k ≡ 2 * (n + k) = omega arith in rw (draw-later (2 * n) (2 * k) s, e)
+size-later s n k = ap (λ (v : ℕ). v % 64) (draw-later (2 * n) _ s ∙ ap (draw s) (omega arith))
 
 pub distortion-later : (s n k : ℕ) → distortion-drawn (after (2 * n) s) k ≡ distortion-drawn s (n + k)
 unfolding distortion-drawn
-distortion-later s n k = let e : 2 * n + (2 * k + 1) ≡ 2 * (n + k) + 1 = omega arith in rw (draw-later (2 * n) (2 * k + 1) s, e)
+distortion-later s n k = draw-later (2 * n) _ s ∙ ap (draw s) (omega arith)
 
 pub size-fits : (s k : ℕ) → size-drawn s k < 64
 unfolding size-drawn
@@ -66,7 +69,7 @@ size-fits s k = omega arith
 
 pub distortion-fits : (s k : ℕ) → distortion-drawn s k < 65536
 unfolding distortion-drawn
-distortion-fits s k = draw-fits s (2 * k + 1)
+distortion-fits s k = draw-fits s _
 
 -- what is left over
 pub left-four : (v : ℕ) → LeftOver 4 v (v % 4)

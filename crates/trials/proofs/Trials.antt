@@ -31,7 +31,7 @@ use Rattle.writing.proofs.Order.{Accepted, accepts}
 use Rattle.writing.proofs.Writes.{formed-given}
 use Rattle.writing.proofs.Refusals as w-proofs
 use Rattle.writing.proofs.Refusals.{size-given, no-idle}
-use Rattle.trials.specs.Calls.{trial-rates, trial-sizes, trial-distortions, trial-job, trial-limits, trial-refusal, trial-call}
+use Rattle.trials.specs.Calls.{trial-rates, trial-sizes, trial-distortions, trial-job, trial-limits, trial-room, trial-refusal, trial-call}
 use Rattle.trials.specs.Claims.{Tried, Tries, Asks, Refusals, Alone, AsWritten}
 use Rattle.trials.proofs.Drawn.{accepted, drawn}
 
@@ -72,8 +72,8 @@ module _ (h : Header) (s : ℕ) where
   bytes-count k = size-given h rates sizes distortions [] (accepts h rates sizes distortions (kept-all k))
 
   -- 12 is the same too
-  refusal-by : (n : ℕ) (o : Option ℕ) → broken (trial-limits h) ≡ o → first o (refusal (test 12 (leb (job-size h) n) ∷ [])) ≡ first o (refusal (room-tests (trial-job h s) n))
-  unfolding unless room-tests
+  refusal-by : (n : ℕ) (o : Option ℕ) → broken (trial-limits h) ≡ o → first o (refusal (trial-room h n)) ≡ first o (refusal (room-tests (trial-job h s) n))
+  unfolding unless trial-room room-tests
   refusal-by n none e = rw (bytes-count (all-kept _ e))
   refusal-by n (some k) e = refl
 
@@ -111,8 +111,8 @@ module _ (h : Header) (s : ℕ) (out : List ℕ) where
     room-good true e = λ n q. over-good (leb-true _ (length out) e) n (gives-same q)
     room-good false e = refused-good 12
 
-  call-good : (o : Option ℕ) → broken (trial-limits h) ≡ o → Good (unless (refuse out) (first o (refusal (test 12 (leb (job-size h) (length out)) ∷ []))) (record { answer = gives (length (bytes h s)); list = over (bytes h s) out }))
-  unfolding unless
+  call-good : (o : Option ℕ) → broken (trial-limits h) ≡ o → Good (unless (refuse out) (first o (refusal (trial-room h (length out)))) (record { answer = gives (length (bytes h s)); list = over (bytes h s) out }))
+  unfolding unless trial-room
   call-good none e = room-good (all-kept (trial-limits h) e) (leb (job-size h) (length out)) refl
   call-good (some n) e = refused-good n
 

@@ -6,7 +6,7 @@ use lib.Dec.{leb}
 use lib.ListN.{length}
 use Rattle.base.specs.Lists.{build}
 use Rattle.base.specs.Answer.{gives}
-use Rattle.base.specs.Refusals.{test, refusal, unless, first}
+use Rattle.base.specs.Refusals.{Test, test, refusal, unless, first}
 use Rattle.base.specs.Lent.{Ended, over, refuse}
 use Rattle.model.specs.Job.{Job}
 use Rattle.format.specs.Limits.{Limit, broken}
@@ -33,9 +33,13 @@ module _ (h : Header) (s : ℕ) where
 unfoldable pub trial-limits : Header → List Limit
 trial-limits h = header-limits h ++ drain-limits opening (h .buckets)
 
--- "then 12": the number by which writing to a list of so many bytes is refused, if there is one
+-- "then 12": so many bytes are enough for the job
+unfoldable pub trial-room : Header → ℕ → List Test
+trial-room h out = test 12 (leb (job-size h) out) ∷ []
+
+-- the number by which writing to a list of so many bytes is refused, if there is one
 unfoldable pub trial-refusal : Header → ℕ → Option ℕ
-trial-refusal h out = first (broken (trial-limits h)) (refusal (test 12 (leb (job-size h) out) ∷ []))
+trial-refusal h out = first (broken (trial-limits h)) (refusal (trial-room h out))
 
 -- the job's bytes first, the rest of the list as before; the answer is how many bytes the job took
 unfoldable pub trial-call : Header → ℕ → List ℕ → Ended ℕ

@@ -121,7 +121,10 @@ pub fn write(
     if values.len() < WRITE_VALUES {
         return SHORT_LIST;
     }
-    tell(writer::write_job(header, rates, sizes, distortions, job), values)
+    tell(
+        writer::write_job(header, rates, sizes, distortions, job),
+        values,
+    )
 }
 
 // Writes the trial job of the nine fields of a header, or twelve, and a starting state. Values: how many bytes the job took. Another number of fields is no header.
