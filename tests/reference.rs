@@ -1531,6 +1531,19 @@ pub struct Size {
     pub choices: usize,
 }
 
+impl Size {
+    /// A header of this size. The drain is 20; at the start the decoder is filled to a
+    /// third, the bucket to a half. `second`: size, drain and starting level of a second
+    /// bucket.
+    pub fn header(&self, second: Option<[u16; 3]>) -> Vec<u16> {
+        let Size { units, delay, decoder, bucket, rates, choices } = *self;
+        let fields = [units, delay, decoder, bucket, 20, decoder / 3, bucket / 2, rates, choices];
+        let mut header = fields.map(|field| field as u16).to_vec();
+        header.extend(second.into_iter().flatten());
+        header
+    }
+}
+
 /// The largest job that opens.
 pub const FULL: Size =
     Size { units: 512, delay: 64, decoder: 255, bucket: 255, rates: 16, choices: MOST_CHOICES };
