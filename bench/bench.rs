@@ -11,6 +11,12 @@
 //! give the same table, plan and least distortion. Loops over 1,000 choices would
 //! take minutes, and are left out. Even pictures stand beside the least total, and
 //! a sitting of pins and lifts, seen at once, beside planning anew after each.
+//!
+//! What is timed are trial jobs, so that they can be made again from a header and a
+//! state. The headers are those of `Size::header`: the sizes that are printed, a drain of
+//! 20, the decoder filled to a third at the start and each bucket to a half. The state is
+//! [`STATE`] unless the line names another. A few jobs are made here instead; where they
+//! are made, it says why no trial job would do.
 
 use std::hint::black_box;
 use std::time::{Duration, Instant};
@@ -20,7 +26,7 @@ use upload_planner::{numbers, Aim, Call, Order};
 #[allow(dead_code)]
 #[path = "../tests/reference.rs"]
 mod reference;
-use reference::{u16_at, u32_at, Draft, Lists, Rng, Size, FULL, MOST_CHOICES};
+use reference::{trial_lists, u16_at, u32_at, Draft, Lists, Rng, Size, FULL, MOST_CHOICES};
 
 const NEVER: u32 = u32::MAX;
 
@@ -478,6 +484,43 @@ fn plain_write(lists: &Lists, job: &mut [u8]) -> Option<usize> {
     Some(taken)
 }
 
+/// Checks the header, then draws the job and writes it; how many bytes it took.
+fn plain_trial(fields: &[u16; 9], state: u32, job: &mut [u8]) -> Option<usize> {
+    if !plain_header(&fields.map(usize::from)) {
+        return None;
+    }
+    let [units, .., rates, choices] = *fields;
+    let taken = 26 + 2 * rates as usize + units as usize * (4 + 6 * choices as usize);
+    let mut rest = job.get_mut(..taken)?;
+    let mut put = |bytes: &[u8]| {
+        let (front, back) = std::mem::take(&mut rest).split_at_mut(bytes.len());
+        front.copy_from_slice(bytes);
+        rest = back;
+    };
+    let mut state = state;
+    let mut draw = || {
+        state = state.wrapping_mul(1_664_525).wrapping_add(1_013_904_223);
+        state >> 16
+    };
+    for number in [20, 1].iter().chain(fields).chain(&[2 + 2 * rates, 2]) {
+        put(&number.to_le_bytes());
+    }
+    let mut least = 0;
+    for _ in 0..rates {
+        let rate = least + (draw() % 4) as u16;
+        put(&rate.to_le_bytes());
+        least = rate + 1;
+    }
+    for _ in 0..units {
+        [2 + 6 * choices, 3].iter().for_each(|number| put(&number.to_le_bytes()));
+        for _ in 0..choices {
+            put(&((draw() % 64) as u16).to_le_bytes());
+            put(&draw().to_le_bytes());
+        }
+    }
+    Some(taken)
+}
+
 // ---------------------------------------------------------------------------
 // Jobs.
 // ---------------------------------------------------------------------------
@@ -507,8 +550,28 @@ impl Size {
     }
 }
 
+/// The state of a trial job where no other is named. Most sizes that are timed have a plan
+/// from it; another was found by trying where one is named.
+const STATE: u32 = 1;
+
 fn job_of(size: &Size) -> Vec<u8> {
-    draft_of(size).bytes()
+    trial_of(size, None, STATE)
+}
+
+/// The trial job of a size and a state, on a line of one bucket or two.
+fn trial_of(size: &Size, second: Option<[u16; 3]>, state: u32) -> Vec<u8> {
+    let fields = size.header(second);
+    let mut job = vec![0; trial_room(&fields)];
+    let mut values = [0; numbers::WRITE_VALUES];
+    let answer = numbers::trial(&fields, state, &mut job, &mut values);
+    assert!(answer == 0 && values[0] as usize == job.len(), "the trial job is refused");
+    job
+}
+
+/// The bytes that a job of these fields takes.
+fn trial_room(fields: &[u16]) -> usize {
+    let [units, rates, choices] = [fields[0], fields[7], fields[8]].map(usize::from);
+    8 + 2 * fields.len() + 2 * rates + units * (4 + 6 * choices)
 }
 
 /// A second bucket, half full at the start: its size, drain and level.
@@ -516,8 +579,9 @@ fn half_full(size: usize, drain: usize) -> [u16; 3] {
     [size, drain, size / 2].map(|number| number as u16)
 }
 
-/// Units of fine and coarse codings around what the line carries; the coarsest
-/// takes nothing, so that every job has a plan.
+/// Units of fine and coarse codings around what the line carries; the coarsest takes
+/// nothing, so that there is a plan also where the decoder holds nothing. Of a trial job's
+/// 512 units some take a grain or more at each choice.
 fn draft_of(size: &Size) -> Draft {
     let mut rng = Rng(1);
     let rates: Vec<u16> = (0..size.rates).map(|i| (i * 40 / size.rates) as u16).collect();
@@ -530,14 +594,13 @@ fn draft_of(size: &Size) -> Draft {
         };
         (0..size.choices).map(coding).collect::<Vec<(u16, u32)>>()
     };
-    let units: Vec<_> = (0..size.units).map(&mut unit).collect();
-    let levels = [size.delay, size.decoder, size.bucket, 20, size.decoder / 3, size.bucket / 2];
-    Draft::new(levels.map(|level| level as u16), &rates, &units)
+    let units = (0..size.units).map(&mut unit).collect();
+    Draft { header: size.header(None), rates, units, commands: Vec::new() }
 }
 
 /// Units whose choices have so many sizes, spread over all that the decoder holds, in any
 /// order; with as many sizes as choices the first pass has as much to do as it can have.
-/// Larger ones lose less, more or less.
+/// Larger ones lose less, more or less. A trial job has no more than 64 sizes.
 fn spread_draft(size: &Size, sizes: usize) -> Draft {
     let mut rng = Rng(3);
     let mut draft = draft_of(size);
@@ -558,7 +621,8 @@ fn spread_draft(size: &Size, sizes: usize) -> Draft {
 /// A programme as an encoder gives it: each quantizer takes about a tenth less
 /// than the one before it and loses about an eighth more. Of the decoder the finest
 /// coding takes a fifth to nine tenths, the drain about a sixth and the largest
-/// rate a half; a grain is what one of so many in the decoder comes to.
+/// rate a half; a grain is what one of so many in the decoder comes to. In a trial job
+/// a choice's grains say nothing of its distortion.
 fn programme(units: usize, decoder: usize) -> (Size, Vec<u8>) {
     let mut rng = Rng(2);
     let size = Size { units, delay: 4, decoder, bucket: decoder, rates: 16, choices: 31 };
@@ -782,6 +846,32 @@ impl Plans {
     }
 }
 
+/// A line's name with the state of its trial job, if it is not the usual one.
+fn from_state(name: String, state: u32) -> String {
+    if state == STATE {
+        name
+    } else {
+        format!("{name}, state {state}")
+    }
+}
+
+/// A job of which each number is doubled in turn, and a state from which all of these
+/// have a plan but those of a long delay.
+const GROWING: Size = Size { units: 64, delay: 8, decoder: 63, bucket: 63, rates: 4, choices: 8 };
+const GROWING_STATE: u32 = 20;
+
+/// How many levels decoder or bucket have there.
+const DOUBLED: [usize; 4] = [32, 64, 128, 256];
+
+/// Two units, 20 states of decoder and bucket, 6 moves each.
+const SMALLEST: Size = Size { units: 2, delay: 1, decoder: 4, bucket: 3, rates: 3, choices: 2 };
+
+/// Its name and a trial job of it that has a plan.
+fn smallest() -> (String, Vec<u8>) {
+    let state = 531;
+    (from_state("2 units, 20 levels, 6 moves".to_string(), state), trial_of(&SMALLEST, None, state))
+}
+
 /// Whether loops over so many moves take seconds at most.
 fn loops_are_short(moves: f64) -> bool {
     moves * 4.0 < FEWER.moves()
@@ -811,16 +901,18 @@ fn plan_tables(with_full: bool) {
     for (decoder, bucket) in [(255, 0), (60, 0), (0, 255), (0, 60), (0, 0)] {
         let size = Size { decoder, bucket, ..FEWER };
         let name = format!("decoder {decoder}, bucket {bucket}");
-        plans.add(name, size.steps(), &job_of(&size), true);
+        let job = if decoder > 0 { job_of(&size) } else { draft_of(&size).bytes() };
+        plans.add(name, size.steps(), &job, true);
     }
 
     let mut plans = Plans::new("planning, four units, delay 1", false);
-    for grains in [255, 60, 25, 12, 4] {
+    for (grains, state) in [(255, STATE), (60, STATE), (25, STATE), (12, STATE), (4, 2)] {
         let size = Size { units: 4, delay: 1, decoder: grains, bucket: grains, ..FEWER };
-        plans.add(format!("decoder and bucket of {grains}"), size.steps(), &job_of(&size), true);
+        let name = from_state(format!("decoder and bucket of {grains}"), state);
+        plans.add(name, size.steps(), &trial_of(&size, None, state), true);
     }
-    let size = Size { units: 2, delay: 1, decoder: 4, bucket: 3, rates: 3, choices: 2 };
-    plans.add("two units, 20 states, 6 moves each", size.steps(), &job_of(&size), true);
+    let (name, job) = smallest();
+    plans.add(name, SMALLEST.steps(), &job, true);
 
     let mut plans = Plans::new("planning, by length (1 is 512 units, delay 64)", true);
     for part in [64, 32, 16, 8, 4, 2, 1] {
@@ -828,20 +920,23 @@ fn plan_tables(with_full: bool) {
         let name = format!("1/{part}: {} units, delay {}", size.units, size.delay);
         plans.add(name, size.steps(), &job_of(&size), loops_are_short(size.moves()));
     }
-    let base = Size { units: 64, delay: 8, decoder: 63, bucket: 63, rates: 4, choices: 8 };
-    let rows: [(&str, fn(&mut Size, usize), [usize; 4]); 5] = [
-        ("decoder size", |size, value| size.decoder = value - 1, [32, 64, 128, 256]),
-        ("bucket size", |size, value| size.bucket = value - 1, [32, 64, 128, 256]),
-        ("rates", |size, value| size.rates = value, [2, 4, 8, 16]),
-        ("choices", |size, value| size.choices = value, [4, 8, 16, 31]),
-        ("delay", |size, value| size.delay = value, [8, 16, 32, 64]),
+    // Over a long delay the least rate has to be 0, else the decoder runs over; and with
+    // two rates or four choices the largest has to be more than a job has whose least is 0.
+    let rows: [(&str, u32, fn(&mut Size, usize), [usize; 4]); 5] = [
+        ("decoder size", GROWING_STATE, |size, value| size.decoder = value - 1, DOUBLED),
+        ("bucket size", GROWING_STATE, |size, value| size.bucket = value - 1, DOUBLED),
+        ("rates", GROWING_STATE, |size, value| size.rates = value, [2, 4, 8, 16]),
+        ("choices", GROWING_STATE, |size, value| size.choices = value, [4, 8, 16, 31]),
+        ("delay", 7, |size, value| size.delay = value, [8, 16, 32, 64]),
     ];
-    for (name, set, values) in rows {
-        let mut plans = Plans::new(&format!("planning, by {name}"), true);
+    for (name, state, set, values) in rows {
+        let title = from_state(format!("planning, by {name}"), state);
+        let mut plans = Plans::new(&title, true);
         for value in values {
-            let mut size = base;
+            let mut size = GROWING;
             set(&mut size, value);
-            plans.add(format!("{value}"), size.steps(), &job_of(&size), true);
+            let job = trial_of(&size, None, state);
+            plans.add(format!("{value}"), size.steps(), &job, true);
         }
     }
 }
@@ -849,20 +944,22 @@ fn plan_tables(with_full: bool) {
 /// Two buckets beside one, by the time of a word of the table and a rate. The
 /// jobs have as many words, rates and choices, and of their intervals one in
 /// sixteen decodes nothing: with two buckets a layer has four times the words, and
-/// the job a quarter of the layers. The rates go up to 37; how many of them a
-/// second bucket takes from its levels depends on its drain, and with 40 it takes
-/// all from each.
+/// the job a quarter of the layers. From state 0 the rates go up to 38; how many of them
+/// a second bucket takes from its levels depends on its drain, and with 40 it takes all
+/// from each.
 fn two_bucket_tables(with_full: bool) {
     let [units, delays] = if with_full { [[483, 120], [32, 8]] } else { [[123, 30], [8, 2]] };
     let one = Size { units: units[0], delay: delays[0], ..FEWER };
     let two = Size { units: units[1], delay: delays[1], bucket: 63, ..FEWER };
-    let with_one = job_of(&one);
-    let with_two = |drain| draft_of(&two).doubled(half_full(15, drain)).bytes();
+    let state = 0;
+    let with_one = trial_of(&one, None, state);
+    let with_two = |drain| trial_of(&two, Some(half_full(15, drain)), state);
     let opened = [&with_one, &with_two(30)].map(|job| upload_planner::open(job).expect("a job"));
     let words = opened[0].table_words;
     assert!(words == opened[1].table_words, "one table is longer than the other");
 
-    let mut plans = Plans::new("planning, one bucket and two, tables of as many words", false);
+    let title = "planning, one bucket and two, tables of as many words".to_string();
+    let mut plans = Plans::new(&from_state(title, state), false);
     let name = format!("bucket 255: {} units, delay {}", one.units, one.delay);
     plans.add(name, one.steps(), &with_one, loops_are_short(one.moves()));
     let name = format!("buckets 63, 15: {} units, delay {}", two.units, two.delay);
@@ -886,20 +983,22 @@ fn two_bucket_tables(with_full: bool) {
         println!("  second drain {drain}: {one:.3} ns with one, {two:.3} ns with two, x{ratio:.2}");
     }
 
-    let mut plans = Plans::new("planning, by second bucket size", true);
+    let title = from_state("planning, by second bucket size".to_string(), GROWING_STATE);
+    let mut plans = Plans::new(&title, true);
     for levels in [1, 4, 16, 64] {
-        let size = Size { units: 64, delay: 8, decoder: 63, bucket: 63, rates: 4, choices: 8 };
-        let job = draft_of(&size).doubled(half_full(levels - 1, 30)).bytes();
-        let [steps, moves] = [size.steps(), size.moves()].map(|work| work * levels as f64);
+        let job = trial_of(&GROWING, Some(half_full(levels - 1, 30)), GROWING_STATE);
+        let [steps, moves] = [GROWING.steps(), GROWING.moves()].map(|work| work * levels as f64);
         plans.add(format!("{levels}"), steps, &job, loops_are_short(moves));
     }
 }
 
 fn call_tables() {
-    // One unit that takes nothing, so that planning is next to nothing.
-    let job = Draft::new([0, 0, 0, 1, 0, 0], &[0], &[vec![(0, 0)]]).bytes();
+    // From this state the one rate is 0 and the one unit takes nothing, so that planning is
+    // next to nothing.
+    let size = Size { units: 1, delay: 0, decoder: 0, bucket: 0, rates: 1, choices: 1 };
+    let job = trial_of(&size, None, 44);
     let mut table = Table::new(
-        "pins and lifts on the smallest job, by planning (the plain program reads the job once)",
+        "pins and lifts on the smallest job, state 44, by planning (the plain program reads it once)",
         "call",
     );
     for count in [2, 64, 1024, 16_384, 262_144] {
@@ -969,7 +1068,8 @@ fn some_entries(size: &Size) -> Vec<u8> {
 }
 
 /// An easy job: every interval sends one grain or none, and what waits for the
-/// delay fits the decoder; the plan never breaks off.
+/// delay fits the decoder; the plan never breaks off. In a trial job one that was not
+/// searched for breaks off soon.
 fn even_job(size: &Size) -> (Draft, Vec<u8>) {
     let unit: Vec<(u16, u32)> = (0..size.choices).map(|i| (1, i as u32)).collect();
     let rates: Vec<u16> = (0..size.rates).map(|i| i as u16).collect();
@@ -982,9 +1082,8 @@ fn other_tables() {
     let mut table = Table::new("writing", "byte");
     for part in [64, 8, 1] {
         let size = FULL.part(part);
-        let draft = draft_of(&size);
-        let lists = Lists::of_draft(&draft);
-        let due = draft.bytes();
+        let lists = trial_lists(&size.header(None), STATE);
+        let due = job_of(&size);
         let mut jobs = [vec![0; due.len()], vec![0; due.len()]];
         let [ours, plain] = &mut jobs;
         let mut values = [0];
@@ -999,6 +1098,26 @@ fn other_tables() {
         );
         assert!(jobs[0] == due && jobs[1] == due, "the bytes differ");
         table.add(line(format!("{} units", size.units), due.len() as f64, times));
+    }
+
+    let mut table = Table::new("trial jobs", "byte");
+    for part in [64, 8, 1] {
+        let size = FULL.part(part);
+        let fields: [u16; 9] = size.header(None).try_into().expect("nine fields");
+        let room = trial_room(&fields);
+        let mut jobs = [vec![0; room], vec![0; room]];
+        let [ours, plain] = &mut jobs;
+        let mut values = [0];
+        let times = short_in_turn(
+            || {
+                black_box(numbers::trial(black_box(&fields), STATE, ours, &mut values));
+            },
+            || {
+                black_box(plain_trial(black_box(&fields), STATE, plain));
+            },
+        );
+        assert!(jobs[0] == jobs[1] && values[0] as usize == room, "the bytes differ");
+        table.add(line(format!("{} units", size.units), room as f64, times));
     }
 
     let mut table = Table::new("opening", "byte");
@@ -1088,33 +1207,34 @@ fn even_tables(with_full: bool) {
     let base = Size { units: 300, delay: 8, ..FEWER };
     let square = |units: usize, grains: usize| {
         let size = Size { units, decoder: grains, bucket: grains, ..base };
-        (format!("{units} units, decoder and bucket of {grains}"), draft_of(&size))
+        (format!("{units} units, decoder and bucket of {grains}"), job_of(&size))
     };
-    let small = Size { units: 2, delay: 1, decoder: 4, bucket: 3, rates: 3, choices: 2 };
+    let spread = |sizes: usize, name: &str| {
+        let size = Size { units: 128, decoder: 127, bucket: 127, choices: 1000, ..base };
+        let job = spread_draft(&size, sizes).bytes();
+        (format!("128 units, 1,000 choices of {name} sizes, 127"), job)
+    };
     let few = Size { units: 4, delay: 1, decoder: 12, bucket: 12, ..base };
-    let many = Size { units: 128, decoder: 127, bucket: 127, choices: 1000, ..base };
-    let double = Size { units: 64, delay: 8, decoder: 63, bucket: 63, rates: 8, choices: 8 };
+    let double = Size { rates: 8, ..GROWING };
+    let with_two = trial_of(&double, Some(half_full(15, 30)), STATE);
     let mut jobs = vec![
         square(300, 255),
         square(300, 127),
         square(300, 60),
         square(300, 25),
         square(300, 12),
-        ("128 units, 1,000 choices of all sizes, 127".to_string(), spread_draft(&many, 1000)),
-        ("128 units, 1,000 choices of 31 sizes, 127".to_string(), spread_draft(&many, 31)),
-        (
-            "64 units, buckets of 63 and 15".to_string(),
-            draft_of(&double).doubled(half_full(15, 30)),
-        ),
-        ("300 units, bucket of 0".to_string(), draft_of(&Size { bucket: 0, ..base })),
-        ("4 units, decoder and bucket of 12".to_string(), draft_of(&few)),
-        ("two units, 20 states, 6 moves each".to_string(), draft_of(&small)),
+        spread(1000, "all"),
+        spread(31, "31"),
+        ("64 units, buckets of 63 and 15".to_string(), with_two),
+        ("300 units, bucket of 0".to_string(), job_of(&Size { bucket: 0, ..base })),
+        ("4 units, decoder and bucket of 12".to_string(), job_of(&few)),
+        smallest(),
     ];
     if with_full {
-        jobs.insert(0, ("512 units, delay 64, 31 choices, 255".to_string(), draft_of(&FEWER)));
+        jobs.insert(0, ("512 units, delay 64, 31 choices, 255".to_string(), job_of(&FEWER)));
     }
-    for (name, draft) in jobs {
-        let [total, even] = time_aims(&draft.bytes());
+    for (name, job) in jobs {
+        let [total, even] = time_aims(&job);
         let ratio = format!("{:.2}", even / total);
         let [total, even] = [total, even].map(shown);
         println!("  {name:<48} {total:>10} {even:>10} {ratio:>7} {:>7}", "2.50");
@@ -1175,23 +1295,23 @@ fn sitting_tables(with_full: bool) {
     let base = Size { units: 300, delay: 8, ..FEWER };
     let square = |grains: usize| {
         let size = Size { decoder: grains, bucket: grains, ..base };
-        (format!("decoder and bucket of {grains}"), draft_of(&size))
+        (format!("decoder and bucket of {grains}"), job_of(&size))
     };
     let many = Size { decoder: 60, bucket: 60, choices: 1000, ..base };
     let double = Size { decoder: 31, bucket: 31, rates: 8, choices: 8, ..base };
+    let with_two = trial_of(&double, Some(half_full(15, 30)), 0);
     let mut jobs = vec![
         square(127),
         square(60),
         square(25),
         square(12),
-        ("1,000 choices, 60".to_string(), spread_draft(&many, 1000)),
-        ("buckets of 31 and 15".to_string(), draft_of(&double).doubled(half_full(15, 30))),
+        ("1,000 choices, 60".to_string(), spread_draft(&many, 1000).bytes()),
+        (from_state("buckets 31 and 15".to_string(), 0), with_two),
     ];
     if with_full {
         jobs.insert(0, square(255));
     }
-    for (name, draft) in jobs {
-        let job = draft.bytes();
+    for (name, job) in jobs {
         for unit in [1, base.units / 2, base.units] {
             let [seen, anew] = time_sitting(&job, unit as u16);
             let ratio = format!("{:.3}", seen / anew);
@@ -1258,11 +1378,14 @@ impl Sitting<'_> {
     }
 }
 
-/// The times of a click that is seen and of one that is planned anew. Both must have the
-/// same pins, table and total after the first pin and lift, and at the end.
+/// The times of a click that is seen and of one that is planned anew. The unit is pinned at
+/// the choice that takes least, so that a plan holds the pin. Both must have the same pins,
+/// table and total after the first pin and lift, and at the end.
 fn time_sitting(job: &[u8], unit: u16) -> [f64; 2] {
-    let last = plain_open(job).expect("a job").header[8] as u16 - 1;
-    let clicks = || [Some(last), None].into_iter().cycle().take(CLICKS);
+    let read = plain_open(job).expect("a job");
+    let grains = |choice: &usize| read.choice(unit as usize - 1, *choice).0;
+    let least = (0..read.header[8]).min_by_key(grains).expect("a choice") as u16;
+    let clicks = || [Some(least), None].into_iter().cycle().take(CLICKS);
     let (mut seen, mut anew) = (Sitting::new(job), Sitting::new(job));
     let start = Instant::now();
     for choice in clicks().take(2) {
@@ -1389,6 +1512,10 @@ fn main() {
             }
         }
     }
+    println!("jobs: trial jobs, state {STATE} unless the line names another; the drain is 20, the");
+    println!("decoder starts filled to a third, each bucket to a half, and there are 16 rates and");
+    println!("1,000 choices or 31 unless it says otherwise; programmes, choices of named sizes,");
+    println!("larger jobs with a decoder of 0 and replay have jobs of their own");
     if sitting_alone {
         return sitting_tables(with_full);
     }

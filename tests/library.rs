@@ -25,7 +25,7 @@
 //! again, and planned with one distortion changed.
 
 use std::collections::{BTreeMap, BTreeSet};
-use std::fmt::Debug;
+use std::fmt::{Debug, Display};
 use std::path::{Path, PathBuf};
 use std::process::ExitCode;
 use std::sync::atomic::{AtomicBool, Ordering};
@@ -106,6 +106,13 @@ macro_rules! ensure {
 fn same<T: PartialEq + Debug>(what: &str, due: T, found: T) -> Checked {
     ensure!(due == found, "{what}: due {due:?}, instead {found:?}");
     Ok(())
+}
+
+/// How often each number came.
+fn by_number<T: Display>(tally: &BTreeMap<T, usize>) -> String {
+    let each: Vec<String> =
+        tally.iter().map(|(number, count)| format!("{count} {number}")).collect();
+    each.join(", ")
 }
 
 trait Number: Copy + PartialEq + Debug {
@@ -3372,33 +3379,26 @@ fn check_by_total(order: Order, draft: &Draft) -> Result<Option<i64>, String> {
     Ok(Some(limit))
 }
 
-/// Large jobs, of which the first is as large as those that are timed.
+/// Large trial jobs, of which the first is as large as those that are timed. The last
+/// number is the state: one from which even pictures have another plan than the least total.
+/// Among the pins is one that sets the greatest distortion, so that they have the same.
 fn even_large_group() -> Result<String, String> {
     let few = Size { units: 48, delay: 8, decoder: 63, bucket: 15, rates: 8, choices: 8 };
+    let thousand = Size { units: 64, delay: 8, decoder: 127, bucket: 63, ..FULL };
+    let many = Size { decoder: 63, bucket: 31, ..FULL };
     let sizes = [
-        ("300 units", Size { units: 300, delay: 8, choices: 31, ..FULL }, None, false),
-        (
-            "1,000 choices",
-            Size { units: 64, delay: 8, decoder: 127, bucket: 63, ..FULL },
-            None,
-            false,
-        ),
-        ("many units", Size { decoder: 31, bucket: 31, choices: 31, ..FULL }, None, false),
-        ("pins", Size { decoder: 63, bucket: 31, choices: 31, ..FULL }, None, true),
-        ("two buckets", few, Some([63, 18, 20]), false),
+        ("300 units", Size { units: 300, delay: 8, choices: 31, ..FULL }, None, false, 5),
+        ("1,000 choices", thousand, None, false, 10),
+        ("many units", Size { choices: 8, ..many }, None, false, 7),
+        ("pins", Size { choices: 31, ..many }, None, true, 1),
+        ("two buckets", few, Some([63, 18, 20]), false, 5),
     ];
     let mut rng = Rng(5);
     let (mut words, mut other) = (0, 0);
-    for (name, size, second, pins) in &sizes {
-        let mut draft = large_job(&mut rng, size, *second);
+    for (name, size, second, pins, state) in &sizes {
+        let mut draft = large_trial(size, *second, *state)?;
         if !pins {
             draft.commands.clear();
-        }
-        for unit in &mut draft.units {
-            // What a grain takes off is the unit's own.
-            let finest = unit.iter().map(|coding| coding.0).max().expect("a coding");
-            let (least, gain) = (rng.from(0, 500) as u32, rng.from(1, 40) as u32);
-            unit.iter_mut().for_each(|coding| coding.1 = least + gain * (finest - coding.0) as u32);
         }
         let asked = Asked::new(&mut rng, &draft);
         // Such a job is too long to print; its name tells.
@@ -3416,7 +3416,7 @@ fn even_large_group() -> Result<String, String> {
         check().map_err(|trouble| format!("{name}: {trouble}"))?;
         words += asked.job.words();
     }
-    ensure!(other > 1, "even pictures have another plan in {other} alone");
+    ensure!(other > 2, "even pictures have another plan in {other} alone");
     Ok(format!("{} jobs, {words} words", sizes.len()))
 }
 
@@ -3654,8 +3654,8 @@ fn calls_in_every_order_group() -> Result<String, String> {
     Ok(format!("{made} lists of calls"))
 }
 
-/// As many units, rates and choices as a job may have, and the largest numbers. No
-/// table is made of such jobs.
+/// As many units, rates and choices as a job may have, and the largest numbers, which no
+/// trial job has. No table is made of such jobs.
 const LARGE: Shape = Shape { units: (1, 512), ..WIDE };
 
 /// Jobs of all sizes, with lists of calls from none to many.
@@ -3691,12 +3691,10 @@ fn calls_group(seed: u64, asks: bool) -> Result<String, String> {
         wide += (grains > 65_535) as usize;
         none += asked.calls.is_empty() as usize;
     }
-    let each: Vec<String> =
-        tally.iter().map(|(number, count)| format!("{count} {number}")).collect();
     let counts = format!(
         "{jobs} jobs, {none} without a call, {calls} calls by number ({}), {lifted} pins lifted, \
          {pins} held at the end, {wide} jobs with more than 65,535 grains in them",
-        each.join(", ")
+        by_number(&tally)
     );
     let numbers = [0, 7, 8, 9, 10];
     let worthwhile = numbers.iter().all(|number| tally.get(number).is_some_and(|c| c * 50 > calls))
@@ -5758,12 +5756,10 @@ fn books_group(seed: u64, asks: bool) -> Result<String, String> {
         pins += desk.book.len();
         wide += (desk.set.held()[SET_TOTALS + 1] > 65_535) as usize;
     }
-    let each: Vec<String> =
-        tally.iter().map(|(number, count)| format!("{count} {number}")).collect();
     let counts = format!(
         "{jobs} jobs, {calls} calls by number ({}), {pins} pins held at the end, {wide} jobs with \
          more than 65,535 grains in them",
-        each.join(", ")
+        by_number(&tally)
     );
     let numbers = [0, 7, 8, 9, 10];
     let worthwhile = numbers.iter().all(|number| tally.get(number).is_some_and(|c| c * 50 > calls))
@@ -7012,27 +7008,26 @@ fn check_undrained(rng: &mut Rng, bytes: &[u8], list: &[u32], plan: &Plan, wrong
     values.kept("values")
 }
 
-/// Calls that see over large tables: of the first unit, the last and one between.
+/// Calls that see over the large tables of trial jobs: of the first unit, the last and one
+/// between, each pinned at the choice that takes least. The last number is the state.
 fn seen_large_group() -> Result<String, String> {
     let few = Size { units: 48, delay: 8, decoder: 63, bucket: 15, rates: 8, choices: 8 };
     let sizes = [
-        ("many units", Size { units: 512, delay: 64, decoder: 31, bucket: 3, ..few }, None),
-        ("large buffers", Size { units: 4, decoder: 255, bucket: 255, ..few }, None),
-        ("a thousand choices", Size { units: 8, rates: 16, choices: 1000, ..few }, None),
-        ("two buckets", Size { units: 8, ..few }, Some([31, 18, 20])),
+        ("many units", Size { units: 512, delay: 64, decoder: 31, bucket: 3, ..few }, None, 70),
+        ("large buffers", Size { units: 4, decoder: 255, bucket: 255, ..few }, None, 1),
+        ("a thousand choices", Size { units: 8, rates: 16, choices: 1000, ..few }, None, 1),
+        ("two buckets", Size { units: 8, ..few }, Some([31, 18, 20]), 1),
     ];
     let mut rng = Rng(7);
     let (mut words, mut calls) = (0, 0);
-    for (name, size, second) in &sizes {
-        let draft = large_job(&mut rng, size, *second);
+    for (name, size, second, state) in &sizes {
+        let draft = large_trial(size, *second, *state)?;
         let mut check = || -> Checked {
             let mut desk = Desk::new(&mut rng, &draft)?;
             desk.plan(&mut rng, Aim::Total, Order::Early)?;
-            let last = desk.job.units.len() as u16;
-            let choice = desk.job.choices() as u16 - 1;
-            for call in
-                [[6, last, choice], [6, 1, choice], [6, last / 2, choice], [7, 1, 0], [7, last, 0]]
-            {
+            let last = size.units as u16;
+            let pin = |unit: u16| [6, unit, smallest(&draft.units[unit as usize - 1])];
+            for call in [pin(last), pin(1), pin(last / 2), [7, 1, 0], [7, last, 0]] {
                 same("a large table", 0, desk.see(&mut rng, call, 0, 1)?)?;
                 ensure!(desk.total() != NEVER, "no plan");
                 calls += 1;
@@ -7735,9 +7730,7 @@ fn harmed_lists(seed: u64, asks: bool, buckets: usize) -> Result<String, String>
         })?;
         *tally.entry(due).or_default() += 1;
     }
-    let each: Vec<String> =
-        tally.iter().map(|(number, count)| format!("{count} {number}")).collect();
-    let counts = format!("{inputs} inputs by number ({})", each.join(", "));
+    let counts = format!("{inputs} inputs by number ({})", by_number(&tally));
     let numbers = [0, 3, 4, 5, 12, 16, 17];
     let worthwhile =
         numbers.iter().all(|number| tally.get(number).is_some_and(|c| c * 50 > inputs));
@@ -7802,13 +7795,568 @@ fn change_length<T: Copy>(rng: &mut Rng, list: &mut Vec<T>) {
 }
 
 // ---------------------------------------------------------------------------
+// Trial jobs.
+// ---------------------------------------------------------------------------
+
+/// What a trial job is written to.
+struct TrialLists {
+    job: Lent<u8>,
+    values: Lent<u64>,
+}
+
+impl TrialLists {
+    /// `lengths`: job, values.
+    fn new(rng: &mut Rng, lengths: [usize; 2]) -> TrialLists {
+        TrialLists { job: Lent::new(rng, lengths[0]), values: Lent::new(rng, lengths[1]) }
+    }
+
+    fn make(&mut self, fields: &[u16], state: u32) -> u32 {
+        // A copy has no memory to spare, so that a watched run sees what is read
+        // past its end.
+        let given = fields.to_vec();
+        numbers::trial(&given, state, self.job.list(), self.values.list())
+    }
+
+    fn wrote(&self, bytes: &[u8]) -> Checked {
+        self.job.wrote("trial job", bytes)?;
+        self.values.wrote("values of trial", &[bytes.len() as u64])
+    }
+
+    fn kept(&self) -> Checked {
+        self.job.kept("trial job")?;
+        self.values.kept("values of trial")
+    }
+}
+
+/// Has a trial job written to lists of these lengths, job and values, and compares all
+/// that they hold afterwards with what is due. Gives the number due.
+fn check_trial(
+    rng: &mut Rng,
+    fields: &[u16],
+    state: u32,
+    lengths: [usize; 2],
+) -> Result<Refusal, String> {
+    let due = trial_bytes(fields, state, lengths[0], lengths[1]);
+    let number = due.as_ref().err().copied().unwrap_or(0);
+    let mut lent = TrialLists::new(rng, lengths);
+    same("trial", number as u32, lent.make(fields, state))?;
+    match due {
+        Ok(bytes) => lent.wrote(&bytes)?,
+        Err(_) => lent.kept()?,
+    }
+    Ok(number)
+}
+
+/// The typed functions give what the numbers give.
+fn check_typed_trial(rng: &mut Rng, fields: &[u16], state: u32, room: usize) -> Checked {
+    let Some(header) = header_of(fields) else { return Ok(()) };
+    let due = trial_bytes(fields, state, room, 1).map_err(u32::from);
+    let mut job = Lent::new(rng, room);
+    let found = upload_planner::trial(&header, state, job.list());
+    let count = due.as_ref().map(Vec::len).map_err(|number| *number);
+    same("typed trial", count, found.map_err(|refusal| refusal.number()))?;
+    job.wrote("typed trial job", &due.unwrap_or_default())?;
+
+    let due = trial_bytes(fields, state, usize::MAX, 1).map_err(u32::from);
+    let owned = upload_planner::trial_job(&header, state).map_err(|refusal| refusal.number());
+    ensure!(due == owned, "another owned trial job: {:?} due", due.as_ref().map(Vec::len));
+    Ok(())
+}
+
+/// What the library itself writes.
+fn trial_of(fields: &[u16], state: u32) -> Result<Vec<u8>, String> {
+    let header = header_of(fields).ok_or("not a header")?;
+    upload_planner::trial_job(&header, state).map_err(|refusal| format!("refused: {refusal}"))
+}
+
+/// The lists make the trial job of their header and a state, in lists of just enough or
+/// somewhat more, and one byte is too few. It opens with all its bytes taken, and is
+/// written again from what a reader finds in it. Gives its bytes.
+fn check_trial_of(rng: &mut Rng, lists: &Lists, state: u32) -> Result<Vec<u8>, String> {
+    let due = lists.draft().bytes();
+    let fields = &lists.fields;
+    let lengths = [due.len() + slack(rng), 1 + slack(rng)];
+    let mut lent = TrialLists::new(rng, lengths);
+    same("trial", 0, lent.make(fields, state))?;
+    lent.wrote(&due)?;
+    same("one byte short", 12, check_trial(rng, fields, state, [due.len() - 1, lengths[1]])?)?;
+    check_typed_trial(rng, fields, state, lengths[0])?;
+
+    let bytes = trial_of(fields, state)?;
+    ensure!(due == bytes, "the typed job is another");
+    let mut reader = Reader { rest: &bytes };
+    let job = read_job(&mut reader).map_err(|number| format!("read: {number}"))?;
+    same("bytes left", 0, reader.rest.len())?;
+    let again = Lists::of_job(&job);
+    ensure!(*lists == again, "a reader finds another job: {}", again.show());
+    let asked = Asked::with(bytes, job, Vec::new());
+    check_open(rng, &asked)?;
+    ensure!(asked.bytes == written(&again)?, "written again it is another");
+    Ok(asked.bytes)
+}
+
+fn trial_failed(fields: &[u16], state: u32, trouble: &str) -> String {
+    format!("fields {fields:?}, state {state}: {trouble}")
+}
+
+/// States of which some are at the edge of their 32 bits or of half of them.
+const STATES: [u32; 8] = [0, 1, 65_535, 65_536, 0x7fff_ffff, 0x8000_0000, 0xffff_fffe, u32::MAX];
+
+fn random_state(rng: &mut Rng) -> u32 {
+    if rng.one_in(4) {
+        rng.pick(&STATES)
+    } else {
+        rng.next() as u32
+    }
+}
+
+/// The first draws from some states, worked out apart in whole numbers.
+const DRAWS: [(u32, [u16; 19]); 9] = [
+    (
+        0,
+        [
+            15470, 18256, 53708, 43769, 25170, 40750, 22526, 41945, 33277, 38128, 52214, 48337,
+            40227, 58006, 442, 33734, 46381, 20425, 25167,
+        ],
+    ),
+    (
+        1,
+        [
+            15496, 24200, 33046, 46195, 3312, 24216, 50774, 36450, 1080, 41893, 16413, 27680,
+            38711, 54849, 15405, 64280, 56419, 21422, 44735,
+        ],
+    ),
+    (
+        4_294_967_295,
+        [
+            15445, 12311, 8835, 41343, 47029, 57284, 59813, 47440, 65474, 34363, 22478, 3457,
+            41744, 61164, 51014, 3188, 36344, 19429, 5599,
+        ],
+    ),
+    (
+        123_456_789,
+        [
+            14043, 57398, 34363, 22515, 35712, 24425, 18932, 35051, 25884, 8409, 28075, 18587,
+            21551, 19005, 45447, 17668, 64095, 63409, 35399,
+        ],
+    ),
+    (
+        2_147_483_648,
+        [
+            48238, 51024, 20940, 11001, 57938, 7982, 55294, 9177, 509, 5360, 19446, 15569, 7459,
+            25238, 33210, 966, 13613, 53193, 57935,
+        ],
+    ),
+    (
+        2_147_483_647,
+        [
+            48213, 45079, 41603, 8575, 14261, 24516, 27045, 14672, 32706, 1595, 55246, 36225, 8976,
+            28396, 18246, 35956, 3576, 52197, 38367,
+        ],
+    ),
+    (
+        65_535,
+        [
+            41570, 36032, 11544, 35088, 16402, 55933, 23306, 47473, 10095, 30724, 46339, 59186,
+            14093, 16581, 25931, 4277, 43845, 30414, 6580,
+        ],
+    ),
+    (
+        65_536,
+        [
+            41595, 41977, 56417, 37514, 60079, 39399, 51555, 41978, 43434, 34489, 10539, 38530,
+            12576, 13423, 40895, 34823, 53882, 31410, 26148,
+        ],
+    ),
+    (
+        3_141_592_653,
+        [
+            6146, 33731, 42631, 55792, 17016, 14993, 7865, 26732, 7598, 55255, 7626, 60586, 14908,
+            11162, 40633, 41604, 51898, 26424, 36785,
+        ],
+    ),
+];
+
+/// What a job of these fields holds by its draws: rate i is i and the sum of the first
+/// i + 1 of them, each modulo 4.
+fn drawn(fields: &[u16], draws: &[u16]) -> Lists {
+    let (rises, codings) = draws.split_at(fields[RATES] as usize);
+    let rate = |i: usize| i as u16 + rises[..=i].iter().map(|draw| draw % 4).sum::<u16>();
+    let codings = codings.chunks_exact(2).take(fields[UNITS] as usize * fields[CHOICES] as usize);
+    Lists {
+        fields: fields.to_vec(),
+        rates: (0..rises.len()).map(rate).collect(),
+        sizes: codings.clone().map(|two| two[0] % 64).collect(),
+        distortions: codings.map(|two| two[1].into()).collect(),
+    }
+}
+
+/// Two units of two choices at three rates, from state 5 and from the last state, byte by
+/// byte.
+#[rustfmt::skip]
+const TRIAL_ONE: [u8; 64] = [
+    20, 0, 1, 0,  2, 0, 0, 0, 8, 0, 8, 0, 4, 0, 0, 0, 0, 0, 3, 0, 2, 0,
+    8, 0, 2, 0,   1, 0, 3, 0, 6, 0,
+    14, 0, 3, 0,  26, 0, 102, 183, 0, 0,  0, 0, 184, 127, 0, 0,
+    14, 0, 3, 0,  6, 0, 37, 13, 0, 0,  57, 0, 187, 16, 0, 0,
+];
+#[rustfmt::skip]
+const TRIAL_TWO: [u8; 70] = [
+    26, 0, 8, 0,  2, 0, 0, 0, 8, 0, 8, 0, 4, 0, 0, 0, 0, 0, 3, 0, 2, 0, 7, 0, 9, 0, 1, 0,
+    8, 0, 2, 0,   1, 0, 5, 0, 9, 0,
+    14, 0, 3, 0,  63, 0, 181, 183, 0, 0,  4, 0, 165, 233, 0, 0,
+    14, 0, 3, 0,  16, 0, 194, 255, 0, 0,  59, 0, 206, 87, 0, 0,
+];
+
+/// The draws of `DRAWS` as every job shows them that has enough of them: with from 1 to
+/// 16 rates, the rest as choices of one unit, of several, or of as many as there are. From
+/// the third on a draw stands whole in some job, as a distortion.
+fn draws_group() -> Result<String, String> {
+    let mut rng = Rng(1);
+    for (bytes, state) in [(&TRIAL_ONE[..], 5), (&TRIAL_TWO[..], u32::MAX)] {
+        let body = &bytes[4..][..u16_at(bytes, 0) as usize - 2];
+        let fields: Vec<u16> = body.chunks(2).map(|two| u16_at(two, 0)).collect();
+        let mut lent = TrialLists::new(&mut rng, [bytes.len() + 3, 1]);
+        same("trial", 0, lent.make(&fields, state))?;
+        lent.wrote(bytes).map_err(|trouble| trial_failed(&fields, state, &trouble))?;
+    }
+
+    let mut jobs = 0;
+    for (state, draws) in &DRAWS {
+        let mut apart = Draws { state: (*state).into() };
+        for draw in draws {
+            same("a draw written apart", *draw as u64, apart.next())?;
+        }
+        for rates in 1..=16 {
+            let codings = (draws.len() - rates) / 2;
+            for units in (1..=codings).filter(|units| codings % units == 0) {
+                for fields in trial_headers(units, rates, codings / units) {
+                    check_trial_of(&mut rng, &drawn(&fields, draws), *state)
+                        .map_err(|trouble| trial_failed(&fields, *state, &trouble))?;
+                    jobs += 1;
+                }
+            }
+        }
+    }
+    Ok(format!("{} states, {jobs} jobs", DRAWS.len()))
+}
+
+/// Headers of so many units, rates and choices, with one bucket and with two: all else as
+/// small as it may be, and as large.
+fn trial_headers(units: usize, rates: usize, choices: usize) -> [Vec<u16>; 4] {
+    let [units, rates, choices] = [units, rates, choices].map(|count| count as u16);
+    let header = |[delay, decoder, bucket, drain, level, fill]: [u16; 6], second: &[u16]| {
+        let first = [units, delay, decoder, bucket, drain, level, fill, rates, choices];
+        [&first, second].concat()
+    };
+    let large = [64, 255, 255, 4095, 255, 255];
+    [
+        header(BARE, &[]),
+        header(large, &[]),
+        header(BARE, &[0, 1, 0]),
+        header(large, &[63, 4095, 63]),
+    ]
+}
+
+/// Units, rates and choices at their limits, alone and together, from several states, and
+/// each field of the header at its limits and past them.
+fn trial_limits_group() -> Result<String, String> {
+    let mut rng = Rng(1);
+    let (mut jobs, mut cases, mut bytes) = (0, 0, 0);
+    let mut sizes = vec![
+        (1, 1, 1),
+        (1, 2, 1),
+        (1, 16, 1),
+        (2, 16, 2),
+        (1, 1, 1000),
+        (2, 3, 1000),
+        (1, 16, 999),
+        (512, 1, 1),
+        (512, 16, 8),
+        (511, 15, 3),
+    ];
+    if !small() {
+        sizes.extend([(512, 8, 31), (128, 16, 1000)]);
+    }
+    for (units, rates, choices) in sizes {
+        for fields in trial_headers(units, rates, choices) {
+            let state = random_state(&mut rng);
+            for state in if small() { vec![state] } else { vec![state, 0, 1, u32::MAX] } {
+                let lists = trial_lists(&fields, state);
+                let trial = check_trial_of(&mut rng, &lists, state);
+                bytes += trial.map_err(|trouble| trial_failed(&fields, state, &trouble))?.len();
+                jobs += 1;
+            }
+        }
+    }
+    for buckets in 1..=MOST_BUCKETS {
+        let a = if buckets > 1 { job_a().doubled(SECOND_A) } else { job_a() };
+        for LimitCase { lists, room, due, what, .. } in field_cases(&a, buckets) {
+            let state = random_state(&mut rng);
+            let mut check = || -> Checked {
+                let found = check_trial(&mut rng, &lists.fields, state, [room, 1])?;
+                same("number", due, found)?;
+                check_typed_trial(&mut rng, &lists.fields, state, room)
+            };
+            check().map_err(|trouble| format!("{what}: {trouble}"))?;
+            cases += 1;
+        }
+    }
+    Ok(format!("{jobs} jobs, {bytes} bytes, {cases} cases"))
+}
+
+/// The last coding of the largest job: draws 1,024,015, modulo 64, and 1,024,016, worked
+/// out apart from the powers of the multiplier.
+const LAST_DRAWS: [(u32, u16, u32); 4] =
+    [(0, 20, 3040), (1, 57, 53_545), (u32::MAX, 48, 18_072), (123_456_789, 28, 5846)];
+
+/// The largest jobs of either kind.
+fn trial_largest_group() -> Result<String, String> {
+    let mut rng = Rng(1);
+    let mut sums = [0; 2];
+    for ((state, grains, distortion), at) in LAST_DRAWS.iter().zip([3, 1, 3, 1]) {
+        let fields = &trial_headers(512, 16, MOST_CHOICES)[at];
+        let lists = trial_lists(fields, *state);
+        let mut check = || -> Checked {
+            same("the last size apart", Some(grains), lists.sizes.last())?;
+            same("the last distortion apart", Some(distortion), lists.distortions.last())?;
+            let job = check_trial_of(&mut rng, &lists, *state)?;
+            same("bytes", if fields.len() == 12 { 3_074_112 } else { 3_074_106 }, job.len())?;
+            sums[0] += 1;
+            sums[1] += job.len();
+            Ok(())
+        };
+        check().map_err(|trouble| trial_failed(fields, *state, &trouble))?;
+    }
+    Ok(format!("{} jobs, {} bytes", sums[0], sums[1]))
+}
+
+/// Headers of other lengths than nine or twelve, or with a field one past its limits;
+/// `a` is the header of Job A with one bucket or with two.
+fn wrong_trial_headers(a: &[u16]) -> Vec<Vec<u16>> {
+    let mut wrong = Vec::new();
+    for &(field, low, high) in &LIMITS[..a.len()] {
+        for value in [low.checked_sub(1), Some(high + 1)].into_iter().flatten() {
+            let mut fields = a.to_vec();
+            fields[field] = value;
+            wrong.push(fields);
+        }
+    }
+    // Some of these lengths are the right one in eight or sixteen bits.
+    let lengths = (0..=26).chain([256 + 9, 256 + 12, 65_536 + 9, 65_536 + 12]);
+    for length in lengths.filter(|length| !FIELDS.contains(length)) {
+        let mut fields = a.to_vec();
+        fields.resize(length, 1);
+        wrong.push(fields);
+    }
+    wrong
+}
+
+/// Every set of defects at once: a header as it should be or wrong in each of its ways,
+/// drains of 0, and lists of all lengths near those needed.
+fn trial_order_group() -> Result<String, String> {
+    let mut rng = Rng(1);
+    let mut tally: BTreeMap<u32, usize> = BTreeMap::new();
+    for a in drains_of_a() {
+        let taken = if a.header.len() == 12 { 70 } else { 64 };
+        let wrong = wrong_trial_headers(&a.header).into_iter().map(|fields| (fields, true));
+        for (fields, header) in [(a.header.clone(), false)].into_iter().chain(wrong) {
+            for room in [0, 1, 22, taken - 1, taken, taken + 1, taken + 9] {
+                for values in [0, 1, 2] {
+                    let due = first_of(&[
+                        (header, 3),
+                        (a.never_drains(), 17),
+                        (room < taken, 12),
+                        (values < 1, 12),
+                    ]);
+                    let state = random_state(&mut rng);
+                    let mut check = || -> Checked {
+                        let found = check_trial(&mut rng, &fields, state, [room, values])?;
+                        same("number", due, found as u32)?;
+                        check_typed_trial(&mut rng, &fields, state, room)
+                    };
+                    check().map_err(|trouble| {
+                        let trouble = format!("room {room}, values {values}: {trouble}");
+                        trial_failed(&fields, state, &trouble)
+                    })?;
+                    *tally.entry(due).or_default() += 1;
+                }
+            }
+        }
+    }
+    let counts = by_number(&tally);
+    ensure!(tally.keys().eq(&[0, 3, 12, 17]), "too little in it: {counts}");
+    Ok(format!("sets of defects by number ({counts})"))
+}
+
+/// What stood in the list before does not matter, nor what was asked before: jobs of
+/// several headers and states are written over each other and over bytes of one kind.
+fn trial_over_group() -> Result<String, String> {
+    let mut rng = Rng(1);
+    let mut asks = Vec::new();
+    for (units, rates, choices) in [(1, 1, 1), (3, 4, 5), (2, 16, 31), (40, 2, 2)] {
+        for (at, fields) in trial_headers(units, rates, choices).into_iter().enumerate() {
+            let state = [0, u32::MAX, 123_456_789, random_state(&mut rng)][at];
+            let due = trial_bytes(&fields, state, usize::MAX, 1);
+            asks.push((fields, state, due.map_err(|number| format!("refused: {number}"))?));
+        }
+    }
+    let room = asks.iter().map(|(_, _, due)| due.len()).max().expect("a job") + 3;
+    let mut list = vec![0; room];
+    let mut values = [0; 2];
+    let mut times = 0;
+    for (fields, state, due) in &asks {
+        for before in 0..3 + asks.len() {
+            match before {
+                0 => list.fill(0),
+                1 => list.fill(255),
+                2 => list.iter_mut().for_each(|byte| *byte = rng.next() as u8),
+                // The job of another header and state, or the same.
+                _ => {
+                    let (fields, state, _) = &asks[before - 3];
+                    same("trial", 0, numbers::trial(fields, *state, &mut list, &mut values))?;
+                }
+            }
+            values = [rng.next(), rng.next()];
+            let mut after = list.clone();
+            after[..due.len()].copy_from_slice(due);
+            let counted = [due.len() as u64, values[1]];
+            let found = numbers::trial(fields, *state, &mut list, &mut values);
+            let trouble = |what| trial_failed(fields, *state, &format!("over {before}: {what}"));
+            ensure!(found == 0, "{}", trouble("refused"));
+            ensure!(list == after, "{}", trouble("other bytes"));
+            ensure!(values == counted, "{}", trouble("other values"));
+            times += 1;
+        }
+    }
+    Ok(format!("{} jobs, written {times} times", asks.len()))
+}
+
+/// A header in range: of all sizes, of few bytes mostly.
+fn random_trial_header(rng: &mut Rng) -> Vec<u16> {
+    let (units, choices) = match rng.from(0, 19) {
+        0 => (512, rng.from(1, 12)),
+        1 => (rng.from(1, 512), rng.from(1, 12)),
+        2 => (rng.from(1, 12), MOST_CHOICES),
+        3 => (rng.from(1, 12), rng.from(1, MOST_CHOICES)),
+        4 => (rng.from(1, 60), rng.from(1, 60)),
+        _ => (rng.from(1, 9), rng.from(1, 9)),
+    };
+    let [decoder, bucket] = [rng.from(0, 255), rng.from(0, 255)];
+    let mut fields = vec![units, rng.from(0, 64), decoder, bucket, rng.from(1, 4095)];
+    fields.extend([rng.from(0, decoder), rng.from(0, bucket), rng.from(1, 16), choices]);
+    if rng.one_in(2) {
+        let second = rng.from(0, 63);
+        fields.extend([second, rng.from(1, 4095), rng.from(0, second)]);
+    }
+    fields.into_iter().map(|field| field as u16).collect()
+}
+
+fn trials_group(seed: u64, asks: bool) -> Result<String, String> {
+    let mut rng = Rng(seed);
+    let (mut bytes, mut long, mut double) = (0, 0, 0);
+    let jobs = scaled(2000);
+    for index in 1..=jobs {
+        let fields = random_trial_header(&mut rng);
+        let state = random_state(&mut rng);
+        let job = check_trial_of(&mut rng, &trial_lists(&fields, state), state)
+            .map_err(|trouble| trial_failed(&fields, state, &trouble))
+            .map_err(|trouble| format!("seed {seed}, job {index}: {trouble}"))?;
+        bytes += job.len();
+        long += (job.len() > 4096) as usize;
+        double += (fields.len() > FIELDS[0]) as usize;
+    }
+    let counts =
+        format!("{jobs} jobs, {bytes} bytes, {long} jobs over 4,096, {double} of two buckets");
+    let worthwhile = long * 10 > jobs && double * 3 > jobs && double * 3 < jobs * 2;
+    ensure!(worthwhile || !asks, "too little in it: {counts}");
+    Ok(counts)
+}
+
+/// Headers with a field changed or two, mostly near a limit, and lists of any length.
+fn harmed_trials_group(seed: u64, asks: bool) -> Result<String, String> {
+    let mut rng = Rng(seed);
+    let mut tally: BTreeMap<Refusal, usize> = BTreeMap::new();
+    let inputs = scaled(20_000);
+    for index in 1..=inputs {
+        let mut fields = random_trial_header(&mut rng);
+        // Each change is tried on many headers, so that short jobs will do.
+        fields[UNITS] = fields[UNITS].min(9);
+        fields[CHOICES] = fields[CHOICES].min(9);
+        for _ in 0..rng.pick(&[0, 0, 1, 1, 1, 2, 3]) {
+            harm_fields(&mut rng, &mut fields);
+        }
+        let need = trial_bytes(&fields, 0, usize::MAX, 1).map_or(100, |bytes| bytes.len());
+        let room = match rng.from(0, 9) {
+            0 => need - 1,
+            1 => rng.from(0, need),
+            2..=5 => need,
+            _ => need + rng.from(1, 99),
+        };
+        let values = if rng.one_in(10) { 0 } else { rng.from(1, 3) };
+        let state = random_state(&mut rng);
+        let mut check = || -> Result<Refusal, String> {
+            check_typed_trial(&mut rng, &fields, state, room)?;
+            check_trial(&mut rng, &fields, state, [room, values])
+        };
+        let due = check().map_err(|trouble| {
+            let trouble = format!("room {room}, values {values}: {trouble}");
+            format!("seed {seed}, input {index}: {}", trial_failed(&fields, state, &trouble))
+        })?;
+        *tally.entry(due).or_default() += 1;
+    }
+    let counts = format!("{inputs} inputs by number ({})", by_number(&tally));
+    let worthwhile =
+        [0, 3, 12, 17].iter().all(|number| tally.get(number).is_some_and(|c| c * 50 > inputs));
+    ensure!(worthwhile || !asks, "too little in it: {counts}");
+    Ok(counts)
+}
+
+/// Changes one field, mostly near a limit, or their number.
+fn harm_fields(rng: &mut Rng, fields: &mut Vec<u16>) {
+    let limits: [u16; 15] = [0, 1, 2, 16, 17, 63, 64, 65, 255, 256, 512, 513, 1000, 1001, 4095];
+    match rng.from(0, 9) {
+        0..=2 => change_one(rng, fields, |rng, _| rng.pick(&limits)),
+        3 | 4 => change_one(rng, fields, near),
+        5 => change_one(rng, fields, |rng, _| rng.pick(&[4096, 0x8000, 0xffff])),
+        6 => change_length(rng, fields),
+        // A drain is one of twelve fields, and there is a number for it alone.
+        _ => {
+            let drain = rng.pick(&[DRAIN, SECOND_DRAIN]);
+            if let Some(field) = fields.get_mut(drain) {
+                *field = 0;
+            }
+        }
+    }
+}
+
+// ---------------------------------------------------------------------------
 // Large jobs.
 // ---------------------------------------------------------------------------
 
-/// A job with a plan: units of fine and coarse codings around what the line
-/// carries in an interval.
-fn large_job(rng: &mut Rng, size: &Size, second: Option<[u16; 3]>) -> Draft {
-    let drain = 20;
+/// A trial job with pins: of units 1, 17, 33 and so on each at the choice that takes least,
+/// so that a small decoder can hold it. The states are some from which there is a plan,
+/// found by trying; from state 1 there mostly is.
+fn large_trial(size: &Size, second: Option<[u16; 3]>, state: u32) -> Result<Draft, String> {
+    let fields = size.header(second);
+    let mut draft = trial_lists(&fields, state).draft();
+    ensure!(draft.bytes() == trial_of(&fields, state)?, "another trial job, state {state}");
+    draft.commands = (1..=size.units)
+        .step_by(16)
+        .map(|unit| Pin(unit as u16, smallest(&draft.units[unit - 1])))
+        .collect();
+    Ok(draft)
+}
+
+/// The choice of a unit that takes least.
+fn smallest(unit: &[(u16, u32)]) -> u16 {
+    (0..unit.len()).min_by_key(|&choice| unit[choice].0).expect("a choice") as u16
+}
+
+/// A job with a plan that no trial job is: its units take up to 200 grains, and lose up to
+/// 1,000,000 where a trial job's take at most 63 and lose at most 65,535. They have fine
+/// and coarse codings around what the line carries in an interval.
+fn large_job(rng: &mut Rng, size: &Size) -> Draft {
     let rates: Vec<u16> = (0..size.rates).map(|i| (i * 40 / size.rates.max(2)) as u16).collect();
     let mut unit = || {
         let finest = if rng.one_in(12) { rng.from(80, 200) } else { rng.from(10, 50) };
@@ -7820,12 +8368,7 @@ fn large_job(rng: &mut Rng, size: &Size, second: Option<[u16; 3]>) -> Draft {
         (0..size.choices).map(coding).collect::<Vec<(u16, u32)>>()
     };
     let units: Vec<_> = (0..size.units).map(|_| unit()).collect();
-    let starts = [size.decoder / 3, size.bucket / 2];
-    let levels = [size.delay, size.decoder, size.bucket, drain, starts[0], starts[1]];
-    let mut draft = Draft::new(levels.map(|level| level as u16), &rates, &units);
-    if let Some(second) = second {
-        draft = draft.doubled(second);
-    }
+    let mut draft = Draft { header: size.header(None), rates, units, commands: Vec::new() };
     for _ in 0..size.units / 16 {
         let unit = rng.from(1, size.units);
         // Of the coarsest, so that a small decoder can hold them.
@@ -7838,35 +8381,47 @@ fn large_job(rng: &mut Rng, size: &Size, second: Option<[u16; 3]>) -> Draft {
 /// Parts of the largest work, cut down in one way or another.
 fn large_group() -> Result<String, String> {
     let few = Size { units: 48, delay: 8, decoder: 63, bucket: 15, rates: 8, choices: 8 };
-    let sizes = [
-        ("few rates and choices", Size { rates: 4, choices: 4, ..FULL }, None),
+    let two_large = Size { units: 12, bucket: 255, ..few };
+    let trials = [
         ("31 choices", Size { units: 128, choices: 31, ..FULL }, None),
         ("few units", Size { units: 32, delay: 4, ..FULL }, None),
         ("a small decoder", Size { decoder: 15, ..FULL }, None),
         ("small buffers", Size { decoder: 127, bucket: 63, ..FULL }, None),
         ("two buckets", few, Some([63, 18, 20])),
-        ("two large buckets", Size { units: 12, bucket: 255, ..few }, Some([63, 21, 63])),
+        ("two large buckets", two_large, Some([63, 21, 63])),
         ("many units, two buckets", Size { decoder: 31, bucket: 7, ..FULL }, Some([7, 20, 0])),
     ];
+    let others = [
+        ("few rates and choices", Size { rates: 4, choices: 4, ..FULL }),
+        ("few units of other ranges", Size { units: 32, delay: 4, ..FULL }),
+    ];
     let mut rng = Rng(5);
-    let mut words = 0;
-    for (name, size, second) in &sizes {
-        // Such a job is too long to print; its name tells.
-        let checked = check_large(&mut rng, size, *second);
+    let (mut words, mut jobs) = (0, 0);
+    // Such a job is too long to print; its name tells.
+    let mut check = |name: &str, draft: Result<Draft, String>| -> Checked {
+        let checked = draft.and_then(|draft| check_large(&mut rng, &draft));
         words += checked.map_err(|trouble| format!("{name}: {trouble}"))?;
+        jobs += 1;
+        Ok(())
+    };
+    for (name, size, second) in &trials {
+        check(name, large_trial(size, *second, 1))?;
     }
-    Ok(format!("{} jobs, {words} words", sizes.len()))
+    let mut rng = Rng(5);
+    for (name, size) in &others {
+        check(name, Ok(large_job(&mut rng, size)))?;
+    }
+    Ok(format!("{jobs} jobs, {words} words"))
 }
 
 fn full_group() -> Result<String, String> {
-    let words = check_large(&mut Rng(6), &FULL, None)?;
+    let words = check_large(&mut Rng(6), &large_trial(&FULL, None, 1)?)?;
     Ok(format!("1 job, {words} words"))
 }
 
 /// Gives the number of words compared.
-fn check_large(rng: &mut Rng, size: &Size, second: Option<[u16; 3]>) -> Result<usize, String> {
-    let draft = large_job(rng, size, second);
-    let asked = Asked::new(rng, &draft);
+fn check_large(rng: &mut Rng, draft: &Draft) -> Result<usize, String> {
+    let asked = Asked::new(rng, draft);
     let table = fast_table(&asked.job, &asked.pins);
     let plans = read_off(&asked.job, &asked.pins, &table);
     let word = table[asked.job.word(0, asked.job.start_decoder, &asked.job.start_levels())];
@@ -7932,6 +8487,10 @@ fn run_all(new_seed: u64, with_full: bool, examples: Option<&Path>) -> bool {
         print_group("cuts at every byte", cuts_group()),
         print_group("limits of writing", write_limits_group()),
         print_group("refusals of writing in their order", write_order_group()),
+        print_group("draws of trial jobs by hand", draws_group()),
+        print_group("limits of trial jobs", trial_limits_group()),
+        print_group("refusals of trial jobs in their order", trial_order_group()),
+        print_group("trial jobs over what stood there", trial_over_group()),
     ];
     if let Some(directory) = examples {
         results.push(print_group("examples written again", examples_group(directory)));
@@ -7946,6 +8505,8 @@ fn run_all(new_seed: u64, with_full: bool, examples: Option<&Path>) -> bool {
     };
     seeded("jobs written", &[1, 2], written_group);
     seeded("harmed lists", &[1], harmed_lists_group);
+    seeded("trial jobs", &[1, 2], trials_group);
+    seeded("harmed headers of trial jobs", &[1], harmed_trials_group);
     seeded("harmed bytes", &[1], harmed_group);
     seeded("replay and report", &[1, 2], replay_group);
     seeded("jobs that never drain", &[1, 2], stored_group);
@@ -7981,6 +8542,7 @@ fn run_all(new_seed: u64, with_full: bool, examples: Option<&Path>) -> bool {
     seeded("lines of two buckets", &[1, 2], lines_group);
     seeded("larger jobs of two buckets", &[4], larger_double_group);
     if !small() {
+        results.push(print_group("trial jobs of the largest size", trial_largest_group()));
         results.push(print_group("large jobs", large_group()));
         results.push(print_group("even pictures, large jobs", even_large_group()));
         results.push(print_group("pin and see, large jobs", seen_large_group()));

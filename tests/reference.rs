@@ -1,12 +1,13 @@
 //! What the test programs share: answers worked out straight from the product's
 //! paper, and the jobs they are asked of.
 //!
-//! The answers have seven parts: a reader that gives the first refusal due, an
+//! The answers have eight parts: a reader that gives the first refusal due, an
 //! enumeration of every plan (small jobs), a dynamic program that carries whole
 //! paths forward (the jobs too large to enumerate), both of these again for even
 //! pictures, with every word of the table, a reader of plans of either shape, a book of
-//! pins with the numbers of its set, and a writer that gives a job's bytes or the first
-//! refusal due. Each program uses a part of what stands here.
+//! pins with the numbers of its set, a writer that gives a job's bytes or the first
+//! refusal due, and a generator that gives a trial job's. Each program uses a part of
+//! what stands here.
 
 use std::collections::btree_map::Entry as MapEntry;
 use std::collections::BTreeMap;
@@ -1530,6 +1531,19 @@ pub struct Size {
     pub choices: usize,
 }
 
+impl Size {
+    /// A header of this size. The drain is 20; at the start the decoder is filled to a
+    /// third, the bucket to a half. `second`: size, drain and starting level of a second
+    /// bucket.
+    pub fn header(&self, second: Option<[u16; 3]>) -> Vec<u16> {
+        let Size { units, delay, decoder, bucket, rates, choices } = *self;
+        let fields = [units, delay, decoder, bucket, 20, decoder / 3, bucket / 2, rates, choices];
+        let mut header = fields.map(|field| field as u16).to_vec();
+        header.extend(second.into_iter().flatten());
+        header
+    }
+}
+
 /// The largest job that opens.
 pub const FULL: Size =
     Size { units: 512, delay: 64, decoder: 255, bucket: 255, rates: 16, choices: MOST_CHOICES };
@@ -1780,6 +1794,56 @@ pub fn write_job(lists: &Lists, room: usize, values: usize) -> Result<Vec<u8>, R
         read_unit(&unit_body(unit))?;
     }
     let bytes = draft.bytes();
+    if room < bytes.len() || values < 1 {
+        return Err(12);
+    }
+    Ok(bytes)
+}
+
+/// The draws from a starting state, one after another. The state has 32 bits; here the
+/// product is whole, and what is over is taken off by a remainder.
+pub struct Draws {
+    pub state: u64,
+}
+
+impl Draws {
+    pub fn next(&mut self) -> u64 {
+        self.state = (self.state * 1_664_525 + 1_013_904_223) % 4_294_967_296;
+        self.state / 65_536
+    }
+}
+
+/// What a trial job holds, for a header in range.
+pub fn trial_lists(fields: &[u16], state: u32) -> Lists {
+    let mut draws = Draws { state: state.into() };
+    let mut rates: Vec<u16> = Vec::new();
+    for _ in 0..fields[RATES] {
+        let least = rates.last().map_or(0, |rate| rate + 1);
+        rates.push(least + (draws.next() % 4) as u16);
+    }
+    let (mut sizes, mut distortions) = (Vec::new(), Vec::new());
+    for _unit in 0..fields[UNITS] {
+        for _choice in 0..fields[CHOICES] {
+            sizes.push((draws.next() % 64) as u16);
+            distortions.push(draws.next() as u32);
+        }
+    }
+    Lists { fields: fields.to_vec(), rates, sizes, distortions }
+}
+
+/// The bytes of a trial job, or the first refusal due. `room` is the length of the list
+/// for the bytes, `values` that of the list for their count.
+pub fn trial_bytes(
+    fields: &[u16],
+    state: u32,
+    room: usize,
+    values: usize,
+) -> Result<Vec<u8>, Refusal> {
+    if !FIELDS.contains(&fields.len()) {
+        return Err(3);
+    }
+    Door::Opening.drains(&read_header(&words(fields))?)?;
+    let bytes = trial_lists(fields, state).draft().bytes();
     if room < bytes.len() || values < 1 {
         return Err(12);
     }

@@ -22,15 +22,16 @@
 //! which says which of several plans as good is given: the one that sends early, or the
 //! one that sends late.
 //!
-//! [`write()`] makes the bytes of a job from its header and lists; [`open`],
+//! [`write()`] makes the bytes of a job from its header and lists, and [`trial`] those of
+//! a job to try things with, from its header and a starting state; [`open`],
 //! [`archive`], [`calls()`], [`plan`], [`replay`], [`report`] and [`turn`] take these
-//! bytes and read them again. They fill lists that the caller lends; [`written`], [`called`],
-//! [`best_plan`], [`replayed`] and [`turned`] make the lists themselves. Nothing is
-//! kept between calls. A list that is filled may be longer than needed: what stands
-//! past the part named as written keeps its values. Wherever a job is read, its
-//! own refusals come first: 1 to 5, and for those that open it 17. A refusal writes
-//! nothing, except that [`Refusal::NoPlan`] comes after the search and leaves `table`
-//! written, and no other list.
+//! bytes and read them again. They fill lists that the caller lends; [`written`],
+//! [`trial_job`], [`called`], [`best_plan`], [`replayed`] and [`turned`] make the lists
+//! themselves. Nothing is kept between calls. A list that is filled may be longer than
+//! needed: what stands past the part named as written keeps its values. Wherever a job is
+//! read, its own refusals come first: 1 to 5, and for those that open it 17. A refusal
+//! writes nothing, except that [`Refusal::NoPlan`] comes after the search and leaves
+//! `table` written, and no other list.
 //!
 //! An editor who pins and lifts, and wants to see each time what the best plan comes
 //! to, opens a [`Session`]. It keeps the pins and the table from click to click, and of
@@ -39,10 +40,10 @@
 //! A drain of 0 was once typed for a line without a limit, and says the opposite: what
 //! is sent stays in the bucket. Jobs with it, in either bucket, are refused with 17,
 //! directly after 3 and before the next record is looked at: by [`open`], [`calls()`],
-//! [`plan`] and [`write()`], by [`called`], [`best_plan`] and [`written`], and by
-//! [`Session::open`]. Such jobs that are stored are opened by [`archive`], which takes all
-//! other jobs too; [`replay`], [`report`], [`turn`], [`replayed`] and [`turned`] take what
-//! it takes.
+//! [`plan`], [`write()`] and [`trial`], by [`called`], [`best_plan`], [`written`] and
+//! [`trial_job`], and by [`Session::open`]. Such jobs that are stored are opened by
+//! [`archive`], which takes all other jobs too; [`replay`], [`report`], [`turn`],
+//! [`replayed`] and [`turned`] take what it takes.
 //!
 //! The work is done by the library `libupload.a`, whose code is proved to meet
 //! its contract. It takes no memory and reads and writes only what is lent to
@@ -402,7 +403,8 @@ pub struct Bucket {
     pub level: u16,
 }
 
-/// The header of a job, from which [`write()`] and [`written`] make its bytes.
+/// The header of a job, from which [`write()`] and [`written`] make its bytes, and [`trial`]
+/// and [`trial_job`] those of a trial job.
 #[derive(Clone, Copy, Debug, PartialEq, Eq, Hash)]
 pub struct Header {
     /// N, from 1 to 512.
@@ -1543,5 +1545,88 @@ pub fn written(
     // refused, however long the list.
     let mut job = vec![0; header.job_bytes().min(LARGEST_JOB)];
     write(header, rates, sizes, distortions, &mut job)?;
+    Ok(job)
+}
+
+/// Writes the bytes of a trial job and says how many they are: [`Header::job_bytes`]. It
+/// is a job with this header, whose rates, sizes and distortions are drawn from a starting
+/// state. The same header and state give the same bytes on every machine, and what is
+/// written opens.
+///
+/// - `state`: any number. A draw replaces it by state × 1,664,525 + 1,013,904,223, of
+///   which the lowest 32 bits are kept, and is the new state divided by 65,536, rounded
+///   down.
+/// - `job`: the records of the header, of the rates and of each unit are written. The
+///   first rate is a draw modulo 4, and each later one the rate before it plus 1 plus a
+///   draw modulo 4. Then for each choice of each unit in turn the grains are a draw modulo
+///   64, and the distortion is the draw after it.
+///
+/// So no rate is over 63, no size over 63 and no distortion over 65,535. Whether there is
+/// a plan is chance: a unit may take more at each of its choices than the decoder holds.
+///
+/// # Errors
+///
+/// In this order: 3, then 17 for the header; 12 where `job` is too short.
+pub fn trial(header: &Header, state: u32, job: &mut [u8]) -> Result<usize, Refusal> {
+    let mut values = [0; numbers::WRITE_VALUES];
+    checked(numbers::trial(&header.numbers(), state, job, &mut values))?;
+    Ok(values[0] as usize)
+}
+
+/// [`trial`] with a list of its own, as long as the job needs.
+///
+/// # Errors
+///
+/// Number 3, then 17 for the header.
+///
+/// # Examples
+///
+/// The first eleven draws from state 5 are 15,597, 47,977, 15,930, 55,898, 46,950, 23,616,
+/// 32,696, 14,470, 3,365, 56,953 and 4,283. Modulo 4 the first three are 1, 1 and 2, so that
+/// the rates are 1, 1 + 1 + 1 and 3 + 1 + 2. The fourth is 26 modulo 64, the grains of the
+/// first choice, and the fifth is its distortion; so on for the other three.
+///
+/// ```
+/// use upload_planner::{best_plan, trial_job, written, Aim, Header, Order, Refusal};
+///
+/// let header = Header {
+///     units: 2,
+///     delay: 0,
+///     decoder: 8,
+///     bucket: 8,
+///     drain: 4,
+///     level: 0,
+///     fill: 0,
+///     rates: 3,
+///     choices: 2,
+///     second: None,
+/// };
+/// let job = trial_job(&header, 5)?;
+/// let (rates, sizes) = ([1, 3, 6], [26, 0, 6, 57]);
+/// assert_eq!(job, written(&header, &rates, &sizes, &[46_950, 32_696, 3_365, 4_283])?);
+///
+/// // Unit 1 takes nothing at its second choice, unit 2 takes six grains at its first.
+/// let early = best_plan(&job, &[], Aim::Total, Order::Early)?;
+/// assert_eq!(early.totals.distortion, 32_696 + 3_365);
+/// assert_eq!(early.entries, [2, 1, 0, 0, 0, 0]);
+/// let late = best_plan(&job, &[], Aim::Total, Order::Late)?;
+/// assert_eq!(late.entries, [0, 1, 0, 2, 0, 0]);
+///
+/// // From state 0 unit 1 takes 57 grains or 46, and the decoder holds eight.
+/// let job = trial_job(&header, 0)?;
+/// let sizes = [57, 46, 25, 48];
+/// assert_eq!(job, written(&header, &[2, 3, 4], &sizes, &[25_170, 22_526, 33_277, 52_214])?);
+/// let best = best_plan(&job, &[], Aim::Total, Order::Early);
+/// assert_eq!(best, Err(Refusal::NoPlan));
+///
+/// // The line is to drain.
+/// let never = Header { drain: 0, ..header };
+/// assert_eq!(trial_job(&never, 5), Err(Refusal::NeverDrains));
+/// # Ok::<(), Refusal>(())
+/// ```
+pub fn trial_job(header: &Header, state: u32) -> Result<Vec<u8>, Refusal> {
+    // As in `written`, a header out of range is refused, however long the list.
+    let mut job = vec![0; header.job_bytes().min(LARGEST_JOB)];
+    trial(header, state, &mut job)?;
     Ok(job)
 }

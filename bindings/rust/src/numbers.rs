@@ -71,7 +71,7 @@ pub const REPLAY_VALUES: usize = 6;
 /// How many values [`replay`] writes for a job with two buckets. A list of so many
 /// is long enough for every job.
 pub const REPLAY_VALUES_MOST: usize = 7;
-/// How many values [`write()`] writes: the bytes that the job took.
+/// How many values [`write()`] and [`trial`] write: the bytes that the job took.
 pub const WRITE_VALUES: usize = 1;
 /// How many values [`pin_and_see`] and [`lift_and_see`] write: the least total distortion,
 /// or [`NEVER`](crate::NEVER) where no plan holds the pins.
@@ -84,11 +84,11 @@ pub const LEVELS: usize = 2;
 /// the second bucket's comes last.
 pub const LEVELS_MOST: usize = 3;
 
-/// How many fields [`write()`] takes for a job with one bucket: N, d, the sizes of
-/// decoder and bucket, the drain, the starting levels of decoder and bucket, P, M.
+/// How many fields [`write()`] and [`trial`] take for a job with one bucket: N, d, the
+/// sizes of decoder and bucket, the drain, the starting levels of decoder and bucket, P, M.
 pub const FIELDS: usize = 9;
-/// How many fields [`write()`] takes for a job with two buckets: those nine, then
-/// the second bucket's size, drain and starting level. A count that is neither is
+/// How many fields [`write()`] and [`trial`] take for a job with two buckets: those nine,
+/// then the second bucket's size, drain and starting level. A count that is neither is
 /// refused with 3, as a field out of range is.
 pub const FIELDS_MOST: usize = 12;
 
@@ -240,9 +240,19 @@ extern "C" {
         values: *mut u64,
         values_len: usize,
     ) -> u32;
+
+    fn upload_trial(
+        fields: *const u16,
+        fields_len: usize,
+        state: u32,
+        job: *mut u8,
+        job_len: usize,
+        values: *mut u64,
+        values_len: usize,
+    ) -> u32;
 }
 
-// In all fifteen: a slice's pointer is aligned, never null, and good for the
+// In all seventeen: a slice's pointer is aligned, never null, and good for the
 // slice's length; slices that are written overlap no other. That is all the
 // library asks, and it reads and writes nothing else.
 
@@ -500,6 +510,21 @@ pub fn write(
             sizes.len(),
             distortions.as_ptr(),
             distortions.len(),
+            job.as_mut_ptr(),
+            job.len(),
+            values.as_mut_ptr(),
+            values.len(),
+        )
+    }
+}
+
+/// Writes a trial job's bytes from its header and a starting state.
+pub fn trial(fields: &[u16], state: u32, job: &mut [u8], values: &mut [u64]) -> u32 {
+    unsafe {
+        upload_trial(
+            fields.as_ptr(),
+            fields.len(),
+            state,
             job.as_mut_ptr(),
             job.len(),
             values.as_mut_ptr(),
