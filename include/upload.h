@@ -447,6 +447,47 @@ uint32_t upload_turn(const uint8_t *job, size_t job_len,
                      const uint8_t *old, size_t old_len,
                      uint8_t *entries, size_t entries_len);
 
+/* Plans the rest of a programme afresh when the carrier's contract changes. The first
+   `first` entries of the old plan remain, with the levels that they led to under the
+   job's own contract; the intervals after them are planned under the new one, from
+   these levels and with the pins of the set. The decoder, the units and the delay
+   stay. The plan of the rest is the admissible one of least total distortion, of
+   equal ones the first in the order named.
+
+   set:     the job's; not written.
+   old:     exactly 3 x T bytes, as upload_plan writes them.
+   first:   how many entries remain, 1 to T - 1.
+   rates:   the new rates, 1 to 16 numbers, each at most 4,095, strictly rising.
+   sizes:   the new size of each bucket of the job, in its order: at most 255 for the
+            first, 63 for the second.
+   drains:  the new drain of each bucket, 1 to 4,095.
+   order:   one of enum upload_order.
+   table:   (T + 1) x (D + 1) x (K + 1) words, with a second bucket x (K2 + 1), by the
+            NEW sizes: layers `first` to T are written, those before stay.
+   entries: 3 x T bytes written: the old ones, then those of the rest, whose rate
+            indices are of the new rates.
+   values:  distortion, source size and channel size of the whole plan, then the
+            unused drain of each bucket: each interval by its own contract.
+
+   Refusals in order: 1 to 5 and 17 for the job; 6; 2 for another order; 14 for the
+   old plan; of the new contract 3 (a size or drain out of range, another number of
+   them than the job has buckets, no rate or more than 16), 17 (a drain of 0) and 4;
+   18 where `first` is not in 1 to T - 1; 19 where the old plan, with the set's pins,
+   has a violation in an interval up to `first`; 20 where the level of a bucket after
+   these intervals exceeds its new size; 11; 12 where `entries` or `values` is too
+   short; 13 where no plan of the rest is admissible, which leaves the table written. */
+uint32_t upload_change(const uint8_t *job, size_t job_len,
+                       const uint32_t *set, size_t set_len,
+                       const uint8_t *old, size_t old_len,
+                       uint32_t first,
+                       const uint16_t *rates, size_t rates_len,
+                       const uint16_t *sizes, size_t sizes_len,
+                       const uint16_t *drains, size_t drains_len,
+                       uint32_t order,
+                       uint32_t *table, size_t table_len,
+                       uint8_t *entries, size_t entries_len,
+                       uint64_t *values, size_t values_len);
+
 /* Writes a job's bytes from its header and lists: the record of the header, that
    of the rates, then one for each unit. What is written opens and holds this
    header and these lists; a job that opens, written from its own, is the bytes

@@ -11,7 +11,8 @@ use Rattle.model.specs.Step.{bucket-step, after-sending}
 use Rattle.model.specs.Replay.{total-distortion, totals}
 use Rattle.model.specs.Replay as r
 use Rattle.model.proofs.Drains.{zip-length}
-use Rattle.model.proofs.Sums.{plus-each, plus, totals-same, plus-assoc, unused, first-totals, totals-first}
+use Rattle.model.specs.Replay.{plus-each, plus}
+use Rattle.model.proofs.Sums.{totals-same, plus-assoc, unused, first-totals, totals-first}
 use Rattle.interval.specs.declared.Interval.{Interval}
 use Rattle.interval.specs.declared.Levels.{Levels}
 use Rattle.interval.specs.declared.Totals.{Totals}

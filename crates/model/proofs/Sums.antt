@@ -11,7 +11,7 @@ use Rattle.model.specs.Job.{Bucket, Levels, Job, Entry, sends, takes, di
 use Rattle.model.specs.Levels.{entryOf, sent, taken, distorted, bucketLevel, unusedDrain, unusedTotals}
 use Rattle.base.specs.Lists.{sum, gathered}
 use Rattle.model.specs.Step.{bucket-step, after-sending}
-use Rattle.model.specs.Replay.{Totals, total-distortion, totals}
+use Rattle.model.specs.Replay.{plus-each, plus, Totals, total-distortion, totals}
 use Rattle.model.proofs.Levels.{taken-rest, bucket-rest}
 
 -- the first number and the rest, which another function gives
@@ -24,18 +24,7 @@ gathered-first _⊕_ c f g e (suc n) =
 pub sum-first : (f g : ℕ → ℕ) → ((i : ℕ) → f (suc (suc i)) ≡ g (suc i)) → (n : ℕ) → sum f (suc n) ≡ f 1 + sum g n
 sum-first = gathered-first _+_ sum-combines
 
--- numbers one list after the other, and totals
-unfoldable pub plus-each : List ℕ → List ℕ → List ℕ
-plus-each = zipWith _+_
-
-unfoldable pub plus : Totals → Totals → Totals
-plus a b = record {
-  distortion = a .distortion + b .distortion;
-  source = a .source + b .source;
-  channel = a .channel + b .channel;
-  unused = plus-each (a .unused) (b .unused);
-}
-
+-- totals one after the other
 each-assoc : (a b c : List ℕ) → plus-each (plus-each a b) c ≡ plus-each a (plus-each b c)
 unfolding plus-each zipWith
 each-assoc [] b c = refl

@@ -1,6 +1,6 @@
 -- Replaying a plan: interval by interval, up to the first violation (document 01, "Levels, interval by interval").
-use Prim.Native.Nat.{ℕ, suc}
-use mathlib.Core.List.{List, [], _∷_}
+use Prim.Native.Nat.{ℕ, suc, _+_}
+use mathlib.Core.List.{List, [], _∷_, zipWith}
 use lib.ListN.{length}
 use Rattle.model.specs.Job.{Levels, Job, Entry}
 use Rattle.model.specs.Levels.{sent, taken, distorted, unusedTotals}
@@ -31,6 +31,18 @@ totals j s start p = record {
   source = sum (taken j s p) (length p);
   channel = sum (sent j p) (length p);
   unused = unusedTotals j s p (j .line .buckets) (start .buckets) (length p);
+}
+
+-- the totals of one plan behind another
+unfoldable pub plus-each : List ℕ → List ℕ → List ℕ
+plus-each = zipWith _+_
+
+unfoldable pub plus : Totals → Totals → Totals
+plus a b = record {
+  distortion = a .distortion + b .distortion;
+  source = a .source + b .source;
+  channel = a .channel + b .channel;
+  unused = plus-each (a .unused) (b .unused);
 }
 
 pub data Result : Type 0 where

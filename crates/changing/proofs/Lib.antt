@@ -1,0 +1,1 @@
+-- What is proved of the definitions, for the proofs of crates that name this one.
