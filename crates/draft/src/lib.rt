@@ -31,7 +31,7 @@ fn lengths_verdict(header: Header, rates: &[u16], sizes: &[u16], distortions: &[
 }
 
 // 4 where a rate is over its limit or does not rise.
-fn rates_verdict(rates: &[u16]) -> Verdict
+pub fn rates_verdict(rates: &[u16]) -> Verdict
     ensures { λ r. ⌜ verdict r ≡ broken (rate-limits 0 (now (rates .entry))) ⌝ }
 {
     let mut low = 0;

@@ -261,7 +261,7 @@ impl Bucket {
     }
 
     // Whether its size is at most the largest, its drain at most 4,095 and its level at the start at most its size.
-    fn fits(self, largest: u16) -> bool
+    pub fn fits(self, largest: u16) -> bool
         ensures { λ r. ⌜ r ≡ each-kept (bucket-limits (largest ∷ []) (policed-of self ∷ [])) ⌝ }
     {
         let size = self.size;
@@ -274,7 +274,7 @@ impl Bucket {
     }
 
     // Whether it drains something, and at most 4,095.
-    fn drains(self) -> bool
+    pub fn drains(self) -> bool
         ensures { λ r. ⌜ r ≡ kept (limit 17 1 4095 (self .drain)) ⌝ }
     {
         let drain = self.drain;
