@@ -18,7 +18,7 @@ pub enum Front {
 }
 
 // The first `count` entries of a plan in shape, interval after interval.
-pub fn front(
+pub fn follow(
     job: &[u8],
     header: Header,
     pins: &[Choice; 512],
