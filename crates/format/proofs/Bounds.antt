@@ -23,12 +23,12 @@ module _ (low : ℕ) where
   rate-low [] k h = absurd (omega arith)
   rate-low (r ∷ rs) k h = omega arith
 
-rate-most-from : (low : ℕ) (rs : List ℕ) → AllKept (rate-limits low rs) → (y : ℕ) → y < length rs → getD rs y 0 ≤ 4095
+pub rate-most-from : (low : ℕ) (rs : List ℕ) → AllKept (rate-limits low rs) → (y : ℕ) → y < length rs → getD rs y 0 ≤ 4095
 rate-most-from low [] k y h = absurd (omega arith)
 rate-most-from low (r ∷ rs) k zero h = omega arith
 rate-most-from low (r ∷ rs) k (suc y) h = rate-most-from _ rs (k .1) y (omega arith)
 
-rising-from : (low : ℕ) (rs : List ℕ) → AllKept (rate-limits low rs) → (y : ℕ) → y + 1 < length rs → getD rs y 0 < getD rs (suc y) 0
+pub rising-from : (low : ℕ) (rs : List ℕ) → AllKept (rate-limits low rs) → (y : ℕ) → y + 1 < length rs → getD rs y 0 < getD rs (suc y) 0
 rising-from low [] k y h = absurd (omega arith)
 rising-from low (r ∷ rs) k zero h = omega (arith, rate-low _ rs (k .1) (omega arith))
 rising-from low (r ∷ rs) k (suc y) h = rising-from _ rs (k .1) y (omega arith)

@@ -71,9 +71,13 @@ module _ (table entries : List ℕ) where
   read-keeps f (refused n) h = refuse-keeps n
   read-keeps f (took j k) h = h j
 
+  pub search-keeps : (j : Job) (m : PinMap) (a : Aim) (o : Order) (s : ℕ) (start : Levels) → Keeping table entries (search-in j m a o s start table entries)
+  unfolding search-in
+  search-keeps j m a o s start = searched-keeps j (open-for a j m s start) o s start (least-total j (open-for a j m s start) s start)
+
   pub in-keeps : (j : Job) (m : PinMap) (a : Aim) (o : Order) (s : ℕ) (start : Levels) → Keeping table entries (plan-in j m a o s start table entries)
-  unfolding plan-in search-in
-  in-keeps j m a o s start = guarded-keeps (plan-tests j s (length table) (length entries)) _ (searched-keeps j (open-for a j m s start) o s start (least-total j (open-for a j m s start) s start))
+  unfolding plan-in
+  in-keeps j m a o s start = guarded-keeps (plan-tests j s (length table) (length entries)) _ (search-keeps j m a o s start)
 
 pub keeps : Keeps
 unfolding plan-call

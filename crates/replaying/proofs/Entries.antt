@@ -127,11 +127,11 @@ bytes-more (x ∷ p) e = ap (λ (l : List ℕ). one-entry x ++ l) (bytes-more p 
 
 -- an entry's bytes, where they are there
 module _ (b : List ℕ) (i : ℕ) (h : 3 * i + 3 ≤ length b) where
-  rate-is : rate-field b i ≡ getD b (3 * i) 0
+  pub rate-is : rate-field b i ≡ getD b (3 * i) 0
   unfolding rate-field entry-fields fields
   rate-is = one-at b (3 * i) (omega arith)
 
-  choice-is : choice-field b i ≡ getD b (3 * i + 1) 0 + 256 * getD b (3 * i + 2) 0
+  pub choice-is : choice-field b i ≡ getD b (3 * i + 1) 0 + 256 * getD b (3 * i + 2) 0
   unfolding choice-field entry-fields fields
   choice-is =
       let e : 3 * i + 1 + 1 ≡ 3 * i + 2 = omega arith in

@@ -1,0 +1,238 @@
+-- A change of contract, with any set and after any list of pins and lifts: `ChangeCalls`, `ChangesAfter` and `ChangeKeeps`.
+use Prim.Native.Nat.{ℕ, _+_, _-_, _*_, _≤_, _<_}
+use mathlib.Core.Path.{_≡_, refl, sym, ap, ap₂, _∙_}
+use mathlib.Core.Logic.{_↔_}
+use mathlib.Core.Bool.{Bool, true, false}
+use mathlib.Core.Option.{Option, none, some}
+use mathlib.Core.List.{List, [], _∷_, _++_}
+use native.Mathlib.Omega.{arith}
+use lib.ListN.{length, take, drop, length-append, length-drop, length-map}
+use lib.Seq.{length-take-le, take-append-add, drop-append-add, drop-drop}
+use lib.Dec.{leb}
+use borrow.Author.Tests.{leb-true, le-leb}
+use Rattle.base.specs.Answer.{Answer, refused, gives}
+use Rattle.base.specs.Refusals.{Test, Condition, condition, guarded, InOrder}
+use Rattle.base.proofs.Answers.{not-refused}
+use Rattle.base.proofs.Refusals.{guarded-past, guarded-here, guarded-last, guarded-none, AllHold, Guarded, was-refused, was-done, guarded-is}
+use Rattle.model.specs.Job.{Levels, Job, Entry, on-line, intervals}
+use Rattle.model.specs.Levels.{bucketLevels}
+use Rattle.model.specs.Pins.{PinMap}
+use Rattle.model.specs.Admissible.{AllWithin, Shows, ending, SoundFor, Admissible}
+use Rattle.model.specs.Step.{overfull}
+use Rattle.model.specs.Replay.{Totals, totals, plus}
+use Rattle.model.specs.Best.{Order, Open, unlimited, least-total, total, open-for}
+use Rattle.model.specs.Table.{layerWords, words, IsTable}
+use Rattle.model.specs.Claims.{kept-open}
+use Rattle.model.proofs.Lines.{intervals-on}
+use Rattle.format.specs.Choices.{no-choice}
+use Rattle.format.specs.Parser.{took, on-read}
+use Rattle.format.specs.Parser as P
+use Rattle.format.specs.JobBytes.{parse, opening, header-in}
+use Rattle.format.specs.Claims.{InLimits}
+use Rattle.format.proofs.Bounds.{limited}
+use Rattle.format.proofs.Places.{well-read}
+use Rattle.pinning.specs.PinSet.{PinSet, lines}
+use Rattle.pinning.specs.Check.{Matches, checked}
+use Rattle.pinning.proofs.Agree.{checked-refused, matched, unmatched}
+use Rattle.pinning.proofs.History.{history}
+use Rattle.replaying.specs.Entries.{entry-size, entry-at, entry-bytes, plan-from, plan-of, shaped}
+use Rattle.replaying.specs.Claims.{InShape}
+use Rattle.replaying.proofs.Entries.{shapes}
+use Rattle.planning.specs.Words.{table-from}
+use Rattle.planning.specs.Calls.{Planned, refuse, searched, search-in}
+use Rattle.planning.specs.Claims.{BestWritten, PlanClaim, Keeping}
+use Rattle.planning.proofs.Layers.{from-table}
+use Rattle.planning.proofs.DemandThree.{search-claim}
+use Rattle.planning.proofs.Refusals.{guarded-keeps, read-keeps, search-keeps}
+use Rattle.changing.specs.Contracts.{Contract, line-under, under}
+use Rattle.changing.specs.Calls.{remaining, front, carried, is-clean, none-over, change-tests, both-totals, all-entries, behind, change-in, change-call}
+use Rattle.changing.specs.Claims.{Offers, Draining, Rising, Asks, Continued, ChangeClaim, ChangeCalls, ChangesAfter, ChangeKeeps}
+use Rattle.changing.proofs.Conditions.{offers-iff, draining-iff, rising-iff, within-iff, within-is}
+use Rattle.changing.proofs.Front.{entries-take, read-both, sound-iff, carried-shows}
+
+-- tests that say what conditions say, where each may rely on the conditions before it
+data Following : List Test → List Condition → Type 1 where
+  no-more : Following [] []
+  one-more : {t : Test} {c : Condition} {ts : List Test} {cs : List Condition} → t .number ≡ c .number → (t .passes ≡ true) ↔ c .Holds → (c .Holds → Following ts cs) → Following (t ∷ ts) (c ∷ cs)
+
+module _ {R : Type 0} (refuse : ℕ → R) where
+  in-turn : {ts : List Test} {cs : List Condition} → Following ts cs → (Else : R → Type 0) (r q : R) → q ≡ guarded refuse ts r → (AllHold cs → Else r) → InOrder q refuse cs (Else q)
+  in-turn no-more Else r q e h = rw (e ∙ guarded-none refuse r) (h tt)
+  in-turn (one-more {t} {c} {ts} {cs} p d s) Else r q e h = (fails (t .passes) refl, λ k. in-turn (s k) Else r q (e ∙ guarded-past refuse t ts r (d .1 k)) (λ rest. h (k, rest)))
+    where
+      fails : (b : Bool) → t .passes ≡ b → (c .Holds → ⊥) → q ≡ refuse (c .number)
+      fails true w g = absurd (g (d .0 w))
+      fails false w g = e ∙ guarded-here refuse t ts r w ∙ ap refuse p
+
+-- room for so much, as a test
+room-iff : (n k : ℕ) → (leb n k ≡ true) ↔ (n ≤ k)
+room-iff n k = (leb-true n k, le-leb n k)
+
+-- the answer of both parts is refused where the search's is
+refused-iff : (before : Totals) (n : ℕ) (a : Answer Totals) → (both-totals before a ≡ refused n) ↔ (a ≡ refused n)
+unfolding both-totals
+refused-iff before n (refused k) = (λ e. e, λ e. e)
+refused-iff before n (gives t) = (λ e. absurd (not-refused e), λ e. absurd (not-refused e))
+
+-- the table of a search, whatever it found
+search-table : (j : Job) (k : Open) (o : Order) (s : ℕ) (start : Levels) (r : Option ℕ) (table entries : List ℕ) → searched j k o s start r table entries .table ≡ table-from _+_ j k s table
+unfolding searched
+search-table j k o s start none table entries = refl
+search-table j k o s start (some v) table entries = refl
+
+module _ (j : Job) (m : PinMap) (old : List ℕ) (s : ℕ) (c : Contract) (o : Order) (table entries : List ℕ) where
+  abbrev J : Job
+  J = under j c
+
+  abbrev at : Levels
+  at = carried j m s old
+
+  abbrev found : Planned
+  found = search-in J m total o s at table (drop (entry-size * s) entries)
+
+  abbrev before : Totals
+  before = totals j 0 (j .start) (remaining j m s old)
+
+  abbrev first : List ℕ
+  first = take (entry-size * s) old
+
+  length-under : intervals J ≡ intervals j
+  length-under = intervals-on j (line-under j c)
+
+  module _ (few : j .choices ≤ no-choice) (shape : InShape j old) (offers : Offers (length (j .line .buckets)) c) (less : s < intervals j) (room : words J ≤ length table) (space : 3 * intervals j ≤ length entries) where
+    claim : PlanClaim J m total o s at table (drop (entry-size * s) entries) found
+    claim = search-claim J m total o s at (unfold on-line in few) (unfold on-line line-under in (omega (arith, offers .few-rates))) (omega (arith, length-under)) table (drop (entry-size * s) entries) room (omega (arith, length-drop (entry-size * s) entries, length-under))
+
+    first-long : length first ≡ 3 * s
+    first-long = length-take-le (entry-size * s) old (omega (arith, shape .size))
+
+    module _ (w : BestWritten J m total o s at table (drop (entry-size * s) entries) found) where
+      abbrev all : List ℕ
+      all = first ++ found .entries
+
+      cut : 3 * intervals j ≡ length first + 3 * (intervals J - s)
+      cut = omega (arith, first-long, length-under)
+
+      whole : entry-size * s + 3 * (intervals J - s) ≡ 3 * intervals j
+      whole = omega (arith, length-under)
+
+      taken : take s (plan-of j old) ≡ plan-from old 0 s
+      unfolding plan-of
+      taken = entries-take (entry-at old) 0 s (intervals j) (omega arith)
+
+      both : (a : Answer Totals) → a ≡ gives (totals J s at (w .plan)) → (both-totals before a ≡ gives (plus before (totals J s at (w .plan)))) × (all-entries a first (found .entries) entries ≡ all)
+      unfolding both-totals all-entries
+      both a e = (rw e, rw e)
+
+      continued : Continued j m old s c o table entries at (behind before first entries found)
+      unfolding behind
+      continued =
+          let b = both (found .answer) (w .totals-are) in
+          record {
+            rest = w .plan;
+            best = w .best;
+            bytes = rw (b .1, cut) (take-append-add first (found .entries) (3 * (intervals J - s)) ∙ ap (λ (l : List ℕ). first ++ l) (w .bytes));
+            read-back =
+                let n : intervals j ≡ s + (intervals J - s) = omega (arith, length-under) in
+                rw (b .1) (ap (plan-from all 0) n ∙ read-both old (found .entries) s (intervals J - s) (omega (arith, shape .size)) ∙ ap₂ _++_ (sym taken) (w .read-back));
+            totals-are = b .0;
+            entries-rest = rw (b .1) (ap (λ (n : ℕ). drop n all) cut ∙ drop-append-add first (found .entries) (3 * (intervals J - s)) ∙ w .rest ∙ drop-drop (3 * (intervals J - s)) (entry-size * s) entries ∙ ap (λ (n : ℕ). drop n entries) whole);
+            size = rw (b .1) (length-append first (found .entries) ∙ omega (arith, first-long, w .size, length-drop (entry-size * s) entries));
+          }
+
+    kept : (a : Answer Totals) → a ≡ refused 13 → all-entries a first (found .entries) entries ≡ entries
+    unfolding all-entries
+    kept a e = rw e
+
+    changed : Shows (ending j m 0 (j .start) (plan-of j old) s) at → ChangeClaim j m old s c o table entries (change-in j m old s c o table entries)
+    unfolding change-in behind
+    changed shows = record {
+      at = at;
+      at-is = shows;
+      none-iff = (λ e. claim .none-iff .0 (refused-iff before 13 (found .answer) .0 e), λ f. refused-iff before 13 (found .answer) .1 (claim .none-iff .1 f));
+      none-kept = λ e. kept (found .answer) (refused-iff before 13 (found .answer) .0 e);
+      else-best = λ f. continued (claim .else-best (λ e. f (refused-iff before 13 (found .answer) .1 e)));
+      table-is = unfold search-in open-for in (rw (search-table J (unlimited m) o s at (least-total J (unlimited m) s at) table (drop (entry-size * s) entries)) (from-table J (unlimited m) s table (omega (arith, length-under)) room));
+      table-before = claim .table-before;
+      table-rest = claim .table-rest;
+      table-size = claim .table-size;
+    }
+
+-- what is asked, in order, of a job that opens
+module _ (j : Job) (l : InLimits j) (m : PinMap) (old : List ℕ) (s : ℕ) (c : Contract) (o : Order) (table entries : List ℕ) where
+  few-choices : j .choices ≤ no-choice
+  few-choices = omega (arith, l .choices)
+
+  abbrev n : ℕ
+  n = length (j .line .buckets)
+
+  some-bucket : 1 ≤ n
+  some-bucket = omega (arith, l .buckets)
+
+  few-buckets : n ≤ 2
+  few-buckets = omega (arith, l .buckets)
+
+  some-interval : 1 ≤ intervals j
+  unfolding intervals
+  some-interval = omega (arith, l .units)
+
+  carried-iff : Shows (ending j m 0 (j .start) (plan-of j old) s) (carried j m s old) → (none-over (overfull (under j c .line .buckets) (carried j m s old .buckets)) ≡ true) ↔ AllWithin (under j c .line .buckets) (bucketLevels j 0 (plan-of j old) (j .line .buckets) (j .start .buckets) s)
+  carried-iff shows = rw (shows .buckets) (unfold ending in (within-is (under j c .line .buckets) _))
+
+  shown : (1 ≤ s) × (s < intervals j) → SoundFor j m 0 (j .start) (plan-of j old) s → Shows (ending j m 0 (j .start) (plan-of j old) s) (carried j m s old)
+  shown w f = carried-shows j m old s (w .0) (w .1) (sound-iff j m old s (w .0) (w .1) .1 f)
+
+  follows : Following (change-tests j m old s c (length table) (length entries)) (Asks j m old s c table entries)
+  unfolding change-tests
+  follows =
+      one-more refl (shapes j few-choices (omega (arith, l .rates)) .shaped-iff old)
+      (λ shape. one-more refl (offers-iff n some-bucket few-buckets c)
+      (λ offers. one-more refl (draining-iff n some-bucket few-buckets c offers)
+      (λ drains. one-more refl (rising-iff c)
+      (λ rises. one-more refl (within-iff (intervals j) s some-interval)
+      (λ within. one-more refl (sound-iff j m old s (within .0) (within .1))
+      (λ sound. one-more refl (carried-iff (shown within sound))
+      (λ fits. one-more refl (room-iff _ _)
+      (λ room. one-more refl (room-iff _ _) (λ space. no-more)))))))))
+
+  pub asked : (q : Planned) → q ≡ guarded (refuse table entries) (change-tests j m old s c (length table) (length entries)) (change-in j m old s c o table entries) → InOrder q (refuse table entries) (Asks j m old s c table entries) (ChangeClaim j m old s c o table entries q)
+  asked q e = in-turn (refuse table entries) follows (ChangeClaim j m old s c o table entries) (change-in j m old s c o table entries) q e
+      (λ h. changed j m old s c o table entries few-choices (h .0) (h .1 .0) (h .1 .1 .1 .1 .0 .1) (h .1 .1 .1 .1 .1 .1 .1 .0) (h .1 .1 .1 .1 .1 .1 .1 .1 .0) (shown (h .1 .1 .1 .1 .0) (h .1 .1 .1 .1 .1 .0)))
+
+-- the call of a job that the set matches, or not
+pub change-calls : ChangeCalls
+unfolding change-call on-read
+change-calls b p old s c o table entries = (
+  λ n e. rw (checked-refused opening b p n e),
+  λ j k e. (
+    λ f. rw (unmatched opening b j k e p f),
+    λ f. asked j (limited j (well-read opening b j k e .well-formed)) (lines (length (j .units)) (p .pins)) old s c o table entries _ (rw (matched opening b j k e p f)),
+  ),
+)
+
+pub changes-after : ChangesAfter
+unfolding change-call on-read
+changes-after b j n parsed clicks old s c o table entries =
+    let h = history b j n parsed clicks in
+    rw (h .passes, h .pins) (asked j (limited j (well-read opening b j n parsed .well-formed)) _ old s c o table entries _ refl)
+
+-- a refusal of the search keeps the entries, and any but 13 the table
+behind-keeps : (before : Totals) (first rest entries table : List ℕ) (r : Planned) → Keeping table rest r → Keeping table entries (behind before first entries r)
+unfolding behind
+behind-keeps before first rest entries table r k = record {
+  entries-kept = λ n e. kept (r .answer) n (refused-iff before n (r .answer) .0 e);
+  table-kept = λ n e f. k .table-kept n (refused-iff before n (r .answer) .0 e) f;
+}
+  where
+    kept : (a : Answer Totals) (n : ℕ) → a ≡ refused n → all-entries a first (r .entries) entries ≡ entries
+    kept a n e = unfold all-entries in (rw e)
+
+in-keeps : (j : Job) (m : PinMap) (old : List ℕ) (s : ℕ) (c : Contract) (o : Order) (table entries : List ℕ) → Keeping table entries (change-in j m old s c o table entries)
+unfolding change-in
+in-keeps j m old s c o table entries = behind-keeps _ _ _ entries table _ (search-keeps table (drop (entry-size * s) entries) (under j c) m total o s (carried j m s old))
+
+pub change-keeps : ChangeKeeps
+unfolding change-call
+change-keeps b p old s c o table entries =
+    read-keeps table entries _ (checked opening b p)
+    (λ j. guarded-keeps table entries (change-tests j (lines (length (j .units)) (p .pins)) old s c (length table) (length entries)) _ (in-keeps j (lines (length (j .units)) (p .pins)) old s c o table entries))
