@@ -1,75 +1,102 @@
+-- `front::follow` meets its contract: each interval goes on or ends it.
+use Rattle.front.proofs.Following.{Going, going-start, going-on, going-stop, going-end}
+use Rattle.replay.proofs.Replaying.{buckets-of-job, outcome-told}
+use Rattle.format.proofs.Opened.{job-limits, few-intervals, intervals-are, start-is}
+use Rattle.interval.specs.Answers.{outcome-is, start-of}
+use Rattle.pinning.specs.PinSet.{lines}
+use Rattle.header.specs.Answers.{plain}
+use Rattle.format.specs.JobBytes.{job-in}
+use mathlib.Core.Path.{sym, _∙_}
+use Prim.Native.Nat.{_≤_, _<_, _-_}
+use native.Mathlib.Omega.{arith}
+use borrow.Author.Needs.{needs}
 use Rattle.front.proofs.follow.Statement.{statement}
 use Rattle.front.proofs.follow.Tie as tie
-use Rattle.front.proofs.follow.Reads as reads
-use Rattle.front.proofs.follow.Lts as lts
-use Rattle.course.proofs.interval_at.Reads as interval-at-reads
-use Rattle.interval.proofs.Buffers.of.Reads as of-reads
-use Rattle.interval.proofs.Levels.start.Reads as start-reads
-use Rattle.interval.proofs.Totals.none.Reads as none-reads
-use Rattle.interval.proofs.step.Reads as step-reads
-use Rattle.interval.proofs.with_interval.Reads as with-interval-reads
 
 abbrev Inv-loop : tie.InvT-loop
-Inv-loop job header pins entries count buffers at₀ sum₀ place₀ at sum place = ?
+Inv-loop job header pins entries count buffers at₀ sum₀ place₀ at sum place = (place ≤ count) × Going (job-in job) (lines (header .units) pins) count entries place at sum
 
 abbrev μ-loop : tie.MeasureT-loop
-μ-loop job header pins entries count buffers at₀ sum₀ place₀ at sum place = ?
+μ-loop job header pins entries count buffers at₀ sum₀ place₀ at sum place = count - place
 
--- src/lib.rt:31:9
 of-requires : tie.Need-of-requires Inv-loop μ-loop
-of-requires c κs = ?
+of-requires c κs = search needs
 
--- src/lib.rt:32:9
 start-requires : tie.Need-start-requires Inv-loop μ-loop
-start-requires c κs = ?
+start-requires c κs = search needs
 
--- src/lib.rt:33:9
 none-requires : tie.Need-none-requires Inv-loop μ-loop
-none-requires c κs = ?
+none-requires c κs = search needs
 
--- src/lib.rt:34:5
 loop-holds : tie.Need-loop-holds Inv-loop μ-loop
-loop-holds c = ?
+unfolding plain start-of
+loop-holds c =
+    let a = c .before .before .before .before .before in
+    let o = a .pre .plan .opens in
+    (search needs, going-start _ _ _ _ (omega (arith, a .pre .few, intervals-are _ _ o)) (job-limits _ _ o .buckets .2) _ (c .before .start .ensures ∙ sym (start-is _ _ o)) _ _ (buckets-of-job _ _ o _ (c .before .before .of .ensures)) (c .none .ensures))
 
--- src/lib.rt:35:13
 interval-at-requires : tie.Need-interval-at-requires Inv-loop μ-loop
-interval-at-requires c κs = ?
+unfolding plain
+interval-at-requires c κs =
+    let a = c .before .before .before .before .before .before .before in
+    (a .pre .plan, omega (arith, a .pre .few), a .pre .pins-size)
 
--- src/lib.rt:36:15
 step-requires : tie.Need-step-requires Inv-loop μ-loop
-step-requires c κs = ?
+step-requires c κs = search needs
 
--- src/lib.rt:37:37
 enum-told : tie.Need-enum-told Inv-loop μ-loop
-enum-told c = ?
+enum-told c = search needs
 
--- src/lib.rt:37:37
 returns : tie.Need-returns Inv-loop μ-loop
-returns c = ?
+unfolding plain outcome-is
+returns c =
+    let t = c .before .before in
+    let x = t .before in
+    let l = x .before .before in
+    let a = l .before .before .before .before .before .before in
+    let o = outcome-told _ _ (a .pre .plan .opens) _ (l .before .before .before .of .ensures) _ _ _ _ (l .loop .at) (x .interval-at .ensures) _ _ (t .step .ensures) (c .enum-told .given .1) in
+    going-stop _ _ _ _ (l .loop .place) (l .loop .at) (l .loop .sum) (l .loop .inv .1) (omega arith) _ o
 
--- src/lib.rt:38:30
 enum-known-next : tie.Need-enum-known-next Inv-loop μ-loop
-enum-known-next c = ?
+enum-known-next c = search needs
 
--- src/lib.rt:39:17
 with-interval-requires : tie.Need-with-interval-requires Inv-loop μ-loop
-with-interval-requires c κs = ?
+unfolding plain
+with-interval-requires c κs =
+    let x = c .before .before .before .before in
+    let l = x .before .before in
+    let a = l .before .before .before .before .before .before in
+    let b : l .loop .place < 576 = omega (arith, a .pre .few, few-intervals _ _ (a .pre .plan .opens)) in
+    let s = l .loop .inv .1 .sums in
+    let g = s .small in
+    let m = x .interval-at .ensures .does .limits in
+    record { distortion = omega arith; source = omega arith; channel = omega arith; unused = λ k. omega (arith, s .unused-small k) }
 
--- src/lib.rt:34:9
 add-place : tie.Need-add-place Inv-loop μ-loop
-add-place c = ?
+unfolding plain
+add-place c =
+    let l = c .before .before .before .before .before .before .before in
+    let a = l .before .before .before .before .before .before in
+    record { fits = omega (arith, a .pre .few, few-intervals _ _ (a .pre .plan .opens)) }
 
--- src/lib.rt:34:5
 loop-less : tie.Need-loop-less Inv-loop μ-loop
-loop-less c = ?
+loop-less c = search needs
 
--- src/lib.rt:34:5
 loop-again : tie.Need-loop-again Inv-loop μ-loop
-loop-again c = ?
+unfolding plain outcome-is
+loop-again c =
+    let n = c .before .before in
+    let t = n .before .before in
+    let x = t .before in
+    let l = x .before .before in
+    let a = l .before .before .before .before .before .before in
+    let o = outcome-told _ _ (a .pre .plan .opens) _ (l .before .before .before .of .ensures) _ _ _ _ (l .loop .at) (x .interval-at .ensures) _ _ (t .step .ensures) (n .next .given .1) in
+    (omega arith, going-on _ _ _ _ (l .loop .place) (l .loop .at) (l .loop .sum) (l .loop .inv .1) (omega arith) _ o _ _ _ (buckets-of-job _ _ (a .pre .plan .opens) _ (l .before .before .before .of .ensures)) (x .interval-at .ensures) (c .with-interval .ensures) (job-limits _ _ (a .pre .plan .opens) .drains))
 
--- src/lib.rt:21:1
 returns-2 : tie.Need-returns-2 Inv-loop μ-loop
-returns-2 c = ?
+returns-2 c =
+    let l = c .before in
+    going-end _ _ _ _ (l .loop .place) (l .loop .at) (l .loop .sum) (l .loop .inv .1) (omega arith)
 
 pub follow-spec : {M : Type 1} → statement M
 follow-spec =
