@@ -1,0 +1,1 @@
+-- The line under a contract.
