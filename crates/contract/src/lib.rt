@@ -15,6 +15,16 @@ use header::Verdict;
 use interval::Buffers;
 use line::Line;
 
+// How many buckets there are: one, or two.
+fn buckets_of(two: bool) -> usize
+    ensures { λ r. ⌜ r ≡ 1 + extra two ⌝ }
+{
+    if two {
+        return 2;
+    }
+    1
+}
+
 // The bucket in a place of the lists, with nothing in it.
 fn bucket_at(sizes: &[u16], drains: &[u16], at: usize) -> Bucket
     requires { ⌜ (at < length (now sizes)) × (at < length (now drains)) ⌝ }
@@ -31,7 +41,7 @@ fn bucket_at(sizes: &[u16], drains: &[u16], at: usize) -> Bucket
 pub fn offered(two: bool, rates: &[u16], sizes: &[u16], drains: &[u16]) -> bool
     ensures { λ r. ⌜ r ≡ each-kept (contract-limits (1 + extra two) (contract (now (rates .entry)) (now (sizes .entry)) (now (drains .entry)))) ⌝ }
 {
-    let buckets = if two { 2 } else { 1 };
+    let buckets = buckets_of(two);
     if sizes.len() != buckets {
         return false;
     }

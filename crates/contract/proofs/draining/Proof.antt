@@ -1,38 +1,47 @@
+-- `contract::draining` meets its contract: the first bucket, then the second where there is one.
+use mathlib.Core.Path.{_≡_, sym, _∙_, ap}
+use native.Mathlib.Omega.{arith}
+use borrow.Author.Tests.{not-true, not-false}
 use borrow.Author.Needs.{needs}
+use Rattle.contract.proofs.Buckets.{two-long, drained-as, first-idle, one-drains, two-drain}
 use Rattle.contract.proofs.draining.Statement.{statement}
 use Rattle.contract.proofs.draining.Tie as tie
-use Rattle.contract.proofs.draining.Reads as reads
-use Rattle.contract.proofs.draining.Lts as lts
-use Rattle.contract.proofs.bucket_at.Reads as bucket-at-reads
-use Rattle.header.proofs.Bucket.drains.Reads as drains-reads
 
--- src/lib.rt:59:9
 bucket-at-requires : tie.Need-bucket-at-requires
 bucket-at-requires c κs = search needs
 
--- src/lib.rt:59:9
 drains-requires : tie.Need-drains-requires
 drains-requires c κs = search needs
 
--- src/lib.rt:60:9
 returns : tie.Need-returns
-returns c = ?
+returns c =
+    let b = c .before .before in
+    let a = b .before .before .before in
+    first-idle _ _ _ (a .pre .0) (a .pre .1) (sym (drained-as _ _ _ (b .bucket-at .ensures)) ∙ sym (c .before .drains .ensures) ∙ not-true _ (c .if1 .taken))
 
--- src/lib.rt:63:9
 returns-2 : tie.Need-returns-2
-returns-2 c = ?
+returns-2 c =
+    let d = c .before .before in
+    let b = d .before in
+    let a = b .before .before .before in
+    one-drains _ _ _ (a .pre .0) (a .pre .1) (sym (drained-as _ _ _ (b .bucket-at .ensures)) ∙ sym (d .drains .ensures) ∙ not-false _ (c .before .if1 .left)) (not-true _ (c .if2 .taken))
 
--- src/lib.rt:65:5
 bucket-at-requires-2 : tie.Need-bucket-at-requires-2
-bucket-at-requires-2 c κs = ?
+bucket-at-requires-2 c κs =
+    let a = c .before .before .before .before .before .before in
+    let t = not-false _ (c .if2 .left) in
+    (omega (arith, two-long _ _ t (a .pre .0)), omega (arith, two-long _ _ t (a .pre .1)))
 
--- src/lib.rt:65:5
 drains-requires-2 : tie.Need-drains-requires-2
 drains-requires-2 c κs = search needs
 
--- src/lib.rt:55:1
 returns-3 : tie.Need-returns-3
-returns-3 c = ?
+returns-3 c =
+    let e = c .before .before in
+    let d = e .before .before in
+    let b = d .before in
+    let a = b .before .before .before in
+    two-drain _ _ _ (a .pre .0) (a .pre .1) (sym (drained-as _ _ _ (b .bucket-at .ensures)) ∙ sym (d .drains .ensures) ∙ not-false _ (e .before .if1 .left)) (not-false _ (e .if2 .left)) _ (c .drains2 .ensures ∙ drained-as _ _ _ (c .before .bucket-at2 .ensures))
 
 pub draining-spec : {M : Type 1} → statement M
 draining-spec =

@@ -1,63 +1,64 @@
+-- `contract::line_under` meets its contract: the rates are copied, and the buckets read are the contract's.
+use Prim.Native.Nat.{_≤_, _-_}
+use mathlib.Core.Path.{_≡_, refl}
+use native.Mathlib.Omega.{arith}
+use lib.ListN.{length}
+use borrow.Author.Needs.{needs}
+use Rattle.contract.proofs.Lines.{Copied, copied-none, copied-more, counted, line-made}
 use Rattle.contract.proofs.line_under.Statement.{statement}
 use Rattle.contract.proofs.line_under.Tie as tie
-use Rattle.contract.proofs.line_under.Reads as reads
-use Rattle.contract.proofs.line_under.Lts as lts
-use Rattle.contract.proofs.bucket_at.Reads as bucket-at-reads
-use Rattle.contract.proofs.second_of.Reads as second-of-reads
 
 abbrev Inv-loop : tie.InvT-loop
-Inv-loop header rates sizes drains count list₀ rate₀ list rate = ?
+Inv-loop header rates sizes drains count list₀ rate₀ list rate = (rate ≤ length rates) × (length rates ≤ 16) × Copied rates rate list
 
 abbrev μ-loop : tie.MeasureT-loop
-μ-loop header rates sizes drains count list₀ rate₀ list rate = ?
+μ-loop header rates sizes drains count list₀ rate₀ list rate = length rates - rate
 
--- src/lib.rt:100:5
 loop-holds : tie.Need-loop-holds Inv-loop μ-loop
-loop-holds c = ?
+loop-holds c = (omega arith, counted _ _ _ _ (c .before .before .before .pre) .few, copied-none _ _ refl)
 
--- src/lib.rt:101:22
 mul-list : tie.Need-mul-list Inv-loop μ-loop
-mul-list c = ?
+mul-list c = search needs
 
--- src/lib.rt:101:22
 shared-slice-read-list : tie.Need-shared-slice-read-list Inv-loop μ-loop
-shared-slice-read-list c = ?
+shared-slice-read-list c = search needs
 
--- src/lib.rt:101:9
 mul-list-2 : tie.Need-mul-list-2 Inv-loop μ-loop
-mul-list-2 c = ?
+mul-list-2 c = search needs
 
--- src/lib.rt:101:9
 array-write-list : tie.Need-array-write-list Inv-loop μ-loop
-array-write-list c = ?
+array-write-list c = search needs
 
--- src/lib.rt:100:9
 add-rate : tie.Need-add-rate Inv-loop μ-loop
-add-rate c = ?
+add-rate c = search needs
 
--- src/lib.rt:100:5
 loop-less : tie.Need-loop-less Inv-loop μ-loop
-loop-less c = ?
+loop-less c = search needs
 
--- src/lib.rt:100:5
 loop-again : tie.Need-loop-again Inv-loop μ-loop
-loop-again c = ?
+loop-again c =
+    let l = c .before .before in
+    (omega arith, l .loop .inv .1, copied-more _ (l .loop .rate) (l .loop .list) (omega arith) (omega arith) (l .loop .inv .2))
 
--- src/lib.rt:103:9
 bucket-at-requires : tie.Need-bucket-at-requires Inv-loop μ-loop
-bucket-at-requires c κs = ?
+bucket-at-requires c κs =
+    let t = counted _ _ _ _ (c .before .before .before .before .before .pre) in
+    (omega (arith, t .sizes-count), omega (arith, t .drains-count))
 
--- src/lib.rt:104:9
 second-of-requires : tie.Need-second-of-requires Inv-loop μ-loop
-second-of-requires c κs = ?
+second-of-requires c κs =
+    let t = counted _ _ _ _ (c .before .before .before .before .before .before .pre) in
+    (t .sizes-count, t .drains-count)
 
--- src/lib.rt:114:16
 cast-t18 : tie.Need-cast-t18 Inv-loop μ-loop
-cast-t18 c = ?
+cast-t18 c = search needs
 
--- src/lib.rt:94:1
 returns : tie.Need-returns Inv-loop μ-loop
-returns c = ?
+returns c =
+    let l = c .before .before .before in
+    let a = l .before .before .before .before in
+    let e : l .loop .rate ≡ length (a .args .rates .now) = omega arith in
+    line-made (a .args .header) _ _ _ (l .loop .list) (c .before .bucket-at .result) (c .second-of .result) (a .pre) (c .before .bucket-at .ensures) (c .second-of .ensures) (rw e at (l .loop .inv .2))
 
 pub line-under-spec : {M : Type 1} → statement M
 line-under-spec =
