@@ -29,7 +29,7 @@ none-requires : tie.Need-none-requires Inv-loop μ-loop
 none-requires c κs = search needs
 
 loop-holds : tie.Need-loop-holds Inv-loop μ-loop
-unfolding plain start-of
+unfolding start-of
 loop-holds c =
     let a = c .before .before .before .before .before in
     let o = a .pre .plan .opens in
@@ -48,7 +48,7 @@ enum-told : tie.Need-enum-told Inv-loop μ-loop
 enum-told c = search needs
 
 returns : tie.Need-returns Inv-loop μ-loop
-unfolding plain outcome-is
+unfolding outcome-is
 returns c =
     let t = c .before .before in
     let x = t .before in
@@ -61,7 +61,6 @@ enum-known-next : tie.Need-enum-known-next Inv-loop μ-loop
 enum-known-next c = search needs
 
 with-interval-requires : tie.Need-with-interval-requires Inv-loop μ-loop
-unfolding plain
 with-interval-requires c κs =
     let x = c .before .before .before .before in
     let l = x .before .before in
@@ -73,7 +72,6 @@ with-interval-requires c κs =
     record { distortion = omega arith; source = omega arith; channel = omega arith; unused = λ k. omega (arith, s .unused-small k) }
 
 add-place : tie.Need-add-place Inv-loop μ-loop
-unfolding plain
 add-place c =
     let l = c .before .before .before .before .before .before .before in
     let a = l .before .before .before .before .before .before in
@@ -83,7 +81,7 @@ loop-less : tie.Need-loop-less Inv-loop μ-loop
 loop-less c = search needs
 
 loop-again : tie.Need-loop-again Inv-loop μ-loop
-unfolding plain outcome-is
+unfolding outcome-is
 loop-again c =
     let n = c .before .before in
     let t = n .before .before in
