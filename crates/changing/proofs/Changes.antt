@@ -45,7 +45,7 @@ use Rattle.planning.proofs.Layers.{from-table}
 use Rattle.planning.proofs.DemandThree.{search-claim}
 use Rattle.planning.proofs.Refusals.{guarded-keeps, read-keeps, search-keeps}
 use Rattle.changing.specs.Contracts.{Contract, line-under, under}
-use Rattle.changing.specs.Calls.{remaining, front, carried, is-clean, none-over, change-tests, both-totals, all-entries, behind, change-in, change-call}
+use Rattle.changing.specs.Calls.{remaining, front, carried, is-clean, none-over, rest-tests, change-tests, both-totals, all-entries, behind, change-in, change-call}
 use Rattle.changing.specs.Claims.{Offers, Draining, Rising, Asks, Continued, ChangeClaim, ChangeCalls, ChangesAfter, ChangeKeeps}
 use Rattle.changing.proofs.Conditions.{offers-iff, draining-iff, rising-iff, within-iff, within-is}
 use Rattle.changing.proofs.Front.{entries-take, read-both, sound-iff, carried-shows}
@@ -144,7 +144,7 @@ module _ (j : Job) (m : PinMap) (old : List ℕ) (s : ℕ) (c : Contract) (o : O
     unfolding all-entries
     kept a e = rw e
 
-    changed : Shows (ending j m 0 (j .start) (plan-of j old) s) at → ChangeClaim j m old s c o table entries (change-in j m old s c o table entries)
+    changed : Shows (ending j m 0 (j .start) (plan-of j old) s) at → ChangeClaim j m old s c o table entries (change-in j (under j c) m old s o table entries)
     unfolding change-in behind
     changed shows = record {
       at = at;
@@ -183,7 +183,7 @@ module _ (j : Job) (l : InLimits j) (m : PinMap) (old : List ℕ) (s : ℕ) (c :
   shown w f = carried-shows j m old s (w .0) (w .1) (sound-iff j m old s (w .0) (w .1) .1 f)
 
   follows : Following (change-tests j m old s c (length table) (length entries)) (Asks j m old s c table entries)
-  unfolding change-tests
+  unfolding change-tests rest-tests
   follows =
       one-more refl (shapes j few-choices (omega (arith, l .rates)) .shaped-iff old)
       (λ shape. one-more refl (offers-iff n some-bucket few-buckets c)
@@ -195,8 +195,8 @@ module _ (j : Job) (l : InLimits j) (m : PinMap) (old : List ℕ) (s : ℕ) (c :
       (λ fits. one-more refl (room-iff _ _)
       (λ room. one-more refl (room-iff _ _) (λ space. no-more)))))))))
 
-  pub asked : (q : Planned) → q ≡ guarded (refuse table entries) (change-tests j m old s c (length table) (length entries)) (change-in j m old s c o table entries) → InOrder q (refuse table entries) (Asks j m old s c table entries) (ChangeClaim j m old s c o table entries q)
-  asked q e = in-turn (refuse table entries) follows (ChangeClaim j m old s c o table entries) (change-in j m old s c o table entries) q e
+  pub asked : (q : Planned) → q ≡ guarded (refuse table entries) (change-tests j m old s c (length table) (length entries)) (change-in j (under j c) m old s o table entries) → InOrder q (refuse table entries) (Asks j m old s c table entries) (ChangeClaim j m old s c o table entries q)
+  asked q e = in-turn (refuse table entries) follows (ChangeClaim j m old s c o table entries) (change-in j (under j c) m old s o table entries) q e
       (λ h. changed j m old s c o table entries few-choices (h .0) (h .1 .0) (h .1 .1 .1 .1 .0 .1) (h .1 .1 .1 .1 .1 .1 .1 .0) (h .1 .1 .1 .1 .1 .1 .1 .1 .0) (shown (h .1 .1 .1 .1 .0) (h .1 .1 .1 .1 .1 .0)))
 
 -- the call of a job that the set matches, or not
@@ -227,7 +227,7 @@ behind-keeps before first rest entries table r k = record {
     kept : (a : Answer Totals) (n : ℕ) → a ≡ refused n → all-entries a first (r .entries) entries ≡ entries
     kept a n e = unfold all-entries in (rw e)
 
-in-keeps : (j : Job) (m : PinMap) (old : List ℕ) (s : ℕ) (c : Contract) (o : Order) (table entries : List ℕ) → Keeping table entries (change-in j m old s c o table entries)
+in-keeps : (j : Job) (m : PinMap) (old : List ℕ) (s : ℕ) (c : Contract) (o : Order) (table entries : List ℕ) → Keeping table entries (change-in j (under j c) m old s o table entries)
 unfolding change-in
 in-keeps j m old s c o table entries = behind-keeps _ _ _ entries table _ (search-keeps table (drop (entry-size * s) entries) (under j c) m total o s (carried j m s old))
 

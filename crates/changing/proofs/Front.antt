@@ -9,8 +9,11 @@ use lib.ListN.{length, getD, take, drop, length-append, List·getD-append}
 use lib.Seq.{length-take-le, getD-take, drop-append-add}
 use Rattle.model.specs.Job.{Levels, no-levels, Job, Entry, intervals}
 use Rattle.model.specs.Pins.{PinMap}
-use Rattle.model.specs.Admissible.{Sound, Shows, ending, SoundFor}
-use Rattle.model.specs.Replay.{clean, last-levels}
+use Rattle.model.specs.Admissible.{Violation, Sound, Shows, ending, SoundFor}
+use Rattle.model.specs.Step.{Outcome, violates, reaches, outcome}
+use Rattle.model.specs.Replay.{Result, clean, stopped, written, go-on, replay, last-levels}
+use Rattle.model.specs.Table.{InLayer}
+use Rattle.model.proofs.Steps.{reaches-in-layer}
 use Rattle.model.specs.Claims.{ReplayClaim}
 use Rattle.model.proofs.DemandTwo.{demand-two}
 use Rattle.replaying.specs.Entries.{entry-size, entry-fields, rate-field, choice-field, entry-under, entry-at, entries-from, plan-from, plan-of}
@@ -63,6 +66,20 @@ read-both old re s n h =
     entries-split (entry-at (take (3 * s) old ++ re)) 0 s n
     ∙ ap₂ _++_ (entries-cong _ _ 0 0 s (λ x l. let z : 0 + x ≡ x = omega arith in rw z (front-entry old re s x l h))) (entries-cong _ _ (0 + s) 0 n (λ x l. let z : 0 + s + x ≡ s + x = omega arith in let y : 0 + x ≡ x = omega arith in rw (z, y) (behind-entry (take (3 * s) old) re s x (length-take-le (3 * s) old h))))
 
+stops : {t : ℕ} {v : Violation} {A : Type 0} → _≡_ {A = Result} (stopped t v) clean → A
+stops e = let z : _≡_ {A = ℕ} 0 1 = cc in absurd (omega arith)
+
+-- entries without a violation lead from levels within the buffers to such
+module _ (j : Job) (m : PinMap) where
+  inside : (t : ℕ) (s : Levels) (p : List Entry) → InLayer (j .line) s → replay j m t s p .result ≡ clean → InLayer (j .line) (last-levels s (replay j m t s p .levels))
+  unfolding replay last-levels
+  inside t s [] h e = h
+  inside t s (x ∷ p) h e = go (λ l i q. inside (suc t) l p i q) (outcome j m (suc t) s x) refl e
+    where
+      go : ((l : Levels) → InLayer (j .line) l → replay j m (suc t) l p .result ≡ clean → InLayer (j .line) (last-levels l (replay j m (suc t) l p .levels))) → (o : Outcome) → outcome j m (suc t) s x ≡ o → go-on (suc t) o (λ l. replay j m (suc t) l p) .result ≡ clean → InLayer (j .line) (last-levels s (go-on (suc t) o (λ l. replay j m (suc t) l p) .levels))
+      go ih (violates v) q e = stops (unfold go-on in e)
+      go ih (reaches l) q e = unfold go-on written last-levels in (ih l (unfold outcome in (reaches-in-layer (j .line) _ _ _ _ s l (h .count) q)) e)
+
 module _ (j : Job) (m : PinMap) (old : List ℕ) (s : ℕ) (some-entry : 1 ≤ s) (less : s < intervals j) where
   plan-count : length (plan-of j old) ≡ intervals j
   unfolding plan-of
@@ -92,3 +109,7 @@ module _ (j : Job) (m : PinMap) (old : List ℕ) (s : ℕ) (some-entry : 1 ≤ s
       let n : suc (s - 1) ≡ s = omega arith in
       let q : length (front j m s old .levels) ≡ suc (s - 1) = omega (arith, count) in
       rw (last-is (j .start) (front j m s old .levels) (s - 1) q, ← same s (omega arith)) (rw n at (claim .levels (s - 1) (omega arith)))
+
+  pub carried-inside : InLayer (j .line) (j .start) → is-clean (front j m s old .result) ≡ true → InLayer (j .line) (carried j m s old)
+  unfolding carried front
+  carried-inside h e = inside j m 0 (j .start) (remaining j m s old) h (clean-is _ .0 e)

@@ -3,3 +3,4 @@ pub mod Prefix
 pub mod Conditions
 pub mod Front
 pub mod Changes
+pub mod Small

@@ -43,19 +43,24 @@ unfoldable pub none-over : Option ℕ → Bool
 none-over none = true
 none-over (some i) = false
 
--- what is tested of a job that the set matches: the old plan, 14; the new contract, 3, 17 and 4; then s, 18, a violation by s, 19, and the levels that are carried, 20; then the table, which has the new buckets, 11, and the list for all entries, 12
+-- where the rest is planned for the job k, which is j under the new contract: s, 18, a violation by s, 19, the levels that are carried, 20; then the table, which has the new buckets, 11, and the list for all entries, 12
+unfoldable pub rest-tests : Job → Job → PinMap → List ℕ → ℕ → ℕ → ℕ → List Test
+rest-tests j k m old s table entries =
+    test 18 (kept (limit 18 1 (intervals j - 1) s))
+    ∷ test 19 (is-clean (front j m s old .result))
+    ∷ test 20 (none-over (overfull (k .line .buckets) (carried j m s old .buckets)))
+    ∷ test 11 (leb (words k) table)
+    ∷ test 12 (leb (entry-size * intervals j) entries)
+    ∷ []
+
+-- what is tested of a job that the set matches: the old plan, 14; the new contract, 3, 17 and 4; then the above
 unfoldable pub change-tests : Job → PinMap → List ℕ → ℕ → Contract → ℕ → ℕ → List Test
 change-tests j m old s c table entries =
     test 14 (shaped (header-in j) old)
     ∷ test 3 (each-kept (contract-limits (length (j .line .buckets)) c))
     ∷ test 17 (each-kept (drain-limits opening (policed-under c)))
     ∷ test 4 (each-kept (rate-limits 0 (c .rates)))
-    ∷ test 18 (kept (limit 18 1 (intervals j - 1) s))
-    ∷ test 19 (is-clean (front j m s old .result))
-    ∷ test 20 (none-over (overfull (under j c .line .buckets) (carried j m s old .buckets)))
-    ∷ test 11 (leb (words (under j c)) table)
-    ∷ test 12 (leb (entry-size * intervals j) entries)
-    ∷ []
+    ∷ rest-tests j (under j c) m old s table entries
 
 -- the continuation that a search found, behind the entries that remain: the totals of both parts, and all entries; 13 keeps the entries
 unfoldable pub both-totals : Totals → Answer Totals → Answer Totals
@@ -69,12 +74,12 @@ all-entries (gives t) first rest entries = first ++ rest
 unfoldable pub behind : Totals → List ℕ → List ℕ → Planned → Planned
 behind before first entries r = record { answer = both-totals before (r .answer); table = r .table; entries = all-entries (r .answer) first (r .entries) entries }
 
--- the rest is planned afresh under the new contract, from the levels that are carried and with the pins kept
-unfoldable pub change-in : Job → PinMap → List ℕ → ℕ → Contract → Order → List ℕ → List ℕ → Planned
-change-in j m old s c o table entries =
+-- the rest is planned afresh for the job k, from the levels that are carried and with the pins kept
+unfoldable pub change-in : Job → Job → PinMap → List ℕ → ℕ → Order → List ℕ → List ℕ → Planned
+change-in j k m old s o table entries =
     behind (totals j 0 (j .start) (remaining j m s old)) (take (entry-size * s) old) entries
-    (search-in (under j c) m total o s (carried j m s old) table (drop (entry-size * s) entries))
+    (search-in k m total o s (carried j m s old) table (drop (entry-size * s) entries))
 
 -- the job, 1 to 5 and 17, the set, 6, then the tests above
 unfoldable pub change-call : List ℕ → PinSet → List ℕ → ℕ → Contract → Order → List ℕ → List ℕ → Planned
-change-call b p old s c o table entries = on-read (refuse table entries) (checked opening b p) (λ j. let m = lines (length (j .units)) (p .pins) in guarded (refuse table entries) (change-tests j m old s c (length table) (length entries)) (change-in j m old s c o table entries))
+change-call b p old s c o table entries = on-read (refuse table entries) (checked opening b p) (λ j. let m = lines (length (j .units)) (p .pins) in guarded (refuse table entries) (change-tests j m old s c (length table) (length entries)) (change-in j (under j c) m old s o table entries))

@@ -16,7 +16,7 @@ use Rattle.model.specs.Claims.{PinnedClaim, Units, PinnedUnits}
 use Rattle.model.proofs.Walks.{fits-length}
 
 -- every entry of a plan in shape is in range
-entry-fits : {j : Job} {s : ℕ} {p : List Entry} → PlanFits j s p → (n : ℕ) → n < length p → EntryFits j (s + suc n) (entryOf p (suc n))
+pub entry-fits : {j : Job} {s : ℕ} {p : List Entry} → PlanFits j s p → (n : ℕ) → n < length p → EntryFits j (s + suc n) (entryOf p (suc n))
 unfolding entryOf
 entry-fits (ends e) n h = absurd (omega arith)
 entry-fits {j} {s} (goes {e = e} f r) zero h = let i : s + 1 ≡ suc s = omega arith in rw i f

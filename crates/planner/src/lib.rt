@@ -89,7 +89,7 @@ fn limit_for(
 }
 
 // The search for the intervals after `first`, from the levels there: the table is filled before "no plan" can be said.
-fn search(
+pub fn search(
     aim: Aim,
     order: Order,
     job: &[u8],
