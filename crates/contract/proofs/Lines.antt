@@ -15,11 +15,10 @@ use Rattle.format.proofs.Limits.{all-fit}
 use Rattle.header.specs.declared.Bucket.{Bucket}
 use Rattle.header.specs.declared.Header.{Header}
 use Rattle.header.specs.Answers.{extra, policed-of, plain}
-use Rattle.interval.specs.declared.Buffers.{Buffers}
 use Rattle.interval.specs.Answers.{second-of, line-of}
-use Rattle.line.specs.Answers.{line-is, BuffersFit}
+use Rattle.line.specs.Answers.{line-is}
 use Rattle.changing.specs.Contracts.{policed-under, contract-limits}
-use Rattle.contract.specs.Answers.{contract, empty-bucket, Offered, LineUnder}
+use Rattle.contract.specs.Answers.{contract, Offered, LineUnder}
 use Rattle.contract.proofs.Buckets.{bucket-in, buckets-are, Counted}
 
 -- an array of 16 places, whose first n numbers are those of s

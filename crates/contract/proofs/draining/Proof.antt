@@ -1,5 +1,5 @@
 -- `contract::draining` meets its contract: the first bucket, then the second where there is one.
-use mathlib.Core.Path.{_≡_, sym, _∙_, ap}
+use mathlib.Core.Path.{sym, _∙_}
 use native.Mathlib.Omega.{arith}
 use borrow.Author.Tests.{not-true, not-false}
 use borrow.Author.Needs.{needs}
@@ -29,8 +29,7 @@ returns-2 c =
 bucket-at-requires-2 : tie.Need-bucket-at-requires-2
 bucket-at-requires-2 c κs =
     let a = c .before .before .before .before .before .before in
-    let t = not-false _ (c .if2 .left) in
-    (omega (arith, two-long _ _ t (a .pre .0)), omega (arith, two-long _ _ t (a .pre .1)))
+    (omega (arith, two-long _ _ (not-false _ (c .if2 .left)) (a .pre .0)), omega (arith, two-long _ _ (not-false _ (c .if2 .left)) (a .pre .1)))
 
 drains-requires-2 : tie.Need-drains-requires-2
 drains-requires-2 c κs = search needs

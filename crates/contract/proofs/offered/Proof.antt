@@ -46,8 +46,8 @@ returns-6 c =
 
 bucket-at-requires-2 : tie.Need-bucket-at-requires-2
 bucket-at-requires-2 c κs =
-    let t = not-false _ (c .if6 .left) in
-    (omega (arith, two-long _ _ t (c .before .before .before .before .before .before .before .before .buckets-of .ensures)), omega (arith, two-long _ _ t (c .before .before .before .before .before .before .before .before .buckets-of .ensures)))
+    let n = two-long _ _ (not-false _ (c .if6 .left)) (c .before .before .before .before .before .before .before .before .buckets-of .ensures) in
+    (omega arith, omega arith)
 
 fits-requires-2 : tie.Need-fits-requires-2
 fits-requires-2 c κs = search needs

@@ -1,5 +1,5 @@
 -- `contract::second_of` meets its contract: the bucket in the second place, or none.
-use mathlib.Core.Path.{_≡_, _∙_, ap}
+use mathlib.Core.Path.{_∙_, ap}
 use native.Mathlib.Omega.{arith}
 use Rattle.base.specs.If.{one-if}
 use Rattle.format.specs.JobBytes.{Policed}
