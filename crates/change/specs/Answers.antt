@@ -1,11 +1,11 @@
 -- What the private functions of this crate say and ask.
 use Prim.Native.Nat.{ℕ, _+_, _*_, _≤_, _<_}
 use mathlib.Core.Path.{_≡_}
+use mathlib.Core.Option.{none}
 use mathlib.Core.List.{List}
 use lib.ListN.{length, getD, drop}
-use Rattle.base.specs.Refusals.{guarded}
+use Rattle.base.specs.Refusals.{refusal}
 use Rattle.model.specs.Job as model
-use Rattle.model.specs.Best.{Order}
 use Rattle.format.specs.JobBytes as format
 use Rattle.format.specs.JobBytes.{job-in}
 use Rattle.pinning.specs.PinSet.{PinSet, lines}
@@ -18,9 +18,8 @@ use Rattle.table.specs.Answers.{job-on}
 use Rattle.course.specs.Answers.{Shaped}
 use Rattle.front.specs.Answers.{SmallTotals}
 use Rattle.planner.specs.Answers.{Searches}
-use Rattle.planning.specs.Calls.{Planned, refuse}
 use Rattle.replaying.specs.Entries.{entry-size}
-use Rattle.changing.specs.Calls.{rest-tests, change-in}
+use Rattle.changing.specs.Calls.{rest-tests}
 
 -- totals whose sums fit
 pub record Adds (a b : Totals) : Type 0 where
@@ -44,9 +43,6 @@ pub record Follows (b : List ℕ) (h : format.Header) (l : Line) (p : PinSet) (o
   pub decoder : line-is l .decoder ≡ h .decoder
   pub count : length (line-is l .buckets) ≡ length (h .buckets)
 
--- what follows, where the rest is planned over the line
-unfoldable pub changed-over : List ℕ → Line → PinSet → List ℕ → ℕ → Order → List ℕ → List ℕ → Planned
-changed-over b l p old s o table entries =
-    let j = job-in b in
-    let m = lines (length (j .units)) (p .pins) in
-    guarded (refuse table entries) (rest-tests j (job-on b l) m old s (length table) (length entries)) (change-in j (job-on b l) m old s o table entries)
+-- nothing refuses to plan the rest over the line, with lists of these lengths
+abbrev pub Passes : List ℕ → Line → PinSet → List ℕ → ℕ → ℕ → ℕ → Type 0
+Passes b l p old s table entries = refusal (rest-tests (job-in b) (job-on b l) (lines (length (job-in b .units)) (p .pins)) old s table entries) ≡ none

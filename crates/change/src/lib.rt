@@ -10,7 +10,9 @@ ghost use lib.ListN.{length, take, drop};
 ghost use Rattle.model.specs.Step.{overfull};
 ghost use Rattle.model.specs.Replay.{plus-each, plus};
 ghost use Rattle.model.specs.Best.{total};
-ghost use Rattle.header.specs.Answers.{plain};
+ghost use Rattle.base.specs.Refusals.{refusal};
+ghost use Rattle.format.specs.JobBytes.{job-in};
+ghost use Rattle.header.specs.Answers.{plain, verdict};
 ghost use Rattle.pinning.specs.PinSet.{lines};
 ghost use Rattle.pinning.specs.Check.{Ready};
 ghost use Rattle.pinset.specs.Answers.{set-of};
@@ -20,13 +22,14 @@ ghost use Rattle.best.specs.Answers.{order-is};
 ghost use Rattle.planning.specs.Calls.{search-in};
 ghost use Rattle.planner.specs.Answers.{planned};
 ghost use Rattle.contract.specs.Answers.{contract};
-ghost use Rattle.changing.specs.Calls.{none-over, behind, change-call};
-ghost use Rattle.change.specs.Answers.{Adds, Continues, Follows, changed-over};
+ghost use Rattle.changing.specs.Calls.{none-over, rest-tests, change-tests, behind, change-in, change-call};
+ghost use Rattle.change.specs.Answers.{Adds, Continues, Follows, Passes};
 use best::Order;
 use front::Front;
 use header::Choice;
 use header::Door;
 use header::Header;
+use header::Verdict;
 use interval::Buffers;
 use interval::Levels;
 use interval::Totals;
@@ -123,8 +126,79 @@ fn plan_rest(
     }
 }
 
-// The tests behind those of the contract: 18, 19, 20, 11, 12; then the rest.
-fn change_under(
+// Whether the rest can be planned over the line after `first` intervals, with lists of these lengths: 18, 19, 20, 11, then 12.
+fn rest_verdict(
+    job: &[u8],
+    header: Header,
+    line: Line,
+    set: PinSet,
+    old: &[u8],
+    first: usize,
+    table: usize,
+    entries: usize,
+) -> Verdict
+    requires { ⌜ Follows (now job) (plain header) line (set-of set) (now old) ⌝ }
+    ensures { λ r. ⌜ verdict r ≡ refusal (rest-tests (job-in (now (job .entry))) (job-on (now (job .entry)) line) (lines (header .units) (set-of set .pins)) (now (old .entry)) first table entries) ⌝ }
+{
+    let pins = set.pins;
+    let total = entry::intervals(header);
+    if first < 1 {
+        return Verdict::Refused(refusal::INTERVAL);
+    }
+    if total <= first {
+        return Verdict::Refused(refusal::INTERVAL);
+    }
+    match front::follow(job, header, &pins, old, first) {
+        Front::Breaks => Verdict::Refused(refusal::VIOLATION),
+        Front::Leads { at, sum: _ } => {
+            if !carried_fits(line.buffers, at) {
+                return Verdict::Refused(refusal::CARRIED);
+            }
+            if table < table::words_over(header, line.buffers) {
+                return Verdict::Refused(planner::refusal::TABLE);
+            }
+            if entries < entry::SIZE * total {
+                return Verdict::Refused(header::refusal::LIST);
+            }
+            Verdict::Fits
+        }
+    }
+}
+
+// What refuses a change for a job that the set matches, with lists of these lengths: the old plan, 14, the new contract, 3, 17 and 4, then the rest.
+pub fn change_verdict(
+    job: &[u8],
+    header: Header,
+    set: PinSet,
+    old: &[u8],
+    first: usize,
+    rates: &[u16],
+    sizes: &[u16],
+    drains: &[u16],
+    table: usize,
+    entries: usize,
+) -> Verdict
+    requires { ⌜ Ready (now job) (plain header) (set-of set) ⌝ }
+    ensures { λ r. ⌜ verdict r ≡ refusal (change-tests (job-in (now (job .entry))) (lines (header .units) (set-of set .pins)) (now (old .entry)) first (contract (now (rates .entry)) (now (sizes .entry)) (now (drains .entry))) table entries) ⌝ }
+{
+    if !entry::shaped(header, old) {
+        return Verdict::Refused(entry::refusal::PLAN);
+    }
+    if !contract::offered(header.two, rates, sizes, drains) {
+        return Verdict::Refused(header::refusal::HEADER);
+    }
+    if !contract::draining(header.two, sizes, drains) {
+        return Verdict::Refused(header::refusal::NEVER_DRAINS);
+    }
+    if !contract::rising(rates) {
+        return Verdict::Refused(header::refusal::RATES);
+    }
+    let line = contract::line_under(header, rates, sizes, drains);
+    rest_verdict(job, header, line, set, old, first, table, entries)
+}
+
+// Plans the rest of a programme of which nothing refuses the change.
+fn change_over(
     order: Order,
     job: &[u8],
     header: Header,
@@ -135,47 +209,29 @@ fn change_under(
     table: &mut [u32],
     entries: &mut [u8],
 ) -> Planned
-    requires { ⌜ Follows (now job) (plain header) line (set-of set) (now old) ⌝ }
-    ensures { λ r. ⌜ planned r (now (table .exit)) (now (entries .exit)) ≡ changed-over (now (job .entry)) line (set-of set) (now (old .entry)) first (order-is order) (now (table .entry)) (now (entries .entry)) ⌝ }
+    requires { ⌜ Follows (now job) (plain header) line (set-of set) (now old) × Passes (now job) line (set-of set) (now old) first (length (now table)) (length (now entries)) ⌝ }
+    ensures { λ r. ⌜ planned r (now (table .exit)) (now (entries .exit)) ≡ change-in (job-in (now (job .entry))) (job-on (now (job .entry)) line) (lines (header .units) (set-of set .pins)) (now (old .entry)) first (order-is order) (now (table .entry)) (now (entries .entry)) ⌝ }
 {
     let pins = set.pins;
-    let total = entry::intervals(header);
-    if first < 1 {
-        return Planned::Refused(refusal::INTERVAL);
-    }
-    if total <= first {
-        return Planned::Refused(refusal::INTERVAL);
-    }
     match front::follow(job, header, &pins, old, first) {
         Front::Breaks => Planned::Refused(refusal::VIOLATION),
-        Front::Leads { at, sum } => {
-            if !carried_fits(line.buffers, at) {
-                return Planned::Refused(refusal::CARRIED);
-            }
-            if table.len() < table::words_over(header, line.buffers) {
-                return Planned::Refused(planner::refusal::TABLE);
-            }
-            if entries.len() < entry::SIZE * total {
-                return Planned::Refused(header::refusal::LIST);
-            }
-            plan_rest(
-                order,
-                job,
-                header,
-                line,
-                &pins,
-                first,
-                at,
-                sum,
-                old,
-                table,
-                entries,
-            )
-        }
+        Front::Leads { at, sum } => plan_rest(
+            order,
+            job,
+            header,
+            line,
+            &pins,
+            first,
+            at,
+            sum,
+            old,
+            table,
+            entries,
+        ),
     }
 }
 
-// A change for a job that the set matches: the old plan, 14, the new contract, 3, 17 and 4, then the rest of the tests.
+// A change for a job that the set matches.
 fn change_checked(
     job: &[u8],
     header: Header,
@@ -192,20 +248,22 @@ fn change_checked(
     requires { ⌜ Ready (now job) (plain header) (set-of set) ⌝ }
     ensures { λ r. ⌜ planned r (now (table .exit)) (now (entries .exit)) ≡ change-call (now (job .entry)) (set-of set) (now (old .entry)) first (contract (now (rates .entry)) (now (sizes .entry)) (now (drains .entry))) (order-is order) (now (table .entry)) (now (entries .entry)) ⌝ }
 {
-    if !entry::shaped(header, old) {
-        return Planned::Refused(entry::refusal::PLAN);
-    }
-    if !contract::offered(header.two, rates, sizes, drains) {
-        return Planned::Refused(header::refusal::HEADER);
-    }
-    if !contract::draining(header.two, sizes, drains) {
-        return Planned::Refused(header::refusal::NEVER_DRAINS);
-    }
-    if !contract::rising(rates) {
-        return Planned::Refused(header::refusal::RATES);
+    if let Verdict::Refused(n) = change_verdict(
+        job,
+        header,
+        set,
+        old,
+        first,
+        rates,
+        sizes,
+        drains,
+        table.len(),
+        entries.len(),
+    ) {
+        return Planned::Refused(n);
     }
     let line = contract::line_under(header, rates, sizes, drains);
-    change_under(order, job, header, line, set, old, first, table, entries)
+    change_over(order, job, header, line, set, old, first, table, entries)
 }
 
 // Changes the contract of a programme after `first` intervals: rates, and for each bucket a size and a drain. All entries go to `entries`, the least distortion of every state from layer `first` on to `table`.

@@ -77,7 +77,7 @@ module _ (j : Job) (m : PinMap) where
   inside t s (x ∷ p) h e = go (λ l i q. inside (suc t) l p i q) (outcome j m (suc t) s x) refl e
     where
       go : ((l : Levels) → InLayer (j .line) l → replay j m (suc t) l p .result ≡ clean → InLayer (j .line) (last-levels l (replay j m (suc t) l p .levels))) → (o : Outcome) → outcome j m (suc t) s x ≡ o → go-on (suc t) o (λ l. replay j m (suc t) l p) .result ≡ clean → InLayer (j .line) (last-levels s (go-on (suc t) o (λ l. replay j m (suc t) l p) .levels))
-      go ih (violates v) q e = stops (unfold go-on in e)
+      go ih (violates v) q e = let z : stopped (suc t) v ≡ clean = unfold go-on in e in stops z
       go ih (reaches l) q e = unfold go-on written last-levels in (ih l (unfold outcome in (reaches-in-layer (j .line) _ _ _ _ s l (h .count) q)) e)
 
 module _ (j : Job) (m : PinMap) (old : List ℕ) (s : ℕ) (some-entry : 1 ≤ s) (less : s < intervals j) where

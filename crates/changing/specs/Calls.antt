@@ -19,7 +19,6 @@ use Rattle.format.specs.JobBytes.{header-in, opening, drain-limits, rate-limits
 use Rattle.pinning.specs.PinSet.{PinSet, lines}
 use Rattle.pinning.specs.Check.{checked}
 use Rattle.replaying.specs.Entries.{entry-size, plan-of, shaped}
-
 use Rattle.planning.specs.Calls.{Planned, refuse, search-in}
 use Rattle.changing.specs.Contracts.{Contract, policed-under, contract-limits, under}
 
