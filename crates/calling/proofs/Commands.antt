@@ -1,6 +1,6 @@
 -- Commands behind a job, and what the program plans: `Commands`, `Inputs` and `InputRefusals`.
 use Prim.Native.Nat.{ℕ, zero, suc, _<_, _≤_}
-use mathlib.Core.Path.{_≡_, refl, sym, _∙_}
+use mathlib.Core.Path.{_≡_, refl, sym, _∙_, ap}
 use mathlib.Core.Option.{Option, none, some}
 use mathlib.Core.List.{List, [], _∷_, map}
 use native.Mathlib.Omega.{arith}
@@ -91,13 +91,17 @@ commands b = record {
 
 -- what the program plans is planning with the set that the commands leave
 module _ (b table entries : List ℕ) where
+  -- unless the commands were refused
+  abbrev planned : Option ℕ → plan.Planned
+  planned refused = unless (plan.refuse table entries) refused (plan-call b (commands-call b .set) total early table entries)
+
   input-plans : length b ≤ input-size → commands-call b .refused ≡ none → input-call b table entries ≡ plan-call b (commands-call b .set) total early table entries
   unfolding input-call unless
-  input-plans h q = guarded-last (plan.refuse table entries) _ _ (le-leb (length b) input-size h) ∙ rw q
+  input-plans h q = guarded-last (plan.refuse table entries) _ _ (le-leb (length b) input-size h) ∙ ap planned q
 
   input-refused : (n : ℕ) → length b ≤ input-size → commands-call b .refused ≡ some n → input-call b table entries ≡ plan.refuse table entries n
   unfolding input-call unless
-  input-refused n h q = guarded-last (plan.refuse table entries) _ _ (le-leb (length b) input-size h) ∙ rw q
+  input-refused n h q = guarded-last (plan.refuse table entries) _ _ (le-leb (length b) input-size h) ∙ ap planned q
 
   input-long : input-size < length b → input-call b table entries ≡ plan.refuse table entries 15
   unfolding input-call

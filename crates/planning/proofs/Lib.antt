@@ -11,4 +11,3 @@ pub mod Refusals
 pub mod Seeing
 pub mod Rules
 pub mod Sittings
-pub mod Cases

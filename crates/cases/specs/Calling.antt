@@ -9,9 +9,9 @@ use Rattle.model.specs.Pins.{Call, pin, lift, PinTotals}
 use Rattle.model.specs.Replay.{Totals}
 use Rattle.format.specs.Parser as P
 use Rattle.format.specs.JobA.{bytes-a, bytes-e}
-use Rattle.planning.specs.Cases.{Reply, says, refuses}
+use Rattle.cases.specs.Planning.{Reply, says, refuses}
 use Rattle.calling.specs.Commands.{command}
 use Rattle.calling.specs.Sessions.{calls-call, session-call, input-call}
 
 -- command records: what stands at the front of the bytes
 unfoldable pub records : List (List ℕ)

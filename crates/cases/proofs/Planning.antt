@@ -15,12 +15,12 @@ use Rattle.pinning.specs.Calls.{opened, open-call, refuse, take-in, with-pin, w
 use Rattle.replaying.specs.Entries.{one-entry, entry-bytes}
 use Rattle.replaying.specs.Cases.{delayed, set-after}
 use Rattle.replaying.proofs.Cases.{map-at}
 use Rattle.planning.specs.Words.{layer, layers, table-from}
 use Rattle.planning.specs.Calls as c
 use Rattle.model.specs.Best.{late, early}
-use Rattle.planning.specs.Cases.{Question, Reply, reply, questions, replies, early-replies, Cases, word-after, word-questions, words-expected, WordCases, look, own-table, sights, sights-told, SeeCases}
+use Rattle.cases.specs.Planning.{Question, Reply, reply, questions, replies, early-replies, Cases, word-after, word-questions, words-expected, WordCases, look, own-table, sights, sights-told, SeeCases}
 use Rattle.planning.specs.Rule.{coding-offer, pair-offer, least-offer, layer-from, choice-in, allowed-in, refill, refilled}
 use Rattle.planning.specs.See as see
 use Rattle.trellis.specs.Pairs.{row, rows}
 
 pub cases : Cases

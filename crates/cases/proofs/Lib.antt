@@ -1,0 +1,3 @@
+-- The tables of cases, computed from the definitions.
+pub mod Planning
+pub mod Calling
