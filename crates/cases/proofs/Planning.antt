@@ -13,8 +13,8 @@ use Rattle.pinning.specs.PinSet.{lines, unpinned, fresh}
 use Rattle.pinning.specs.Check.{pin-fits, pins-fit, same-totals, fits, accept, checked}
 use Rattle.pinning.specs.Calls.{opened, open-call, refuse, take-in, with-pin, without-pin, call-tests, called, call-in, call, call-of, click-tests, after, run}
 use Rattle.replaying.specs.Entries.{one-entry, entry-bytes}
-use Rattle.replaying.specs.Cases.{delayed, set-after}
-use Rattle.replaying.proofs.Cases.{map-at}
+use Rattle.cases.specs.Replaying.{delayed, set-after}
+use Rattle.cases.proofs.Replaying.{map-at}
 use Rattle.planning.specs.Words.{layer, layers, table-from}
 use Rattle.planning.specs.Calls as c
 use Rattle.model.specs.Best.{late, early}

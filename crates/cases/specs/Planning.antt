@@ -8,7 +8,7 @@ use Rattle.model.specs.Pins.{Call, pin, lift}
 use Rattle.model.specs.Replay.{Totals}
 use Rattle.model.specs.Best.{Order, late, early, Aim, total, even}
 use Rattle.format.specs.JobA.{bytes-a, bytes-a8, bytes-e}
-use Rattle.replaying.specs.Cases.{delayed, set-after}
+use Rattle.cases.specs.Replaying.{delayed, set-after}
 use Rattle.planning.specs.Calls.{Planned, plan-call}
 use Rattle.planning.specs.See.{see-call}
 
