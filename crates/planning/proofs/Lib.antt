@@ -11,3 +11,4 @@ pub mod Refusals
 pub mod Seeing
 pub mod Rules
 pub mod Sittings
+pub mod Examples
