@@ -8,7 +8,7 @@ use lib.Dec.{eqb}
 use lib.ListN.{length, drop, length-drop}
 use borrow.Author.Tests.{le-leb, lt-leb, eqb-true, eqb-false}
 use Rattle.base.specs.Refusals.{unless}
-use Rattle.base.proofs.Refusals.{guarded-here, guarded-last}
+use Rattle.base.proofs.Refusals.{unless-some, unless-none, guarded-here, guarded-last}
 use Rattle.model.specs.Job.{Job}
 use Rattle.model.specs.Best.{early, total}
 use Rattle.model.specs.Pins.{Call}
@@ -91,13 +91,13 @@ commands b = record {
 
 -- what the program plans is planning with the set that the commands leave
 module _ (b table entries : List ℕ) where
-  input-plans : length b ≤ input-size → commands-call b .refused ≡ none → input-call b table entries ≡ plan-call b (commands-call b .set) total early table entries
-  unfolding input-call unless
-  input-plans h q = guarded-last (plan.refuse table entries) _ _ (le-leb (length b) input-size h) ∙ rw q
-
   input-refused : (n : ℕ) → length b ≤ input-size → commands-call b .refused ≡ some n → input-call b table entries ≡ plan.refuse table entries n
-  unfolding input-call unless
-  input-refused n h q = guarded-last (plan.refuse table entries) _ _ (le-leb (length b) input-size h) ∙ rw q
+  unfolding input-call
+  input-refused n h q = guarded-last (plan.refuse table entries) _ _ (le-leb (length b) input-size h) ∙ unless-some (plan.refuse table entries) (commands-call b .refused) n _ q
+
+  input-plans : length b ≤ input-size → commands-call b .refused ≡ none → input-call b table entries ≡ plan-call b (commands-call b .set) total early table entries
+  unfolding input-call
+  input-plans h q = guarded-last (plan.refuse table entries) _ _ (le-leb (length b) input-size h) ∙ unless-none (plan.refuse table entries) (commands-call b .refused) _ q
 
   input-long : input-size < length b → input-call b table entries ≡ plan.refuse table entries 15
   unfolding input-call

@@ -4,4 +4,3 @@ pub mod Numbers
 pub mod Commands
 pub mod Sessions
 pub mod Never
-pub mod Cases

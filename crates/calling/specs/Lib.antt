@@ -2,4 +2,3 @@
 pub mod Commands
 pub mod Sessions
 pub mod Claims
-pub mod Cases

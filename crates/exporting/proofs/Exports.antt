@@ -1,4 +1,4 @@
--- The claims of the exported calls, composed from those of the calls within them: `Opening`, `Calling`, `Plans`, `Replays`, `Reports`, `Turns` and `Writes`.
+-- The claims of the exported calls, composed from those of the calls within them: `Opening`, `Calling`, `Plans`, `Replays`, `Reports`, `Turns`, `Writes` and `Trials`.
 use Prim.Native.Nat.{ℕ, _+_, _*_, _/_, _≤_}
 use mathlib.Core.Path.{_≡_, refl, sym, _∙_, ap, ap₂, subst}
 use mathlib.Core.Logic.{_⊎_, _↔_}
@@ -22,7 +22,7 @@ use Rattle.model.specs.Table.{words}
 use Rattle.format.specs.Parser.{Looks, on-read, on-took, refusal-in}
 use Rattle.format.specs.Parser as P
 use Rattle.format.specs.JobBytes as format
-use Rattle.format.specs.JobBytes.{Header, header-of, header-in, Door, archive, parse}
+use Rattle.format.specs.JobBytes.{header-of, header-in, Door, archive, parse}
 use Rattle.format.proofs.Parsing.{looks-read, read-refusal, refusal-in-join}
 use Rattle.format.proofs.Opened.{opens-by, held-job}
 use Rattle.table.specs.Answers.{table-words}
@@ -39,7 +39,7 @@ use Rattle.writing.proofs.Refusals.{refusal-order, done-first}
 use Rattle.writing.proofs.Writes.{writes}
 use Rattle.trials.specs.Claims as trials
 use Rattle.trials.specs.Claims.{Tried}
-use Rattle.trials.proofs.Trials as trial
+use Rattle.trials.proofs.Trials as trials-proofs
 use Rattle.calling.specs.Commands.{calls-tests}
 use Rattle.calling.specs.Sessions.{answers-tests, calls-refusal, calls-call, Session, session-tests, plan-refusal, session-call, replay-refusal, replay-session}
 use Rattle.calling.specs.Claims.{book-numbers, book-pins, archive-pins, SessionClaim}
@@ -252,4 +252,4 @@ writes-exported fields rates sizes distortions job values =
 pub trials-exported : Trials
 trials-exported fields state job values =
     let h = header-of fields in
-    makes fields job values _ _ (trials.Asks h job) (Tried h state job) (job-size h) (trial.refusal-order h state job) (trial.done-first h state job) (trial.tries h state job)
+    makes fields job values _ _ (trials.Asks h job) (Tried h state job) (job-size h) (trials-proofs.refusal-order h job) (trials-proofs.done-first h state job) (trials-proofs.tries h state job)

@@ -1,6 +1,6 @@
 -- Every list of clicks with the planning after it: `DemandThree`; so every list of pins and lifts: `CallsThree`.
 use Prim.Native.Nat.{ℕ, _+_, _-_, _*_, _≤_}
-use mathlib.Core.Path.{_≡_, refl, _∙_}
+use mathlib.Core.Path.{_≡_, refl, _∙_, ap}
 use mathlib.Core.Option.{Option, none, some}
 use mathlib.Core.List.{List, [], _∷_}
 use native.Mathlib.Omega.{arith}
@@ -10,7 +10,7 @@ use lib.Dec.{leb}
 use borrow.Author.Tests.{le-leb}
 use Rattle.base.specs.Refusals.{test}
 use Rattle.base.proofs.Refusals.{guarded-past, guarded-last}
-use Rattle.format.specs.Parser.{took, on-read}
+use Rattle.format.specs.Parser.{Result, took, on-read}
 use Rattle.format.specs.JobBytes.{opening, parse}
 use Rattle.model.specs.Job.{Levels, Job, Entry, intervals}
 use Rattle.model.specs.Pins.{PinMap}
@@ -23,6 +23,8 @@ use Rattle.model.proofs.Walks.{fits-length}
 use Rattle.model.proofs.Evenness.{aims}
 use Rattle.format.proofs.Bounds.{limited}
 use Rattle.format.proofs.Places.{well-read}
+use Rattle.pinning.specs.PinSet.{PinSet, lines}
+use Rattle.pinning.specs.Check.{checked}
 use Rattle.pinning.specs.Calls.{CallsMade}
 use Rattle.pinning.specs.Claims.{HistoryClaim}
 use Rattle.pinning.proofs.History.{history, call-history}
@@ -31,7 +33,7 @@ use Rattle.replaying.specs.Entries.{entry-size, entry-bytes}
 use Rattle.base.specs.Lent.{over}
 use Rattle.replaying.proofs.Entries.{bytes-size, bytes-back}
 use Rattle.base.proofs.Lent.{over-length, over-rest}
-use Rattle.planning.specs.Calls.{refuse, searched, search-in, plan-tests, plan-in, plan-call}
+use Rattle.planning.specs.Calls.{refuse, searched, search-in, plan-tests, plan-in, plan-all, plan-call}
 use Rattle.planning.specs.Claims.{BestWritten, PlanClaim, Demand, DemandThree, CallsThree}
 use Rattle.planning.proofs.Layers.{from-before, from-rest, from-length, from-table}
 
@@ -100,15 +102,19 @@ module _ (j : Job) (m : PinMap) (a : Aim) (o : Order) (s : ℕ) (start : Levels)
   pub plan-claim : PlanClaim j m a o s start table entries (plan-in j m a o s start table entries)
   plan-claim = rw (plan-searches j m a o s start table entries room space) search-claim
 
+-- planning with a set that the job takes is planning with the set's pins
+pub plan-checked : (b : List ℕ) (j : Job) (n : ℕ) (s : PinSet) → checked opening b s ≡ took j n → (a : Aim) (o : Order) (table entries : List ℕ) → plan-call b s a o table entries ≡ plan-in j (lines (length (j .units)) (s .pins)) a o 0 (j .start) table entries
+unfolding plan-call on-read
+plan-checked b j n s e a o table entries = ap (λ (r : Result Job). on-read (refuse table entries) r (λ i. plan-all i s a o table entries)) e
+
 -- whatever calls were made: a history of the set is enough
 demanded : (b : List ℕ) (j : Job) (n : ℕ) → parse opening b ≡ took j n → (answers : List (Option ℕ)) (m : PinMap) (r : CallsMade) → HistoryClaim b j n answers m r → Demand b j n answers m r
-unfolding plan-call on-read
 demanded b j n parsed answers m r h =
     let k = limited j (well-read opening b j n parsed .well-formed) in
     record {
       history = h;
       planning = λ a o table entries room space.
-          rw (h .passes, h .pins) (plan-claim j _ a o 0 (j .start) (omega (arith, k .choices)) (omega (arith, k .rates)) (omega arith) table entries room (omega (arith, space)));
+          rw (plan-checked b j n (r .set) (h .passes) a o table entries, h .pins) (plan-claim j _ a o 0 (j .start) (omega (arith, k .choices)) (omega (arith, k .rates)) (omega arith) table entries room (omega (arith, space)));
     }
 
 pub demand-three : DemandThree

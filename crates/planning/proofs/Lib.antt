@@ -1,4 +1,5 @@
 -- What is proved of the definitions, for the proofs of crates that name this one.
+pub mod Examples
 pub mod Offers
 pub mod Passes
 pub mod Prices
@@ -11,4 +12,3 @@ pub mod Refusals
 pub mod Seeing
 pub mod Rules
 pub mod Sittings
-pub mod Cases

@@ -30,7 +30,7 @@ use Rattle.pinning.proofs.Agree.{looks-checked, checked-refused}
 use Rattle.replaying.specs.Entries.{entry-size}
 use Rattle.planning.specs.Calls.{Planned, refuse, searched, search-in, plan-tests, plan-in, plan-call}
 use Rattle.planning.specs.Claims.{PlanClaim, Keeping, PlanCalls, NeverPlanned, Keeps, NoPlanAlike, NoPlanAnyhow, OrderAlike, OrdersAlike}
-use Rattle.planning.proofs.DemandThree.{search-claim, plan-searches}
+use Rattle.planning.proofs.DemandThree.{search-claim, plan-searches, plan-checked}
 
 -- what planning of a whole job is tested for
 pub plan-decides : (j : Job) (table entries : List ℕ) → Decides (plan-tests j 0 (length table) (length entries)) (condition 11 (words j ≤ length table) ∷ condition 12 (entry-size * intervals j ≤ length entries) ∷ [])
@@ -127,12 +127,11 @@ module _ (j : Job) (m : PinMap) (a : Aim) (o : Order) (table entries : List ℕ)
       rw (plan-searches j m a o 0 (j .start) table entries room (omega arith)) (λ e. none-is .0 (found .0 e), λ f. found .1 (none-is .1 f))
 
 pub no-plan-anyhow : NoPlanAnyhow
-unfolding plan-call on-read
 no-plan-anyhow b j n s read o o′ table table′ entries entries′ room room′ space space′ =
     let m = lines (length (j .units)) (s .pins) in
     let one = none-admissible j m total o table entries room (omega (arith, space)) in
     let other = none-admissible j m even o′ table′ entries′ room′ (omega (arith, space′)) in
-    rw read (λ e. other .1 (one .0 e), λ e. one .1 (other .0 e))
+    rw (plan-checked b j n s read total o table entries, plan-checked b j n s read even o′ table′ entries′) (λ e. other .1 (one .0 e), λ e. one .1 (other .0 e))
 
 pub never-planned : NeverPlanned
 unfolding plan-call on-read

@@ -32,7 +32,7 @@ use Rattle.planning.specs.Words.{layer, layers, table-from}
 use Rattle.planning.specs.Calls.{searched, search-in, plan-call}
 use Rattle.planning.specs.See.{Seen, keep, unit-of, renewed, seen, see-in, see-call, Sight, lent, Sat, sat, sight, sit, clicks-of}
 use Rattle.planning.specs.Seeing.{pins-of, Own, SittingClaim, PlansOwn, Lends, Sittings, FreshSittings}
-use Rattle.planning.proofs.DemandThree.{plan-searches}
+use Rattle.planning.proofs.DemandThree.{plan-searches, plan-checked}
 use Rattle.planning.proofs.Layers.{layers-length, from-rest, from-length, from-table}
 use Rattle.planning.proofs.Refilling.{refilled-pins}
 use Rattle.planning.proofs.Seeing.{asks-unit, same-layer, other-lines, see-clicks}
@@ -69,9 +69,9 @@ searched-table j m o (some v) table entries = refl
 
 module _ (b : List ℕ) (j : Job) (n : ℕ) where
   plan-table : (s : PinSet) → checked opening b s ≡ took j n → (o : Order) (table entries : List ℕ) → words j ≤ length table → 3 * intervals j ≤ length entries → plan-call b s total o table entries .table ≡ table-from _+_ j (unlimited (pins-of j s)) 0 table
-  unfolding plan-call on-read search-in open-for
+  unfolding search-in open-for
   plan-table s c o table entries room space =
-      rw (c, plan-searches j (pins-of j s) total o 0 (j .start) table entries room (omega arith)) (searched-table j (pins-of j s) o (least-total j (unlimited (pins-of j s)) 0 (j .start)) table entries)
+      rw (plan-checked b j n s c total o table entries, plan-searches j (pins-of j s) total o 0 (j .start) table entries room (omega arith)) (searched-table j (pins-of j s) o (least-total j (unlimited (pins-of j s)) 0 (j .start)) table entries)
 
   module _ (parsed : parse opening b ≡ took j n) (table₀ : List ℕ) (room : words j ≤ length table₀) where
     limits : InLimits j

@@ -7,4 +7,3 @@ pub mod Calls
 pub mod See
 pub mod Claims
 pub mod Seeing
-pub mod Cases

@@ -4,4 +4,3 @@ pub mod Flat
 pub mod DemandTwo
 pub mod Former
 pub mod Reports
-pub mod Cases

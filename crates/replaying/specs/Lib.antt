@@ -3,4 +3,3 @@ pub mod Entries
 pub mod Former
 pub mod Calls
 pub mod Claims
-pub mod Cases

@@ -31,8 +31,8 @@ module _ (h : Header) (s : ℕ) (out : List ℕ) where
     pub trial-accepted : Accepted h (trial-rates h s) (trial-sizes h s) (trial-distortions h s)
     trial-accepted = write-accepted h _ _ _ out looked
 
-    pub trial-room : job-size h ≤ length out
-    trial-room = write-room h _ _ _ out looked
+    pub room-there : job-size h ≤ length out
+    room-there = write-room h _ _ _ out looked
 
     -- the header, the rates and the units, written one behind another, where the header takes w bytes
     pub trial-done : (w : ℕ) → w ≡ header-size h → (m o p : List ℕ) → m ≡ put-at out 0 (header-bytes h) → o ≡ put-at m w (record-bytes (rates-form (h .rates)) (build (h .rates) (rate-drawn s))) → p ≡ put-at o (w + 4 + 2 * h .rates) (all-bytes (unit-bytes (h .choices)) (parted (h .units) (h .choices) (codings-from (build (h .units * h .choices) (size-drawn (after (h .rates) s))) (build (h .units * h .choices) (distortion-drawn (after (h .rates) s)))))) → record { answer = gives (job-size h); list = p } ≡ trial-call h s out

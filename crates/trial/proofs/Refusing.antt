@@ -2,9 +2,7 @@
 use Prim.Native.Nat.{ℕ, _<_, _≤_}
 use mathlib.Core.Path.{_≡_, sym, _∙_}
 use mathlib.Core.Option.{none, some}
-use mathlib.Core.List.{_++_}
 use borrow.Author.Tests.{lt-leb, le-leb}
-use Rattle.base.specs.Refusals.{refusal, first}
 use Rattle.base.proofs.Refusals.{refusal-here, refusal-last, unless-some, unless-none}
 use Rattle.format.specs.Limits.{broken}
 use Rattle.format.specs.JobBytes.{Header, header-limits, opening, drain-limits}

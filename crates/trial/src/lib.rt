@@ -1,4 +1,4 @@
-// Trial jobs (document 02, E11): the same large job on every machine, drawn from a starting state and written by the writer's functions for each record.
+// Trial jobs (document 02, E11): the same large job on every machine, drawn from a starting state and written by the functions for each record that the writer has too.
 ghost use mathlib.Core.Path.{_≡_};
 ghost use Prim.Native.Nat.{_+_, _*_, _/_, _%_, _≤_};
 ghost use lib.ListN.{length};

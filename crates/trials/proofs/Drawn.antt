@@ -1,6 +1,6 @@
 -- The lists that are drawn keep the writer's limits, and each number of the job is drawn in its turn.
-use Prim.Native.Nat.{ℕ, zero, suc, _+_, _*_, _%_, _<_, _≤_}
-use mathlib.Core.Path.{_≡_, refl, sym, ap, _∙_}
+use Prim.Native.Nat.{ℕ, zero, suc, _+_, _*_, _<_, _≤_}
+use mathlib.Core.Path.{_≡_, sym, ap, _∙_}
 use mathlib.Core.List.{List, []}
 use native.Mathlib.Omega.{arith}
 use native.Mathlib.Nat.{suc-mul, mul-le-mul}
@@ -8,19 +8,18 @@ use lib.ListN.{length, getD, take, drop, length-drop}
 use lib.Seq.{drop-drop, getD-take, getD-drop, ext-getD, length-take-le}
 use Rattle.base.specs.Lists.{build}
 use Rattle.base.proofs.Builds.{build-length, build-at}
-use Rattle.model.specs.Job.{Coding, Job, nothing, codingAt}
+use Rattle.model.specs.Job.{Coding, nothing, codingAt}
 use Rattle.format.specs.Limits.{AllKept}
-use Rattle.format.specs.JobBytes.{Header, header-limits, opening, drain-limits, rate-limits, coding-limits, job-of, header-in}
+use Rattle.format.specs.JobBytes.{Header, header-limits, opening, drain-limits, job-of, header-in}
 use Rattle.format.proofs.Bounds.{CodingKept, rates-within, codings-within}
-use Rattle.format.proofs.Limits.{all-kept-part}
 use Rattle.writing.specs.Lists.{parted, codings-from, job-from}
 use Rattle.writing.proofs.Lists.{codings-count, coding-in}
 use Rattle.writing.proofs.Order.{Accepted}
 use Rattle.writing.proofs.Writes.{header-given}
 use Rattle.trials.specs.Draws.{after, draw, rate-drawn, size-drawn, distortion-drawn}
-use Rattle.trials.specs.Calls.{trial-rates, trial-sizes, trial-distortions, trial-job, trial-limits}
+use Rattle.trials.specs.Calls.{trial-rates, trial-sizes, trial-distortions, trial-job}
 use Rattle.trials.specs.Claims.{LeftOver, Drawn}
-use Rattle.trials.proofs.Draws.{draw-later, rate-most, rate-rises, size-fits, distortion-fits, left-four, left-64, four-left}
+use Rattle.trials.proofs.Draws.{draw-later, first-left, later-adds, size-left, rate-most, rate-rises, distortion-fits}
 
 -- a part of a list that is built is built
 pub build-part : (n from m : ℕ) (f : ℕ → ℕ) → from + m ≤ n → take m (drop from (build n f)) ≡ build m (λ x. f (from + x))
@@ -69,7 +68,27 @@ module _ (h : Header) (s : ℕ) where
   coding-is k l = coding-in (trial-sizes h s) (trial-distortions h s) k (omega (arith, sizes-long)) (sizes-long ∙ sym distortions-long) ∙ rw (size-is k l, distortion-is k l)
 
   coding-fits : (k : ℕ) → k < h .units * h .choices → CodingKept (getD cs k nothing)
-  coding-fits k l = rw (coding-is k l) (record { size = omega (arith, size-fits (after (h .rates) s) k); distortion = omega (arith, distortion-fits (after (h .rates) s) k) })
+  coding-fits k l = rw (coding-is k l) (record { size = omega (arith, size-left (after (h .rates) s) k .less); distortion = omega (arith, distortion-fits (after (h .rates) s) k) })
+
+  -- the coding of a unit, counted from 0, at a choice
+  coded : (u x : ℕ) → u < h .units → x < h .choices → codingAt (trial-job h s) u x ≡ record { size = size-drawn (after (h .rates) s) (u * h .choices + x); distortion = distortion-drawn (after (h .rates) s) (u * h .choices + x) }
+  unfolding trial-job job-from job-of codingAt
+  coded u x l m =
+      ap (λ (cs : List Coding). getD cs x nothing) (parted-at (h .units) (h .choices) cs u l)
+      ∙ getD-take (h .choices) (drop (u * h .choices) cs) x nothing m
+      ∙ getD-drop (u * h .choices) cs x nothing
+      ∙ coding-is (u * h .choices + x) (omega (arith, inside))
+    where
+      inside : suc u * h .choices ≤ h .units * h .choices
+      inside = mul-le-mul {n₂ = h .units} {m₂ = h .choices} l (omega arith)
+
+  -- which draws they are, counted from the starting state
+  size-there : (k : ℕ) → LeftOver 64 (draw s (h .rates + 2 * k)) (size-drawn (after (h .rates) s) k)
+  size-there k = rw (← draw-later (h .rates) (2 * k) s) (size-left (after (h .rates) s) k)
+
+  distortion-there : (k : ℕ) → distortion-drawn (after (h .rates) s) k ≡ draw s (h .rates + 2 * k + 1)
+  unfolding distortion-drawn
+  distortion-there k = draw-later (h .rates) _ s ∙ ap (draw s) (omega arith)
 
   -- nothing but the header can be refused
   module _ (a : AllKept (header-limits h)) (d : AllKept (drain-limits opening (h .buckets))) where
@@ -92,33 +111,12 @@ module _ (h : Header) (s : ℕ) where
     unfolding trial-job
     header-is = header-given h (trial-rates h s) (trial-sizes h s) (trial-distortions h s) accepted
 
-    -- the coding of a unit, counted from 0, at a choice
-    coded : (u x : ℕ) → u < h .units → x < h .choices → codingAt (trial-job h s) u x ≡ record { size = size-drawn (after (h .rates) s) (u * h .choices + x); distortion = distortion-drawn (after (h .rates) s) (u * h .choices + x) }
-    unfolding trial-job job-from job-of codingAt
-    coded u x l m =
-        ap (λ (cs : List Coding). getD cs x nothing) (parted-at (h .units) (h .choices) cs u l)
-        ∙ getD-take (h .choices) (drop (u * h .choices) cs) x nothing m
-        ∙ getD-drop (u * h .choices) cs x nothing
-        ∙ coding-is (u * h .choices + x) (omega (arith, inside))
-      where
-        inside : suc u * h .choices ≤ h .units * h .choices
-        inside = mul-le-mul {n₂ = h .units} {m₂ = h .choices} l (omega arith)
-
-    -- which draws they are, counted from the starting state
-    size-there : (k : ℕ) → size-drawn (after (h .rates) s) k ≡ draw s (h .rates + 2 * k) % 64
-    unfolding size-drawn
-    size-there k = ap (λ (v : ℕ). v % 64) (draw-later (h .rates) _ s ∙ ap (draw s) (omega arith))
-
-    distortion-there : (k : ℕ) → distortion-drawn (after (h .rates) s) k ≡ draw s (h .rates + 2 * k + 1)
-    unfolding distortion-drawn
-    distortion-there k = draw-later (h .rates) _ s ∙ ap (draw s) (omega arith)
-
     pub drawn : Drawn h s (trial-job h s)
     drawn = record {
       header = header-is;
-      first-rate = rw (rates-there 0 (omega arith)) (unfold rate-drawn in (left-four (draw s 0)));
-      later-rate = λ y left l o. rates-there (suc y) l ∙ unfold rate-drawn in (omega (arith, rates-there y (omega arith), four-left (draw s (suc y)) left o));
-      size = λ u x l m. rw (coded u x l m) (rw (size-there (u * h .choices + x)) (left-64 _));
+      first-rate = rw (rates-there 0 (omega arith)) (first-left s);
+      later-rate = λ y left l o. omega (arith, rates-there (suc y) l, later-adds s y left o, rates-there y (omega arith));
+      size = λ u x l m. rw (coded u x l m) (size-there (u * h .choices + x));
       distortion = λ u x l m. ap (λ (c : Coding). c .distortion) (coded u x l m) ∙ distortion-there (u * h .choices + x);
     }
       where

@@ -1,9 +1,9 @@
 -- The stream of draws: how states follow one another, and what the numbers drawn keep to.
 use Prim.Native.Nat.{ℕ, zero, suc, _+_, _*_, _/_, _%_, _<_, _≤_}
-use mathlib.Core.Path.{_≡_, refl, sym, ap, _∙_}
+use mathlib.Core.Path.{_≡_, refl, ap, _∙_}
 use native.Mathlib.Omega.{arith}
 use Rattle.trials.specs.Draws.{next, after, draw, rate-drawn, size-drawn, distortion-drawn}
-use Rattle.trials.specs.Claims.{DrawnFrom, Stream, LeftOver}
+use Rattle.trials.specs.Claims.{Stream, LeftOver}
 
 -- a state has 32 bits, and a draw 16
 pub next-fits : (s : ℕ) → next s < 4294967296
@@ -44,6 +44,19 @@ pub draw-later : (n k s : ℕ) → draw (after n s) k ≡ draw s (n + k)
 unfolding draw
 draw-later n k s = rw (after-more k n s)
 
+-- each number that is drawn, in the claims' words
+pub first-left : (s : ℕ) → LeftOver 4 (draw s 0) (rate-drawn s 0)
+unfolding rate-drawn
+first-left s = record { times = draw s 0 / 4; is = omega arith; less = omega arith }
+
+pub later-adds : (s y left : ℕ) → LeftOver 4 (draw s (suc y)) left → rate-drawn s (suc y) ≡ rate-drawn s y + 1 + left
+unfolding rate-drawn
+later-adds s y left l = let e = l .is in let h = l .less in omega arith
+
+pub size-left : (s k : ℕ) → LeftOver 64 (draw s (2 * k)) (size-drawn s k)
+unfolding size-drawn
+size-left s k = record { times = draw s (2 * k) / 64; is = omega arith; less = omega arith }
+
 -- rates rise, and slowly
 pub rate-most : (s y : ℕ) → rate-drawn s y ≤ 3 + 4 * y
 unfolding rate-drawn
@@ -63,20 +76,7 @@ pub distortion-later : (s n k : ℕ) → distortion-drawn (after (2 * n) s) k �
 unfolding distortion-drawn
 distortion-later s n k = draw-later (2 * n) _ s ∙ ap (draw s) (omega arith)
 
-pub size-fits : (s k : ℕ) → size-drawn s k < 64
-unfolding size-drawn
-size-fits s k = omega arith
-
+-- and a distortion is a draw
 pub distortion-fits : (s k : ℕ) → distortion-drawn s k < 65536
 unfolding distortion-drawn
 distortion-fits s k = draw-fits s _
-
--- what is left over
-pub left-four : (v : ℕ) → LeftOver 4 v (v % 4)
-left-four v = record { times = v / 4; is = omega arith; less = omega arith }
-
-pub left-64 : (v : ℕ) → LeftOver 64 v (v % 64)
-left-64 v = record { times = v / 64; is = omega arith; less = omega arith }
-
-pub four-left : (v r : ℕ) → LeftOver 4 v r → r ≡ v % 4
-four-left v r l = let e = l .is in let h = l .less in omega arith

@@ -1,12 +1,11 @@
 -- Worked examples: the first draws from five states, and the bytes of two trial jobs, each worked out apart.
-use Prim.Native.Nat.{ℕ}
 use mathlib.Core.Path.{_≡_, refl}
-use mathlib.Core.List.{List, [], _∷_, _++_, zipWith}
+use mathlib.Core.List.{[], _∷_, zipWith}
 use lib.ListN.{replicate}
-use Rattle.base.specs.Answer.{gives, refused}
+use Rattle.base.specs.Answer.{gives}
 use Rattle.base.specs.Lists.{build}
 use Rattle.base.specs.Refusals.{refusal, unless, guarded}
-use Rattle.base.specs.Lent.{Ended, over, refuse}
+use Rattle.base.specs.Lent.{over, refuse}
 use Rattle.format.specs.JobBytes.{Header, computes}
 use Rattle.format.specs.JobA.{header-a}
 use Rattle.writing.specs.Lists.{parted, codings-from, job-from}

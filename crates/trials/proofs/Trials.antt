@@ -1,26 +1,27 @@
 -- What writing a trial job answers and leaves: it is the writer's call of the lists drawn, of which the writer's own claims speak.
-use Prim.Native.Nat.{ℕ, _<_, _≤_}
-use mathlib.Core.Path.{_≡_, refl, sym, ap, _∙_}
+use Prim.Native.Nat.{ℕ, zero, suc, _+_, _-_, _*_, _/_, _%_, _≤_}
+use mathlib.Core.Path.{_≡_, refl, sym, _∙_}
 use mathlib.Core.Bool.{Bool, true, false}
 use mathlib.Core.Option.{Option, none, some}
 use mathlib.Core.List.{List, [], _∷_, _++_, append-assoc}
 use native.Mathlib.Omega.{arith}
 use borrow.Author.Tests.{leb-true}
 use lib.Dec.{leb}
-use lib.ListN.{length, take}
+use lib.ListN.{length, drop}
 use lib.Seq.{take-at}
 use Rattle.base.specs.Answer.{gives}
 use Rattle.base.specs.If.{if_then_else_}
 use Rattle.base.specs.Refusals.{test, refusal, unless, first, guarded, InOrder}
-use Rattle.base.specs.Lent.{Ended, over, refuse, Keeping}
+use Rattle.base.specs.Lent.{Ended, over, refuse}
 use Rattle.base.proofs.Answers.{not-refused, gives-same}
 use Rattle.base.proofs.Lent.{over-length, over-rest}
 use Rattle.base.proofs.Refusals.{unless-first}
 use Rattle.model.specs.Job.{Job}
+use Rattle.format.specs.Fields as fields
 use Rattle.format.specs.Limits.{Limit, broken, AllKept}
-use Rattle.format.specs.Parser.{took}
-use Rattle.format.specs.JobBytes.{Header, header-limits, opening, drain-limits, rate-limits, coding-limits, header-in, parse, encode}
-use Rattle.format.specs.Claims.{Idle}
+use Rattle.format.specs.Records.{head-values, record-bytes}
+use Rattle.format.specs.JobBytes.{Header, header-limits, further-buckets, opening, drain-limits, rate-limits, coding-limits, header-kind, header-form, header-in, header-bytes, encode}
+use Rattle.format.specs.Claims.{u16-at}
 use Rattle.format.specs.Places.{job-size}
 use Rattle.format.proofs.Limits.{all-kept, all-kept-part, broken-first, none-broken}
 use Rattle.format.proofs.RoundTrip.{parse-encode}
@@ -33,7 +34,7 @@ use Rattle.writing.proofs.Refusals as w-proofs
 use Rattle.writing.proofs.Refusals.{size-given, no-idle}
 use Rattle.trials.specs.Calls.{trial-rates, trial-sizes, trial-distortions, trial-job, trial-limits, trial-room, trial-refusal, trial-call}
 use Rattle.trials.specs.Claims.{Tried, Tries, Asks, Refusals, Alone, AsWritten}
-use Rattle.trials.proofs.Drawn.{accepted, drawn}
+use Rattle.trials.proofs.Drawn.{accepted, header-is, drawn}
 
 module _ (h : Header) (s : ℕ) where
   abbrev rates : List ℕ
@@ -85,6 +86,19 @@ pub as-written : AsWritten
 unfolding trial-call write-call write-in guarded trial-job
 as-written h s out = rw (refusal-same h s (length out)) (unfold write-refusal in (unless-first (refuse out) (broken (write-limits h (rates h s) (sizes h s) (distortions h s))) _ _))
 
+-- the kind that stands in a job's bytes
+module _ (j : Job) (more : List ℕ) where
+  kind-there : u16-at (encode j ++ more) 2 ≡ header-kind (further-buckets (header-in j))
+  unfolding encode header-bytes record-bytes header-form head-values fields.spelled fields.bytes
+  kind-there = small (further-buckets (header-in j))
+    where
+      small : (n : ℕ) → header-kind n % 256 + 256 * (header-kind n / 256 % 256) ≡ header-kind n
+      small zero = unfold header-kind in refl
+      small (suc n) = unfold header-kind in refl
+
+  kind-by : (h : Header) → header-in j ≡ h → (n : ℕ) → length (h .buckets) ≡ n → u16-at (encode j ++ more) 2 ≡ header-kind (n - 1)
+  kind-by h e n l = kind-there ∙ rw (e, l)
+
 -- what is written
 module _ (h : Header) (s : ℕ) (out : List ℕ) where
   abbrev Good : Ended ℕ → Type 0
@@ -100,10 +114,14 @@ module _ (h : Header) (s : ℕ) (out : List ℕ) where
       drawn = drawn h s (kept-all h s k .header) (kept-all h s k .drains);
       opens = unfold over in (parse-encode opening (trial-job h s) (unfold trial-job in (formed-given h _ _ _ (kept-all h s k))) _ ∙ rw e);
       bytes = unfold over in (take-at (bytes h s) _ n e);
+      kind = unfold over in (λ one. kind-of one ∙ unfold header-kind in refl, λ two. kind-of two ∙ unfold header-kind in refl);
       count = sym e ∙ bytes-count h s k;
       rest = over-rest (bytes h s) out (omega (arith, bytes-count h s k)) n e;
       size = over-length (bytes h s) out (omega (arith, bytes-count h s k));
     }
+      where
+        kind-of : {n : ℕ} → length (h .buckets) ≡ n → u16-at (bytes h s ++ drop (length (bytes h s)) out) 2 ≡ header-kind (n - 1)
+        kind-of l = kind-by (trial-job h s) _ h (header-is h s (kept-all h s k .header) (kept-all h s k .drains)) _ l
 
     -- the room decides
     room-good : (b : Bool) → leb (job-size h) (length out) ≡ b → Good (unless (refuse out) (refusal (test 12 b ∷ [])) (record { answer = gives (length (bytes h s)); list = over (bytes h s) out }))
@@ -127,33 +145,23 @@ alone h s one other n k e f =
     (a .count ∙ sym (b .count), a .bytes ∙ sym (b .bytes))
 
 -- the order of refusals is the writer's, of which 16, 4 and 5 never come
-pub refusals : Refusals
-refusals h s out = rw (as-written h s out) (
-  (
-    r .0 .0,
-    λ a. (
-      r .0 .1 a .0,
-      λ idle. let k = accepted h s a (no-idle h a idle) in r .0 .1 a .1 idle .1 (k .lengths) .1 (k .rates-kept) .1 (k .codings-kept),
-    ),
-  ),
-  r .1,
-)
-  where
-    r : InOrder (write-call h (rates h s) (sizes h s) (distortions h s) out) (refuse out) (w.Asks h (rates h s) (sizes h s) (distortions h s) out) (write-call h (rates h s) (sizes h s) (distortions h s) out .answer ≡ gives (job-size h)) × Keeping out (write-call h (rates h s) (sizes h s) (distortions h s) out)
-    r = w-proofs.refusals h (rates h s) (sizes h s) (distortions h s) out
-
--- the same order of the refusal that is found before writing
-pub refusal-order : (h : Header) (s : ℕ) (out : List ℕ) → InOrder (trial-refusal h (length out)) some (Asks h out) (trial-refusal h (length out) ≡ none)
-refusal-order h s out = rw (refusal-same h s (length out)) (
-  r .0,
+in-this-order : {R : Type 0} (h : Header) (s : ℕ) (out : List ℕ) (r : R) (refused : ℕ → R) (Else : Type 0) → InOrder r refused (w.Asks h (rates h s) (sizes h s) (distortions h s) out) Else → InOrder r refused (Asks h out) Else
+in-this-order h s out r refused Else o = (
+  o .0,
   λ a. (
-    r .1 a .0,
-    λ idle. let k = accepted h s a (no-idle h a idle) in r .1 a .1 idle .1 (k .lengths) .1 (k .rates-kept) .1 (k .codings-kept),
+    o .1 a .0,
+    λ idle. let k = accepted h s a (no-idle h a idle) in o .1 a .1 idle .1 (k .lengths) .1 (k .rates-kept) .1 (k .codings-kept),
   ),
 )
-  where
-    r : InOrder (write-refusal h (rates h s) (sizes h s) (distortions h s) (length out)) some (w.Asks h (rates h s) (sizes h s) (distortions h s) out) (write-refusal h (rates h s) (sizes h s) (distortions h s) (length out) ≡ none)
-    r = w-proofs.refusal-order h (rates h s) (sizes h s) (distortions h s) out
+
+pub refusals : Refusals
+refusals h s out =
+    let r = w-proofs.refusals h (rates h s) (sizes h s) (distortions h s) out in
+    rw (as-written h s out) (in-this-order h s out _ (refuse out) _ (r .0), r .1)
+
+-- the same order of the refusal that is found before writing, which looks at no state
+pub refusal-order : (h : Header) (out : List ℕ) → InOrder (trial-refusal h (length out)) some (Asks h out) (trial-refusal h (length out) ≡ none)
+refusal-order h out = rw (refusal-same h 0 (length out)) (in-this-order h 0 out _ some _ (w-proofs.refusal-order h (rates h 0) (sizes h 0) (distortions h 0) out))
 
 -- where nothing refuses, the answer is how many bytes the job takes
 pub done-first : (h : Header) (s : ℕ) (out : List ℕ) → trial-refusal h (length out) ≡ none → trial-call h s out .answer ≡ gives (job-size h)

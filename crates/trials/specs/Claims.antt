@@ -10,7 +10,7 @@ use Rattle.model.specs.Job.{Job, codingAt}
 use Rattle.format.specs.Limits.{AllKept}
 use Rattle.format.specs.Parser.{took}
 use Rattle.format.specs.JobBytes.{Header, header-limits, header-in, opening, parse, encode}
-use Rattle.format.specs.Claims.{Idle}
+use Rattle.format.specs.Claims.{u16-at, Idle}
 use Rattle.format.specs.Places.{job-size}
 use Rattle.writing.specs.Calls.{write-call}
 use Rattle.trials.specs.Draws.{after, draw}
@@ -48,6 +48,8 @@ pub record Tried (h : Header) (s : ℕ) (out : List ℕ) (n : ℕ) (list : List 
   pub drawn : Drawn h s (trial-job h s)
   pub opens : parse opening list ≡ took (trial-job h s) n
   pub bytes : take n list ≡ encode (trial-job h s)
+  -- "The header may be of kind 1 or 8": of 1 with one bucket, of 8 with two
+  pub kind : (length (h .buckets) ≡ 1 → u16-at list 2 ≡ 1) × (length (h .buckets) ≡ 2 → u16-at list 2 ≡ 8)
   pub count : n ≡ job-size h
   pub rest : drop n list ≡ drop n out
   pub size : length list ≡ length out

@@ -1,4 +1,4 @@
-// A job that is written from lists of numbers: its header from nine fields, or twelve.
+// A job that is written from lists of numbers, or drawn from a state: its header from nine fields, or twelve.
 ghost use mathlib.Core.Path.{_≡_};
 ghost use mathlib.Core.List.{[], _∷_};
 ghost use Prim.Native.Nat.{_+_, _*_, _≤_};
@@ -21,7 +21,7 @@ const FIELDS: usize = 9;
 
 const TWO_FIELDS: usize = 12;
 
-// How many values the call gives.
+// How many values each call gives.
 const WRITE_VALUES: usize = 1;
 
 // A field of the header is out of range.

@@ -5,8 +5,8 @@ use Rattle.base.specs.Lists.{build}
 use Rattle.base.proofs.Builds.{build-more}
 use lib.ListN.{length, drop, length-set}
 use mathlib.Core.List.{_++_}
-use mathlib.Core.Path.{_≡_, refl, ap, _∙_}
-use Prim.Native.Nat.{_+_, _-_, _*_, _≤_}
+use mathlib.Core.Path.{_≡_, refl, _∙_}
+use Prim.Native.Nat.{_-_, _*_, _≤_}
 use native.Mathlib.Omega.{arith}
 use borrow.Author.Needs.{needs}
 use Rattle.trial.proofs.draw_codings.Statement.{statement}

@@ -5,8 +5,8 @@ use Rattle.base.specs.Lists.{build}
 use Rattle.base.proofs.Builds.{build-more}
 use lib.ListN.{length, drop, length-set}
 use mathlib.Core.List.{_++_}
-use mathlib.Core.Path.{_≡_, refl, ap, _∙_}
-use Prim.Native.Nat.{_+_, _-_, _≤_}
+use mathlib.Core.Path.{_≡_, refl, _∙_}
+use Prim.Native.Nat.{_-_, _≤_}
 use native.Mathlib.Omega.{arith}
 use borrow.Author.Needs.{needs}
 use Rattle.trial.proofs.draw_rates.Statement.{statement}
@@ -53,7 +53,7 @@ loop-again c =
     let rate = rate-next (a .args .state) (l .loop .y) (l .loop .drawn) _ (l .loop .inv .1) (n .next-state .ensures) (l .loop .low) _ (l .loop .inv .2) (c .upper-half .ensures) in (
       omega arith,
       one-more (a .args .state) (l .loop .y) (l .loop .drawn) _ (l .loop .inv .1) (n .next-state .ensures),
-      low-next (a .args .state) (l .loop .y) (l .loop .drawn) _ (l .loop .inv .1) (n .next-state .ensures) _ rate,
+      low-next (a .args .state) (l .loop .y) _ rate,
       rw (l .loop .inv .3) (build-more _ (a .args .rates .now) (l .loop .y) _ (omega arith) rate),
       simp length-set (l .loop .inv .4),
     )

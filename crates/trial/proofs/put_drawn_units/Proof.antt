@@ -71,10 +71,10 @@ loop-again c =
     let k = unit-drawn (a .args .state) n m (l .loop .counter) (omega arith) in
     let z : l .loop .counter * m + m ≡ (l .loop .counter + 1) * m = omega (arith, suc-mul (l .loop .counter) m) in (
       omega arith,
-      unit-after (a .args .state) n m (l .loop .counter) (omega arith) (l .loop .drawn) _ (l .loop .inv .1) (p .put-next-unit .ensures .1),
+      unit-after (a .args .state) m (l .loop .counter) (l .loop .drawn) _ (l .loop .inv .1) (p .put-next-unit .ensures .1),
       omega arith,
       put-size _ _ _ _ (p .put-next-unit .ensures .0) ∙ l .loop .inv .3,
-      rw (← z) (units-step _ _ (l .loop .out) _ (l .loop .place) (l .loop .counter * m) n (l .loop .counter) (omega arith) (omega (arith, lists-long (a .args .state) n m (l .loop .counter) (omega arith), room (l .loop .counter) n m (omega arith))) (p .put-next-unit .ensures .0 ∙ rw (l .loop .inv .1) (ap (λ (cs : List Coding). put-at (l .loop .out) (l .loop .place) (unit-bytes m cs)) k)) ∙ l .loop .inv .4),
+      rw (← z) (units-step _ _ (l .loop .out) _ (l .loop .place) (l .loop .counter * m) n (l .loop .counter) (omega arith) (omega (arith, lists-long (a .args .state) n m, room (l .loop .counter) n m (omega arith))) (p .put-next-unit .ensures .0 ∙ rw (l .loop .inv .1) (ap (λ (cs : List Coding). put-at (l .loop .out) (l .loop .place) (unit-bytes m cs)) k)) ∙ l .loop .inv .4),
     )
 
 same-length : tie.Need-same-length Inv-loop μ-loop

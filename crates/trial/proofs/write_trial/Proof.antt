@@ -1,6 +1,6 @@
 -- `trial::write_trial` meets its contract: refused, or the header, the rates and the units one behind another.
 use Rattle.trial.proofs.Drawing.{part-long}
-use Rattle.trial.proofs.Answering.{trial-refused, trial-accepted, trial-room, trial-done}
+use Rattle.trial.proofs.Answering.{trial-refused, trial-accepted, room-there, trial-done}
 use Rattle.trials.specs.Calls.{trial-rates, trial-sizes, trial-distortions, trial-refusal}
 use Rattle.writing.proofs.Order.{Accepted}
 use Rattle.writer.specs.Answers.{wrote-answer, wrote}
@@ -54,7 +54,7 @@ unfolding verdict
 looked c = ap verdict (sym (c .enum-told .given .1)) ∙ c .before .before .trial-refusal .ensures
 
 ok : (c : tie.After-enum-told) → let a = c .before .before .before .before .args in Accepted (plain (a .header)) (trial-rates (plain (a .header)) (a .state)) (trial-sizes (plain (a .header)) (a .state)) (trial-distortions (plain (a .header)) (a .state)) × (job-size (plain (a .header)) ≤ length (a .out .now))
-ok c = let a = c .before .before .before .before .args in (trial-accepted _ _ (a .out .now) (looked c), trial-room _ (a .state) (a .out .now) (looked c))
+ok c = let a = c .before .before .before .before .args in (trial-accepted _ _ (a .out .now) (looked c), room-there _ (a .state) (a .out .now) (looked c))
 
 put-header-requires : tie.Need-put-header-requires
 unfolding plain

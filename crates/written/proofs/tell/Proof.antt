@@ -4,7 +4,6 @@ use Rattle.base.proofs.Lent.{stored}
 use Rattle.writer.specs.Answers.{wrote-answer}
 use Rattle.exporting.specs.Exports.{number-of}
 use mathlib.Core.List.{[], _∷_}
-use mathlib.Core.Path.{refl, _∙_}
 use borrow.Author.Needs.{needs}
 use Rattle.written.proofs.tell.Statement.{statement}
 use Rattle.written.proofs.tell.Tie as tie

@@ -13,9 +13,9 @@ use Rattle.format.specs.JobA.{bytes-a, bytes-a8}
 use Rattle.pinning.specs.PinSet.{lines, unpinned, fresh}
 use Rattle.pinning.specs.Check.{pin-fits, pins-fit, same-totals, fits, accept, checked}
 use Rattle.pinning.specs.Calls.{opened, open-call, refuse, take-in, with-pin, without-pin, call-tests, called, call-in, call, after, run}
 use Rattle.replaying.specs.Entries.{entry-fields, rate-field, choice-field, entry-under, entry-at, entries-from, plan-of, fits-under, entries-fit, shaped}
 use Rattle.replaying.specs.Calls as c
-use Rattle.replaying.specs.Cases.{Question, Reply, delayed, set-after, reply, questions, replies, Cases}
+use Rattle.cases.specs.Replaying.{Question, Reply, delayed, set-after, reply, questions, replies, Cases}
 
 pub cases : Cases
 unfolding base.evaluate evaluate computes on-read choice-under same-header bytes-a bytes-a8 lines unpinned fresh pin-fits pins-fit same-totals fits accept checked opened open-call refuse take-in with-pin without-pin call-tests called call-in call after run entry-fields rate-field choice-field entry-under entry-at entries-from plan-of fits-under entries-fit shaped c.replayed c.flat c.level-count c.played c.replay-tests c.replay-call c.reported c.report-tests c.report-call delayed set-after reply questions replies

@@ -8,9 +8,9 @@ use Rattle.model.specs.Pins.{Call, pin, lift}
 use Rattle.model.specs.Replay.{Totals}
 use Rattle.model.specs.Best.{Order, late, early, Aim, total, even}
 use Rattle.format.specs.JobA.{bytes-a, bytes-a8, bytes-e}
-use Rattle.replaying.specs.Cases.{delayed, set-after}
-use Rattle.planning.specs.Calls.{plan-call}
+use Rattle.cases.specs.Replaying.{delayed, set-after}
+use Rattle.planning.specs.Calls.{Planned, plan-call}
 use Rattle.planning.specs.See.{see-call}
 
 -- calls are made on the set that opening a job answers; then a plan is asked for with a table of so many words, all 9, and so many bytes for entries, all 7
 pub record Question : Type 0 where
@@ -25,12 +25,12 @@ pub record Reply : Type 0 where
   pub answer : Answer Totals
   pub entries : List ℕ
 
+unfoldable pub told : Planned → Reply
+told p = record { answer = p .answer; entries = p .entries }
+
 -- in an order
 unfoldable pub reply : Order → Question → Reply
-reply o q = record {
-  answer = plan-call (q .job) (set-after (q .job) (q .calls)) (q .aim) o (replicate (q .words) 9) (replicate (q .bytes) 7) .answer;
-  entries = plan-call (q .job) (set-after (q .job) (q .calls)) (q .aim) o (replicate (q .words) 9) (replicate (q .bytes) 7) .entries;
-}
+reply o q = told (plan-call (q .job) (set-after (q .job) (q .calls)) (q .aim) o (replicate (q .words) 9) (replicate (q .bytes) 7))
 
 abbrev pub asks-for : Aim → List ℕ → List Call → ℕ → ℕ → Question
 asks-for a b ks w n = record { job = b; calls = ks; aim = a; words = w; bytes = n }

@@ -13,18 +13,18 @@ use Rattle.pinning.specs.PinSet.{lines, unpinned, fresh}
 use Rattle.pinning.specs.Check.{pin-fits, pins-fit, same-totals, fits, accept, checked}
 use Rattle.pinning.specs.Calls.{opened, open-call, refuse, take-in, with-pin, without-pin, call-tests, called, call-in, call, call-of, click-tests, after, run}
 use Rattle.replaying.specs.Entries.{one-entry, entry-bytes}
-use Rattle.replaying.specs.Cases.{delayed, set-after}
-use Rattle.replaying.proofs.Cases.{map-at}
+use Rattle.cases.specs.Replaying.{delayed, set-after}
+use Rattle.cases.proofs.Replaying.{map-at}
 use Rattle.planning.specs.Words.{layer, layers, table-from}
 use Rattle.planning.specs.Calls as c
 use Rattle.model.specs.Best.{late, early}
-use Rattle.planning.specs.Cases.{Question, Reply, reply, questions, replies, early-replies, Cases, word-after, word-questions, words-expected, WordCases, look, own-table, sights, sights-told, SeeCases}
+use Rattle.cases.specs.Planning.{Question, Reply, told, reply, questions, replies, early-replies, Cases, word-after, word-questions, words-expected, WordCases, look, own-table, sights, sights-told, SeeCases}
 use Rattle.planning.specs.Rule.{coding-offer, pair-offer, least-offer, layer-from, choice-in, allowed-in, refill, refilled}
 use Rattle.planning.specs.See as see
 use Rattle.trellis.specs.Pairs.{row, rows}
 
 pub cases : Cases
-unfolding base.evaluate evaluate computes on-read choice-under choice-number same-header bytes-a bytes-a8 bytes-e lines unpinned fresh pin-fits pins-fit same-totals fits accept checked opened open-call refuse take-in with-pin without-pin call-tests called call-in call after run one-entry entry-bytes delayed set-after encode layer layers table-from c.refuse c.searched c.search-in c.plan-tests c.plan-in c.plan-call reply questions replies early-replies
+unfolding base.evaluate evaluate computes on-read choice-under choice-number same-header bytes-a bytes-a8 bytes-e lines unpinned fresh pin-fits pins-fit same-totals fits accept checked opened open-call refuse take-in with-pin without-pin call-tests called call-in call after run one-entry entry-bytes delayed set-after encode layer layers table-from c.refuse c.searched c.search-in c.plan-tests c.plan-in c.plan-call told reply questions replies early-replies
 cases = record { late-are = refl; early-are = refl }
 
 -- each case of the table, by its place

@@ -9,9 +9,9 @@ use Rattle.model.specs.Pins.{Call, pin, lift, PinTotals}
 use Rattle.model.specs.Replay.{Totals}
 use Rattle.format.specs.Parser as P
 use Rattle.format.specs.JobA.{bytes-a, bytes-e}
-use Rattle.planning.specs.Cases.{Reply, says, refuses}
+use Rattle.cases.specs.Planning.{Reply, told, says, refuses}
 use Rattle.calling.specs.Commands.{command}
-use Rattle.calling.specs.Sessions.{calls-call, session-call, input-call}
+use Rattle.calling.specs.Sessions.{Session, calls-call, session-call, input-call}
 
 -- command records: what stands at the front of the bytes
 unfoldable pub records : List (List ℕ)
@@ -48,10 +48,7 @@ record-replies =
 
 -- Job A with commands behind it, as the program reads it; the table has 80 words and there are 9 bytes for entries
 unfoldable pub input-reply : List ℕ → Reply
-input-reply commands = record {
-  answer = input-call (bytes-a ++ commands) (replicate 80 9) (replicate 9 7) .answer;
-  entries = input-call (bytes-a ++ commands) (replicate 80 9) (replicate 9 7) .entries;
-}
+input-reply commands = told (input-call (bytes-a ++ commands) (replicate 80 9) (replicate 9 7))
 
 abbrev pub pin-record : ℕ → ℕ → List ℕ
 pin-record u x = 6 ∷ 0 ∷ 6 ∷ 0 ∷ u ∷ 0 ∷ x ∷ 0 ∷ []
@@ -93,11 +90,11 @@ pub record Answers : Type 0 where
   pub numbers : List ℕ
   pub answer : Answer Totals
 
+unfoldable pub answered : Session → Answers
+answered r = record { numbers = r .answers; answer = r .planned .answer }
+
 unfoldable pub session-reply : List ℕ → Answers
-session-reply calls = record {
-  numbers = session-call bytes-a calls 0 0 (replicate 4 5) (replicate 80 9) (replicate 9 7) .answers;
-  answer = session-call bytes-a calls 0 0 (replicate 4 5) (replicate 80 9) (replicate 9 7) .planned .answer;
-}
+session-reply calls = answered (session-call bytes-a calls 0 0 (replicate 4 5) (replicate 80 9) (replicate 9 7))
 
 unfoldable pub sessions : List (List ℕ)
 sessions =
@@ -125,10 +122,7 @@ session-replies =
 
 -- Job E by the numbers of aim and order: the total, even pictures, and numbers that name neither, before a call of another kind or one that is cut
 unfoldable pub named-reply : List ℕ → Answers
-named-reply l = record {
-  numbers = session-call (bytes-e 12 31) (drop 2 l) (getD l 0 0) (getD l 1 0) (replicate 4 5) (replicate 40 9) (replicate 9 7) .answers;
-  answer = session-call (bytes-e 12 31) (drop 2 l) (getD l 0 0) (getD l 1 0) (replicate 4 5) (replicate 40 9) (replicate 9 7) .planned .answer;
-}
+named-reply l = answered (session-call (bytes-e 12 31) (drop 2 l) (getD l 0 0) (getD l 1 0) (replicate 4 5) (replicate 40 9) (replicate 9 7))
 
 unfoldable pub named-sessions : List (List ℕ)
 named-sessions =

@@ -1,0 +1,4 @@
+-- The tables of cases, computed from the definitions.
+pub mod Replaying
+pub mod Planning
+pub mod Calling
