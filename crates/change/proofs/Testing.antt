@@ -6,9 +6,9 @@ use mathlib.Core.Option.{none, some}
 use mathlib.Core.List.{List, [], _∷_}
 use native.Mathlib.Omega.{arith}
 use lib.ListN.{length}
-use borrow.Author.Tests.{lt-leb, le-leb}
+use borrow.Author.Tests.{lt-leb, le-leb, leb-true}
 use Rattle.base.specs.Refusals.{refusal}
-use Rattle.base.proofs.Refusals.{refusal-past, refusal-here, refusal-last}
+use Rattle.base.proofs.Refusals.{refusal-past, refusal-here, refusal-last, refusal-none}
 use Rattle.model.specs.Job.{Job, on-line, intervals}
 use Rattle.model.specs.Pins.{PinMap}
 use Rattle.model.specs.Step.{overfull}
@@ -16,7 +16,7 @@ use Rattle.model.specs.Replay.{totals}
 use Rattle.model.specs.Table.{layerWords, words}
 use Rattle.model.proofs.Lines.{intervals-on}
 use Rattle.format.specs.Limits.{limit, kept}
-use Rattle.format.proofs.Limits.{is-kept, not-kept}
+use Rattle.format.proofs.Limits.{is-kept, of-kept, not-kept}
 use Rattle.format.specs.JobBytes.{Header, job-in, Opens}
 use Rattle.format.proofs.Opened.{intervals-are}
 use Rattle.interval.specs.declared.Levels.{Levels}
@@ -96,3 +96,31 @@ module _ (b : List ℕ) (h : Header) (l : Line) (o : Opens b h) (m : PinMap) (ol
 
           pub is-none : entry-size * (h .units + h .delay) ≤ entries → none ≡ refusal (rest-tests J K m old s table entries)
           is-none g = sym (unfold rest-tests on-line in (refusal-past _ _ in-range ∙ refusal-past _ _ clean ∙ refusal-past _ _ fits) ∙ refusal-past _ _ (le-leb (words K) table (omega (arith, words-on))) ∙ refusal-last _ (le-leb (entry-size * intervals J) entries (omega (arith, count))))
+
+-- where no test of the rest refuses
+pub record Passed (b : List ℕ) (h : Header) (l : Line) (m : PinMap) (old : List ℕ) (s table entries : ℕ) : Type 0 where
+  pub some-entry : 1 ≤ s
+  pub less : s < h .units + h .delay
+  pub clean : is-clean (front (job-in b) m s old .result) ≡ true
+  pub fits : none-over (overfull (line-is l .buckets) (carried (job-in b) m s old .buckets)) ≡ true
+  pub room : words (job-on b l) ≤ table
+  pub space : entry-size * (h .units + h .delay) ≤ entries
+
+pub passed : (b : List ℕ) (h : Header) (l : Line) (o : Opens b h) (m : PinMap) (old : List ℕ) (s table entries : ℕ) → refusal (rest-tests (job-in b) (job-on b l) m old s table entries) ≡ none → Passed b h l m old s table entries
+unfolding rest-tests on-line
+passed b h l o m old s table entries e =
+    let n = intervals-are b h o in
+    let t = refusal-none _ _ e in
+    let u = refusal-none _ _ (t .1) in
+    let v = refusal-none _ _ (u .1) in
+    let w = refusal-none _ _ (v .1) in
+    let x = refusal-none _ _ (w .1) in
+    let k = of-kept (limit 18 1 (intervals (job-in b) - 1) s) (t .0) in
+    record {
+      some-entry = k .0;
+      less = omega (arith, k .0, k .1, n);
+      clean = u .0;
+      fits = v .0;
+      room = leb-true _ table (w .0);
+      space = omega (arith, n, leb-true (entry-size * intervals (job-in b)) entries (x .0));
+    }

@@ -4,8 +4,9 @@ use mathlib.Core.Path.{_≡_}
 use mathlib.Core.Option.{none}
 use mathlib.Core.List.{List}
 use lib.ListN.{length, getD, drop}
-use Rattle.base.specs.Refusals.{refusal}
+use Rattle.base.specs.Refusals.{refusal, guarded}
 use Rattle.model.specs.Job as model
+use Rattle.model.specs.Best.{Order}
 use Rattle.format.specs.JobBytes as format
 use Rattle.format.specs.JobBytes.{job-in}
 use Rattle.pinning.specs.PinSet.{PinSet, lines}
@@ -19,7 +20,9 @@ use Rattle.course.specs.Answers.{Shaped}
 use Rattle.front.specs.Answers.{SmallTotals}
 use Rattle.planner.specs.Answers.{Searches}
 use Rattle.replaying.specs.Entries.{entry-size}
-use Rattle.changing.specs.Calls.{rest-tests}
+use Rattle.planning.specs.Calls.{Planned, refuse}
+use Rattle.changing.specs.Contracts.{Contract, under}
+use Rattle.changing.specs.Calls.{rest-tests, change-tests, change-in}
 
 -- totals whose sums fit
 pub record Adds (a b : Totals) : Type 0 where
@@ -46,3 +49,10 @@ pub record Follows (b : List ℕ) (h : format.Header) (l : Line) (p : PinSet) (o
 -- nothing refuses to plan the rest over the line, with lists of these lengths
 abbrev pub Passes : List ℕ → Line → PinSet → List ℕ → ℕ → ℕ → ℕ → Type 0
 Passes b l p old s table entries = refusal (rest-tests (job-in b) (job-on b l) (lines (length (job-in b .units)) (p .pins)) old s table entries) ≡ none
+
+-- a change for a job that the set matches
+unfoldable pub changed-for : List ℕ → PinSet → List ℕ → ℕ → Contract → Order → List ℕ → List ℕ → Planned
+changed-for b p old s c o table entries =
+    let j = job-in b in
+    let m = lines (length (j .units)) (p .pins) in
+    guarded (refuse table entries) (change-tests j m old s c (length table) (length entries)) (change-in j (under j c) m old s o table entries)

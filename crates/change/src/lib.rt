@@ -23,7 +23,7 @@ ghost use Rattle.planning.specs.Calls.{search-in};
 ghost use Rattle.planner.specs.Answers.{planned};
 ghost use Rattle.contract.specs.Answers.{contract};
 ghost use Rattle.changing.specs.Calls.{none-over, rest-tests, change-tests, behind, change-in, change-call};
-ghost use Rattle.change.specs.Answers.{Adds, Continues, Follows, Passes};
+ghost use Rattle.change.specs.Answers.{Adds, Continues, Follows, Passes, changed-for};
 use best::Order;
 use front::Front;
 use header::Choice;
@@ -246,7 +246,7 @@ fn change_checked(
     entries: &mut [u8],
 ) -> Planned
     requires { ⌜ Ready (now job) (plain header) (set-of set) ⌝ }
-    ensures { λ r. ⌜ planned r (now (table .exit)) (now (entries .exit)) ≡ change-call (now (job .entry)) (set-of set) (now (old .entry)) first (contract (now (rates .entry)) (now (sizes .entry)) (now (drains .entry))) (order-is order) (now (table .entry)) (now (entries .entry)) ⌝ }
+    ensures { λ r. ⌜ planned r (now (table .exit)) (now (entries .exit)) ≡ changed-for (now (job .entry)) (set-of set) (now (old .entry)) first (contract (now (rates .entry)) (now (sizes .entry)) (now (drains .entry))) (order-is order) (now (table .entry)) (now (entries .entry)) ⌝ }
 {
     if let Verdict::Refused(n) = change_verdict(
         job,
