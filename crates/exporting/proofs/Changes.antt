@@ -31,7 +31,7 @@ use Rattle.values.specs.Lists.{buckets-in}
 use Rattle.exporting.specs.Exports.{room-for}
 use Rattle.exporting.specs.Sets.{SetPlanned, set-planned, after-plan}
 use Rattle.exporting.specs.Changes.{change-asked, set-change-refusal, change-export, Changing, ChangeConditions, Changes}
-use Rattle.exporting.proofs.Exports.{room-decides, all-tests, of-job, counted, given-zero, number-iff, number-kept, number-else, totals-put}
+use Rattle.exporting.proofs.Exports.{room-decides, whole, all-tests, of-job, counted, given-zero, number-iff, number-kept, number-else, totals-put}
 use Rattle.exporting.proofs.Sets.{where-all}
 
 -- tests that rely on none before them, and tests behind others
@@ -43,9 +43,9 @@ following-join : {ts us : List Test} {cs ds : List Condition} → Following ts c
 following-join changing.no-more e = e
 following-join (changing.one-more p q d) e = changing.one-more p q (λ h. following-join (d h) e)
 
-module _ (b set old : List ℕ) (s : ℕ) (c : Contract) (order : ℕ) (table entries values : List ℕ) where
-  abbrev found : planning.Planned
-  found = change-call b (set-in set) old s c (order-named order) table entries
+module _ (set old : List ℕ) (s : ℕ) (c : Contract) (order : ℕ) (table entries values : List ℕ) where
+  abbrev out : ℕ → SetPlanned
+  out n = set-planned n table entries values
 
   -- what is exported of a change of which the claim of `changing` holds
   exported-change : (j : Job) (r : planning.Planned) → ChangeClaim j (pins-of j (set-in set)) old s c (order-named order) table entries r → Changing j set old s c order table entries values (after-plan r values)
@@ -64,26 +64,35 @@ module _ (b set old : List ℕ) (s : ℕ) (c : Contract) (order : ℕ) (table en
   abbrev tests : Job → List Test
   tests j = change-asked j (pins-of j (set-in set)) order old s c (length table) (length entries)
 
-  -- what is asked behind the set, and room for so many values
-  asked-follows : (j : Job) → InLimits j → (least : ℕ) → Following (tests j ++ room-for least values) (condition 2 (Either 0) ∷ condition 2 (Either order) ∷ Asks j (pins-of j (set-in set)) old s c table entries ++ (condition 12 (least ≤ length values) ∷ []))
+  -- what is asked behind the set, then room for so many values; the aim, which is not named, is the total
+  abbrev Behind : Job → ℕ → List Condition
+  Behind j least = Asks j (pins-of j (set-in set)) old s c table entries ++ (condition 12 (least ≤ length values) ∷ [])
+
+  asked-follows : (j : Job) → InLimits j → (least : ℕ) → Following (tests j ++ room-for least values) (condition 2 (Either 0) ∷ condition 2 (Either order) ∷ Behind j least)
   unfolding change-asked
   asked-follows j l least = following-join (following-join (decided (named-decide 0 order)) (follows j l (pins-of j (set-in set)) old s c (order-named order) table entries)) (decided (room-decides least values))
 
-  abbrev whole : ℕ → SetPlanned
-  whole least = on-read (λ n. set-planned n table entries values) (checked opening b (set-in set)) (λ j. guarded (λ n. set-planned n table entries values) (tests j ++ room-for least values) (after-plan found values))
+  -- a change whose refusal is found first, then room for its values
+  module _ (b : List ℕ) (least : ℕ) (found : planning.Planned) where
+    abbrev exported : SetPlanned
+    exported = whole out (checked opening b (set-in set)) tests least values (after-plan found values)
 
-  changes-in-order : (least : ℕ) → Looks (whole least) (λ n. set-planned n table entries values) (parse opening b) (λ j. ChangeConditions j set old s c order table entries ++ (condition 12 (least ≤ length values) ∷ [])) (λ j. Changing j set old s c order table entries values (whole least))
-  unfolding on-read
-  changes-in-order least = (
-    λ n e. rw (checked-refused opening b (set-in set) n e),
-    λ j k e. (
-      λ f. rw (unmatched opening b j k e (set-in set) f),
-      λ f. in-turn (λ n. set-planned n table entries values) (asked-follows j (limits opening b j k e) least) (Changing j set old s c order table entries values) (after-plan found values) (whole least) (rw (matched opening b j k e (set-in set) f)) (λ h. exported-change j found (where-all found (refuse table entries) (Asks j (pins-of j (set-in set)) old s c table entries) (condition 12 (least ≤ length values) ∷ []) _ (change-calls b (set-in set) old s c (order-named order) table entries .1 j k e .1 f) (h .1 .1))) .1 (inl refl),
-    ),
-  )
+    in-tests : exported ≡ on-read out (checked opening b (set-in set)) (λ j. guarded out (tests j ++ room-for least values) (after-plan found values))
+    in-tests = all-tests out (checked opening b (set-in set)) tests least values (after-plan found values)
+
+    looks-change : ((j : Job) (k : ℕ) → parse opening b ≡ P.took j k → Matches j (set-in set) → AllHold (Behind j least) → ChangeClaim j (pins-of j (set-in set)) old s c (order-named order) table entries found) → Looks exported out (parse opening b) (λ j. condition 6 (Matches j (set-in set)) ∷ condition 2 (Either order) ∷ Behind j least) (λ j. Changing j set old s c order table entries values exported)
+    unfolding on-read
+    looks-change claimed = (
+      λ n e. in-tests ∙ rw (checked-refused opening b (set-in set) n e),
+      λ j k e. (
+        λ f. in-tests ∙ rw (unmatched opening b j k e (set-in set) f),
+        λ f. in-turn out (asked-follows j (limits opening b j k e) least) (Changing j set old s c order table entries values) (after-plan found values) exported (in-tests ∙ rw (matched opening b j k e (set-in set) f)) (λ h. exported-change j found (claimed j k e f (h .1 .1))) .1 (inl refl),
+      ),
+    )
 
 pub changes : Changes
 unfolding change-export set-change-refusal
 changes b set old s c order table entries values =
     of-job _ (λ n. set-planned n table entries values) opening b (λ j. ChangeConditions j set old s c order table entries) values _ (3 + buckets-in b) (λ j. 3 + length (j .line .buckets)) (λ j k e. ap (λ (n : ℕ). 3 + n) (counted opening b j k e))
-    (rw (all-tests (λ n. set-planned n table entries values) (checked opening b (set-in set)) (tests b set old s c order table entries values) (3 + buckets-in b) values (after-plan (found b set old s c order table entries values) values)) (changes-in-order b set old s c order table entries values (3 + buckets-in b)))
+    (looks-change set old s c order table entries values b (3 + buckets-in b) _
+    (λ j k e m. where-all _ (refuse table entries) (Asks j (pins-of j (set-in set)) old s c table entries) (condition 12 (_ ≤ length values) ∷ []) _ (change-calls b (set-in set) old s c (order-named order) table entries .1 j k e .1 m)))
