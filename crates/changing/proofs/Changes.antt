@@ -51,12 +51,12 @@ use Rattle.changing.proofs.Conditions.{offers-iff, draining-iff, rising
 use Rattle.changing.proofs.Front.{entries-take, read-both, sound-iff, carried-shows}
 
 -- tests that say what conditions say, where each may rely on the conditions before it
-data Following : List Test → List Condition → Type 1 where
+pub data Following : List Test → List Condition → Type 1 where
   no-more : Following [] []
   one-more : {t : Test} {c : Condition} {ts : List Test} {cs : List Condition} → t .number ≡ c .number → (t .passes ≡ true) ↔ c .Holds → (c .Holds → Following ts cs) → Following (t ∷ ts) (c ∷ cs)
 
 module _ {R : Type 0} (refuse : ℕ → R) where
-  in-turn : {ts : List Test} {cs : List Condition} → Following ts cs → (Else : R → Type 0) (r q : R) → q ≡ guarded refuse ts r → (AllHold cs → Else r) → InOrder q refuse cs (Else q)
+  pub in-turn : {ts : List Test} {cs : List Condition} → Following ts cs → (Else : R → Type 0) (r q : R) → q ≡ guarded refuse ts r → (AllHold cs → Else r) → InOrder q refuse cs (Else q)
   in-turn no-more Else r q e h = rw (e ∙ guarded-none refuse r) (h tt)
   in-turn (one-more {t} {c} {ts} {cs} p d s) Else r q e h = (fails (t .passes) refl, λ k. in-turn (s k) Else r q (e ∙ guarded-past refuse t ts r (d .1 k)) (λ rest. h (k, rest)))
     where
@@ -182,7 +182,7 @@ module _ (j : Job) (l : InLimits j) (m : PinMap) (old : List ℕ) (s : ℕ) (c :
   shown : (1 ≤ s) × (s < intervals j) → SoundFor j m 0 (j .start) (plan-of j old) s → Shows (ending j m 0 (j .start) (plan-of j old) s) (carried j m s old)
   shown w f = carried-shows j m old s (w .0) (w .1) (sound-iff j m old s (w .0) (w .1) .1 f)
 
-  follows : Following (change-tests j m old s c (length table) (length entries)) (Asks j m old s c table entries)
+  pub follows : Following (change-tests j m old s c (length table) (length entries)) (Asks j m old s c table entries)
   unfolding change-tests rest-tests
   follows =
       one-more refl (shapes j few-choices (omega (arith, l .rates)) .shaped-iff old)

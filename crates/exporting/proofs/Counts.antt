@@ -1,9 +1,9 @@
 -- How many numbers the totals have that a call gives: one for each bucket of the job's line beside those that every job has.
-use Prim.Native.Nat.{ℕ}
+use Prim.Native.Nat.{ℕ, _+_, _≤_}
 use mathlib.Core.Path.{_≡_, refl, sym, _∙_, ap, subst}
 use mathlib.Core.Bool.{Bool, true, false}
 use mathlib.Core.Option.{Option, none, some}
-use mathlib.Core.List.{List}
+use mathlib.Core.List.{List, [], _∷_, zipWith}
 use native.Mathlib.Omega.{arith}
 use lib.ListN.{length}
 use Rattle.base.specs.If.{if_then_else_}
@@ -15,7 +15,7 @@ use Rattle.base.proofs.Refusals.{Guarded, was-refused, was-done, guarded-is}
 use Rattle.model.specs.Job.{Levels, Job, Entry}
 use Rattle.model.specs.Pins.{PinMap}
 use Rattle.model.specs.Levels.{unusedTotals}
-use Rattle.model.specs.Replay.{Totals, totals, Result, clean, stopped, replay}
+use Rattle.model.specs.Replay.{Totals, totals, plus-each, plus, Result, clean, stopped, replay}
 use Rattle.model.specs.Best.{Order, least-total, Aim, open-for}
 use Rattle.format.specs.Parser as P
 use Rattle.format.specs.Parser.{on-read}
@@ -30,6 +30,8 @@ use Rattle.replaying.specs.Entries.{plan-of}
 use Rattle.pinning.proofs.Agree.{checked-parsed}
 use Rattle.planning.specs.Calls as p
 use Rattle.planning.specs.Calls.{searched, search-in, plan-in, plan-call}
+use Rattle.changing.specs.Contracts.{Contract}
+use Rattle.changing.specs.Calls.{both-totals, behind, change-in, change-call}
 use Rattle.calling.specs.Sessions as s
 use Rattle.calling.specs.Sessions.{made, aim-named, order-named, planned-after, session-call, replay-session}
 use Rattle.values.specs.Lists.{buckets-in}
@@ -70,7 +72,36 @@ search-counts j m a o table entries e = go (least-total j (open-for a j m 0 (j .
     go none = unfold searched in (no-count _ 13)
     go (some v) = unfold searched in (λ t q. ap (λ (x : Totals). length (x .unused)) (sym (gives-same q)) ∙ totals-count j (j .start) _ e)
 
+-- of a change of contract: the totals of both parts have no more than those of the first
+plus-count : (us vs : List ℕ) → length (plus-each us vs) ≤ length us
+unfolding plus-each zipWith
+plus-count [] vs = omega arith
+plus-count (u ∷ us) [] = omega arith
+plus-count (u ∷ us) (v ∷ vs) = omega (arith, plus-count us vs)
+
+abbrev pub FewCounts : ℕ → Answer Totals → Type 0
+FewCounts n a = (t : Totals) → a ≡ gives t → length (t .unused) ≤ n
+
+no-few : (n m : ℕ) → FewCounts n (refused m)
+no-few n m t e = absurd (not-refused (sym e))
+
+both-count : (n : ℕ) (before : Totals) → length (before .unused) ≡ n → (a : Answer Totals) → FewCounts n (both-totals before a)
+unfolding both-totals
+both-count n before e (refused m) = no-few n m
+both-count n before e (gives rest) = λ t q. omega (arith, ap (λ (x : Totals). length (x .unused)) (gives-same q), least)
+  where
+    least : length (plus before rest .unused) ≤ n
+    least = unfold plus in (omega (arith, plus-count (before .unused) (rest .unused)))
+
 module _ (b : List ℕ) where
+  pub change-counts : (set : PinSet) (old : List ℕ) (first : ℕ) (c : Contract) (o : Order) (table entries : List ℕ) → FewCounts (buckets-in b) (change-call b set old first c o table entries .answer)
+  unfolding change-call change-in behind p.refuse
+  change-counts set old first c o table entries =
+      read-all (λ (x : p.Planned). FewCounts (buckets-in b) (x .answer)) (p.refuse table entries) (checked opening b set) _ (λ n. no-few _ n)
+      (λ j k e.
+      let q : parse opening b ≡ P.took j k = checked-parsed opening b set j k e in
+      guarded-all (λ (x : p.Planned). FewCounts (buckets-in b) (x .answer)) (p.refuse table entries) _ _ (λ n. no-few _ n) (both-count (buckets-in b) _ (totals-count j (j .start) _ (well-read opening b j k q .well-formed .fills) ∙ of-job opening b j k q) _))
+
   pub plan-counts : (set : PinSet) (a : Aim) (o : Order) (table entries : List ℕ) → Counts (buckets-in b) (plan-call b set a o table entries .answer)
   unfolding plan-call plan-in p.refuse
   plan-counts set a o table entries =

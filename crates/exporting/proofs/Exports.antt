@@ -94,19 +94,20 @@ is-thirteen : {A : Type 0} (a : Answer A) → a ≡ refused 13 → number-of a �
 unfolding number-of
 is-thirteen a e = rw e
 
--- what the number tells of planning of which demand 3 holds, and which values it writes
-module _ (j : Job) (m : PinMap) (a : Aim) (o : Order) (table entries values : List ℕ) (r : planning.Planned) (c : PlanClaim j m a o 0 (j .start) table entries r) where
-  pub number-iff : (number-of (r .answer) ≡ 13) ↔ ((p : List Entry) → Admissible j m 0 (j .start) p → ⊥)
-  number-iff = (λ e. c .none-iff .0 (thirteen (r .answer) e), λ f. is-thirteen (r .answer) (c .none-iff .1 f))
+pub given-zero : {A : Type 0} (a : Answer A) (x : A) → a ≡ gives x → number-of a ≡ 0
+unfolding number-of
+given-zero a x e = rw e
 
-  pub number-kept : number-of (r .answer) ≡ 13 → (r .entries ≡ entries) × (put (r .answer) totals-list values ≡ values)
-  number-kept e = let none-is = thirteen (r .answer) e in (c .none-kept none-is, put-refused (r .answer) 13 totals-list values none-is)
+-- what the number tells of a plan, and which values it writes, where 13 is the answer exactly where there is `None`
+module _ (a : Answer Totals) where
+  pub number-iff : {None : Type 0} → (a ≡ refused 13) ↔ None → (number-of a ≡ 13) ↔ None
+  number-iff h = (λ e. h .0 (thirteen a e), λ f. is-thirteen a (h .1 f))
 
-  pub number-else : (number-of (r .answer) ≡ 13 → ⊥) → number-of (r .answer) ≡ 0
-  number-else f = zero (c .else-best (λ e. f (is-thirteen (r .answer) e)) .totals-are)
-    where
-      zero : {t : Totals} → r .answer ≡ gives t → number-of (r .answer) ≡ 0
-      zero e = unfold number-of in (rw e)
+  pub number-kept : {Kept : Type 0} (values : List ℕ) → (a ≡ refused 13 → Kept) → number-of a ≡ 13 → Kept × (put a totals-list values ≡ values)
+  number-kept values h e = let none-is = thirteen a e in (h none-is, put-refused a 13 totals-list values none-is)
+
+  pub number-else : ((a ≡ refused 13 → ⊥) → number-of a ≡ 0) → (number-of a ≡ 13 → ⊥) → number-of a ≡ 0
+  number-else h f = h (λ e. f (is-thirteen a e))
 
 pub totals-put : (x : Answer Totals) (t : Totals) (values : List ℕ) → x ≡ gives t → put x totals-list values ≡ over (t .distortion ∷ t .source ∷ t .channel ∷ t .unused) values
 unfolding totals-list
@@ -147,9 +148,9 @@ exported j calls aim order answers table entries values s c = record {
   is = unfold after-session in refl;
   lists = (refl, refl, refl);
   values-are = λ t e. totals-put (s .planned .answer) t values e;
-  none-iff = number-iff j _ _ _ table entries values (s .planned) (c .planning);
-  none-kept = λ e. let kept = number-kept j _ _ _ table entries values (s .planned) (c .planning) e in (c .none-kept (thirteen (s .planned .answer) e), kept .0, kept .1);
-  else-done = number-else j _ _ _ table entries values (s .planned) (c .planning);
+  none-iff = number-iff (s .planned .answer) (c .planning .none-iff);
+  none-kept = λ e. let kept = number-kept (s .planned .answer) values (c .planning .none-kept) e in (c .none-kept (thirteen (s .planned .answer) e), kept .0, kept .1);
+  else-done = number-else (s .planned .answer) (λ f. given-zero (s .planned .answer) _ (c .planning .else-best f .totals-are));
 }
 
 pub plans : Plans

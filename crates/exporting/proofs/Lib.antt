@@ -5,3 +5,4 @@ pub mod Counts
 pub mod SetRooms
 pub mod Exports
 pub mod Sets
+pub mod Changes

@@ -39,7 +39,7 @@ use Rattle.values.specs.Lists.{buckets-in}
 use Rattle.exporting.specs.Exports.{room-for, Filled, filled, replayed, after-replay}
 use Rattle.exporting.specs.Sets.{set-export, after-call, call-export, Seen, seen, after-see, see-export, set-planned, after-plan, set-plan-export, set-replay-export}
 use Rattle.exporting.specs.SetClaims.{SetOpening, SetCalls, SetSeen, SetSees, SetPlanning, SetPlans, SetReplaying, SetReplays}
-use Rattle.exporting.proofs.Exports.{replay-told, room-decides, whole, all-tests, of-job, counted, number-iff, number-kept, number-else, totals-put, looks-through}
+use Rattle.exporting.proofs.Exports.{replay-told, room-decides, whole, all-tests, of-job, counted, given-zero, number-iff, number-kept, number-else, totals-put, looks-through}
 
 pub set-opening : SetOpening
 unfolding set-export on-took
@@ -66,7 +66,7 @@ looks-set refuse d b s tests least values work conditions Else f =
     (λ j k e m. let h = f j k e m in (decides-join (h .0) (room-decides least values), h .1)))
 
 -- what an order of refusals says where its conditions hold, and others behind them
-where-all : {R : Type 0} (r : R) (refuse : ℕ → R) (cs ds : List Condition) (Else : Type 0) → InOrder r refuse cs Else → AllHold (cs ++ ds) → Else
+pub where-all : {R : Type 0} (r : R) (refuse : ℕ → R) (cs ds : List Condition) (Else : Type 0) → InOrder r refuse cs Else → AllHold (cs ++ ds) → Else
 where-all r refuse [] ds Else p h = p
 where-all r refuse (c ∷ cs) ds Else p h = where-all r refuse cs ds Else (p .1 (h .0)) (h .1)
 
@@ -110,11 +110,11 @@ exported-plan j set aim order table entries values r c = record {
   planned = r;
   claim = c;
   is = unfold after-plan in refl;
-  none-kept = number-kept j _ _ _ table entries values r c;
+  none-kept = number-kept (r .answer) values (c .none-kept);
   lists = (refl, refl);
   values-are = λ t e. totals-put (r .answer) t values e;
-  none-iff = number-iff j _ _ _ table entries values r c;
-  else-done = number-else j _ _ _ table entries values r c;
+  none-iff = number-iff (r .answer) (c .none-iff);
+  else-done = number-else (r .answer) (λ f. given-zero (r .answer) _ (c .else-best f .totals-are));
 }
 
 -- what planning asks behind the set

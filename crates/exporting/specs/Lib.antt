@@ -3,3 +3,4 @@ pub mod Exports
 pub mod Sets
 pub mod Claims
 pub mod SetClaims
+pub mod Changes

@@ -36,7 +36,7 @@ use Rattle.values.specs.Lists.{buckets-in, totals-list, totals-values}
 use Rattle.exporting.specs.Exports.{room-for, planned, after-session, plan-export}
 use Rattle.exporting.specs.Sets.{set-planned, after-plan, set-plan-export}
 use Rattle.exporting.proofs.Rooms.{before, few, behind}
-use Rattle.exporting.proofs.Counts.{plan-counts, session-counts}
+use Rattle.exporting.proofs.Counts.{FewCounts, plan-counts, session-counts}
 use Rattle.planned.specs.Answers.{Room, Told}
 
 module _ (job ks : List ℕ) (aim order : ℕ) (answers table entries values : List ℕ) where
@@ -65,6 +65,18 @@ plan-room b calls aim order answers table entries x a t e i n h best q =
     let c : length (totals-of best .unused) ≡ buckets-in b = session-counts b calls aim order answers table entries (totals-of best) (sym (ap (λ (y : Session). y .planned .answer) i) ∙ rw q) in
     omega arith
 
+-- the same of a plan that was found, by however many values its totals have
+pub found-room : (k : ℕ) (x : Planned) (t p : List ℕ) (found : planning.Planned) → planner.planned x t p ≡ found → FewCounts k (found .answer) → (n : ℕ) → 3 + k ≤ n → Room x n
+unfolding planner.planned planner.answered totals-values totals-list
+found-room k x t p found i few n h best q =
+    let c : length (totals-of best .unused) ≤ k = few (totals-of best) (sym (ap (λ (y : planning.Planned). y .answer) i) ∙ rw q) in
+    omega arith
+
+-- and what is told of it
+pub found-told : (x : Planned) (t p : List ℕ) (found : planning.Planned) → planner.planned x t p ≡ found → (values : List ℕ) (r : ℕ) (new : List ℕ) → Told x values r new → set-planned r t p new ≡ after-plan found values
+unfolding after-plan planner.planned
+found-told x t p found i values r new h = rw (← i, h .number, h .values)
+
 -- with a set in place of calls
 module _ (job l : List ℕ) (own : PinSet) (named : own ≡ set-in l) (aim order : ℕ) (table entries values : List ℕ) where
   abbrev O : Option ℕ
@@ -82,14 +94,10 @@ module _ (job l : List ℕ) (own : PinSet) (named : own ≡ set-in l) (aim order
     set-12 h = few (λ n. set-planned n table entries values) O (3 + buckets-in job) values _ e h ∙ sym export-is
 
     pub set-told : 3 + buckets-in job ≤ length values → (x : Planned) (t p : List ℕ) → planner.planned x t p ≡ plan-call job own (aim-named aim) (order-named order) table entries → (r : ℕ) (new : List ℕ) → Told x values r new → set-planned r t p new ≡ set-plan-export job l aim order table entries values
-    unfolding after-plan planner.planned
-    set-told room x t p i r new h = sym (export-is ∙ behind (λ n. set-planned n table entries values) O (3 + buckets-in job) values _ e room ∙ rw (← i, h .number, h .values))
+    set-told room x t p i r new h = found-told x t p _ i values r new h ∙ sym (export-is ∙ behind (λ n. set-planned n table entries values) O (3 + buckets-in job) values _ e room)
 
 pub set-room : (b : List ℕ) (own : PinSet) (a : Aim) (o : Order) (table entries : List ℕ) (x : Planned) (t p : List ℕ) → planner.planned x t p ≡ plan-call b own a o table entries → (n : ℕ) → 3 + buckets-in b ≤ n → Room x n
-unfolding planner.planned planner.answered totals-values totals-list
-set-room b own a o table entries x t p i n h best q =
-    let c : length (totals-of best .unused) ≡ buckets-in b = plan-counts b own a o table entries (totals-of best) (sym (ap (λ (y : planning.Planned). y .answer) i) ∙ rw q) in
-    omega arith
+set-room b own a o table entries x t p i = found-room (buckets-in b) x t p _ i (λ t e. omega (arith, plan-counts b own a o table entries t e))
 
 -- what refuses it, test by test
 module _ (b : List ℕ) (s : PinSet) (aim order table entries : ℕ) where

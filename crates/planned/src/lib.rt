@@ -16,10 +16,10 @@ use values::DONE;
 use values::SHORT_LIST;
 
 // A plan gives so many values, and one more for each bucket.
-const PLAN_VALUES: usize = 3;
+pub const PLAN_VALUES: usize = 3;
 
 // The number of what planning found, and its totals as values.
-fn tell(found: Planned, values: &mut [u64]) -> u32
+pub fn tell(found: Planned, values: &mut [u64]) -> u32
     requires { ⌜ Room found (length (now values)) ⌝ }
     ensures { λ r. ⌜ Told found (now (values .entry)) r (now (values .exit)) ⌝ }
 {

@@ -3,6 +3,8 @@
 ghost use mathlib.Core.Path.{_≡_};
 ghost use Rattle.format.specs.JobBytes.{opening, archive};
 ghost use Rattle.model.specs.Pins.{pin, lift};
+ghost use Rattle.contract.specs.Answers.{contract};
+ghost use Rattle.exporting.specs.Changes.{change-export};
 ghost use Rattle.exporting.specs.Sets.{set-export, call-export, seen, see-export, set-planned, set-plan-export, set-replay-export};
 ghost use Rattle.exporting.specs.Exports.{opened, open-export, called, calls-export, planned, plan-export, replayed, replay-export, filled, report-export, turn-export, written, write-export, trial-export};
 use header::Door;
@@ -172,6 +174,26 @@ pub extern "C" fn upload_turn(job: &[u8], old: &[u8], entries: &mut [u8]) -> u32
     ensures { λ r. ⌜ filled r (now (entries .exit)) ≡ turn-export (now (job .entry)) (now (old .entry)) (now (entries .entry)) ⌝ }
 {
     filled::turn(job, old, entries)
+}
+
+// Plans the rest of a programme afresh under a new contract, behind the first `first` entries of the old plan and from the levels that they led to, with the pins of a set, in the order that a number names: 0 early, 1 late. The contract: rates, and of each bucket a size and a drain. 13 writes the table alone. Values: as `upload_plan` gives them, of the whole plan, each interval by its own contract.
+#[no_mangle]
+pub extern "C" fn upload_change(
+    job: &[u8],
+    set: &[u32],
+    old: &[u8],
+    first: u32,
+    rates: &[u16],
+    sizes: &[u16],
+    drains: &[u16],
+    order: u32,
+    table: &mut [u32],
+    entries: &mut [u8],
+    values: &mut [u64],
+) -> u32
+    ensures { λ r. ⌜ set-planned r (now (table .exit)) (now (entries .exit)) (now (values .exit)) ≡ change-export (now (job .entry)) (now (set .entry)) (now (old .entry)) first (contract (now (rates .entry)) (now (sizes .entry)) (now (drains .entry))) order (now (table .entry)) (now (entries .entry)) (now (values .entry)) ⌝ }
+{
+    changed::change(job, set, old, first, rates, sizes, drains, order, table, entries, values)
 }
 
 // Writes a job from the nine fields of its header, or twelve, its rates, and sizes and distortions by unit and choice, unit after unit. Values: how many bytes the job took. Another number of fields is no header.
