@@ -20,6 +20,10 @@
    for UPLOAD_LATE the smaller one, and then the smaller choice index. The table,
    the total and whether there is a plan are the same in both orders.
 
+   A carrier may alter the contract, rates and buckets, while the programme is
+   sent. upload_change keeps what was sent under the old one and plans the rest
+   afresh under the new one, from the levels that were reached.
+
    The header says how many buckets there are: a job that opens has it in its
    byte 2, the kind of its first record, which is one of enum upload_header. With
    a second bucket planning and replay have a value more, and replay a level more
@@ -59,7 +63,7 @@
        upload_calls     opening    17
        upload_plan      opening    17
        upload_set, upload_pin, upload_lift, upload_pin_and_see,
-       upload_lift_and_see, upload_plan_set
+       upload_lift_and_see, upload_plan_set, upload_change
                         opening    17
        upload_archive   archive    opened, with the values that another drain has
        upload_replay    archive    replayed without pins: each call is refused
@@ -89,8 +93,11 @@ enum upload_refusal {
                                    of enum upload_aim, or an order none of enum upload_order; or a
                                    call's kind is neither a pin nor a lift */
     UPLOAD_HEADER = 3,          /* a field of the header is out of range, or the fields are not
-                                   nine or twelve */
-    UPLOAD_RATES = 4,           /* a rate is over 4,095, or the rates do not rise */
+                                   nine or twelve; of a new contract a size or a drain is out of
+                                   range, or there is another number of them than the job has
+                                   buckets, no rate or more than 16 */
+    UPLOAD_RATES = 4,           /* a rate is over 4,095, or the rates do not rise; also of a new
+                                   contract */
     UPLOAD_CHOICES = 5,         /* a choice's size or distortion is over its limit */
     UPLOAD_OTHER_JOB = 6,       /* the numbers are no set of pins of this job: they have another
                                    header, a pin that is no choice, totals that are not those of
@@ -102,13 +109,19 @@ enum upload_refusal {
     UPLOAD_NOT_PINNED = 10,     /* lift: the unit is not pinned */
     UPLOAD_TABLE_TOO_SHORT = 11,/* the table has fewer words than planning needs */
     UPLOAD_LIST_TOO_SHORT = 12, /* another list that is to be filled is too short */
-    UPLOAD_NO_PLAN = 13,        /* no plan is admissible */
+    UPLOAD_NO_PLAN = 13,        /* no plan is admissible; upload_change: none of the rest is */
     UPLOAD_NOT_A_PLAN = 14,     /* the entries are not 3 x T bytes, or one is out of range;
                                    upload_turn: the job has more than 31 choices, or the bytes
                                    were no plan of two bytes an interval */
     UPLOAD_INPUT_TOO_LONG = 15, /* the program `plan` alone: more than 32,768 bytes of input */
     UPLOAD_LENGTHS = 16,        /* a list's length is not what the header calls for */
-    UPLOAD_NEVER_DRAINS = 17    /* the drain of a bucket is 0: by the door of opening alone */
+    UPLOAD_NEVER_DRAINS = 17,   /* the drain of a bucket is 0: by the door of opening alone, and
+                                   of a new contract */
+    UPLOAD_NOT_WITHIN = 18,     /* upload_change: the interval after which the contract changes
+                                   is not from 1 to T - 1 */
+    UPLOAD_OLD_VIOLATION = 19,  /* upload_change: the old plan has a violation up to there */
+    UPLOAD_CARRIED_OVER = 20    /* upload_change: the level that a bucket has there is over its
+                                   new size */
 };
 
 /* Calls are numbers, three a call: one of these kinds, the unit (1 to N), the

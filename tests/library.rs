@@ -4,8 +4,9 @@
 //! every clean replay the balance of each bucket is asked besides, of even pictures
 //! that the least total gives them too once all choices above the greatest distortion
 //! are gone, of the report that a long delay takes little more time than a short one,
-//! of the archive that it takes what opening takes with another drain, and of a sitting
-//! that it comes to the set, the table and the plans of a fresh one with its pins.
+//! of the archive that it takes what opening takes with another drain, of a sitting that it
+//! comes to the set, the table and the plans of a fresh one with its pins, and of a change of
+//! contract that it plans the rest as a job of its own is planned.
 //!
 //! Build and run, where DIR holds libupload.a:
 //!
@@ -3931,6 +3932,9 @@ fn check_no_sitting(
     let mut values: Lent<u64> = Lent::new(rng, values);
     let (unit, choice) = (rng.from(0, 2) as u16, rng.from(0, 2) as u16);
     let (aim, order) = (rng.pick(&[TOTAL, EVEN, 2]), rng.pick(&[EARLY, LATE, 2]));
+    let old: Vec<u8> = (0..rng.from(0, 12)).map(|_| rng.next() as u8 % 3).collect();
+    let new = Contract { rates: vec![0, 2], sizes: vec![3; rng.from(0, 2)], drains: vec![1] };
+    let first = rng.from(0, 2) as u32;
     let found = [
         numbers::set(bytes, set.list()),
         numbers::pin(bytes, set.list(), unit, choice),
@@ -3946,8 +3950,19 @@ fn check_no_sitting(
             entries.list(),
             values.list(),
         ),
+        changed(
+            bytes,
+            set.held(),
+            &old,
+            first,
+            &new,
+            order,
+            table.list(),
+            entries.list(),
+            values.list(),
+        ),
     ];
-    same("calls that make or take a set", [number; 6], found)?;
+    same("calls that make or take a set", [number; 7], found)?;
     set.kept("set")?;
     table.kept("table")?;
     entries.kept("entries")?;
@@ -4316,12 +4331,12 @@ fn job_a_group() -> Result<String, String> {
     same("drain 0 written", Err(Refusal::NeverDrains), refused)?;
     same("its number", 17, Refusal::NeverDrains.number())?;
 
-    for number in 1..=17 {
+    for number in 1..=20 {
         let refusal = Refusal::from_number(number).ok_or(format!("no refusal {number}"))?;
         same("a refusal's number", number, refusal.number())?;
         ensure!(!refusal.to_string().is_empty(), "refusal {number} has no words");
     }
-    same("refusals beyond", (None, None), (Refusal::from_number(0), Refusal::from_number(18)))?;
+    same("refusals beyond", (None, None), (Refusal::from_number(0), Refusal::from_number(21)))?;
     Ok("as written".to_string())
 }
 
@@ -5466,6 +5481,34 @@ fn check_no_set(rng: &mut Rng, bytes: &[u8], job: &Job, list: &[u32]) -> Checked
     check_cut_set(rng, bytes, job, list, list.len())
 }
 
+/// A change of contract.
+fn changed(
+    job: &[u8],
+    set: &[u32],
+    old: &[u8],
+    first: u32,
+    contract: &Contract,
+    order: u32,
+    table: &mut [u32],
+    entries: &mut [u8],
+    values: &mut [u64],
+) -> u32 {
+    let Contract { rates, sizes, drains } = contract;
+    numbers::change(job, set, old, first, rates, sizes, drains, order, table, entries, values)
+}
+
+/// A new contract for the job's line that is its own, or out of range.
+fn any_contract(rng: &mut Rng, job: &Job) -> Contract {
+    let mut contract = Contract::of(job);
+    match rng.from(0, 3) {
+        0 => contract.rates.clear(),
+        1 => contract.sizes.push(0),
+        2 => contract.drains[0] = rng.pick(&[0, 4096]),
+        _ => (),
+    }
+    contract
+}
+
 /// The same of so many of the first numbers. The others stand behind them.
 fn check_cut_set(rng: &mut Rng, bytes: &[u8], job: &Job, list: &[u32], length: usize) -> Checked {
     let mut set = lent_with(rng, list);
@@ -5484,6 +5527,7 @@ fn check_cut_set(rng: &mut Rng, bytes: &[u8], job: &Job, list: &[u32], length: u
     let plan: Plan = (1..=job.intervals()).map(|t| random_entry(rng, job, t)).collect();
     let mut plan = plan_bytes(&plan);
     plan.truncate(rng.pick(&[0, plan.len(), plan.len()]));
+    let (first, new) = (rng.from(0, job.intervals()) as u32, any_contract(rng, job));
     let (cut, last) = (&mut set.list()[..length], values.list());
     let found = [
         numbers::pin(bytes, cut, unit, choice),
@@ -5492,8 +5536,9 @@ fn check_cut_set(rng: &mut Rng, bytes: &[u8], job: &Job, list: &[u32], length: u
         numbers::lift_and_see(bytes, cut, unit, table.list(), last),
         numbers::plan_set(bytes, cut, aim, order, table.list(), entries.list(), last),
         numbers::replay_set(bytes, cut, &plan, levels.list(), last),
+        changed(bytes, cut, &plan, first, &new, order, table.list(), entries.list(), last),
     ];
-    same("no set of the job", [6; 6], found)?;
+    same("no set of the job", [6; 7], found)?;
     set.wrote("what is no set", list)?;
     table.kept("table")?;
     values.kept("values")?;
@@ -6984,7 +7029,9 @@ fn check_undrained(rng: &mut Rng, bytes: &[u8], list: &[u32], plan: &Plan, wrong
     let mut set = lent_with(rng, list);
     let (mut table, mut entries): (Lent<u32>, Lent<u8>) = (Lent::new(rng, 2000), Lent::new(rng, 9));
     let mut values: Lent<u64> = Lent::new(rng, 7);
-    let lists = (table.list(), values.list());
+    let buckets = if list[0] == 8 { 2 } else { 1 };
+    let new = Contract { rates: vec![0, 2], sizes: vec![3; buckets], drains: vec![1; buckets] };
+    let (old, lists) = (plan_bytes(plan), (table.list(), values.list()));
     let found = [
         numbers::pin(bytes, set.list(), 1, 0),
         numbers::pin(bytes, set.list(), 3, 0),
@@ -6994,9 +7041,11 @@ fn check_undrained(rng: &mut Rng, bytes: &[u8], list: &[u32], plan: &Plan, wrong
         numbers::lift_and_see(bytes, set.list(), 1, lists.0, lists.1),
         numbers::plan_set(bytes, set.held(), TOTAL, LATE, lists.0, entries.list(), lists.1),
         numbers::plan_set(bytes, set.held(), EVEN, 9, lists.0, entries.list(), lists.1),
+        changed(bytes, set.held(), &old, 1, &new, EARLY, lists.0, entries.list(), lists.1),
+        changed(bytes, set.held(), &old[1..], 3, &new, 9, lists.0, entries.list(), lists.1),
         numbers::set(bytes, set.list()),
     ];
-    same("a job that never drains", [17; 9], found)?;
+    same("a job that never drains", [17; 11], found)?;
     let mut levels = vec![7; 9];
     let replayed =
         numbers::replay_set(bytes, set.held(), &plan_bytes(plan), &mut levels, &mut [7; 7]);
@@ -8331,6 +8380,1503 @@ fn harm_fields(rng: &mut Rng, fields: &mut Vec<u16>) {
 }
 
 // ---------------------------------------------------------------------------
+// A change of contract: what is asked, and what is due.
+// ---------------------------------------------------------------------------
+
+/// What a change is asked of. Anything in it may be wrong.
+#[derive(Clone)]
+struct Changing {
+    bytes: Vec<u8>,
+    set: Vec<u32>,
+    old: Vec<u8>,
+    first: u32,
+    contract: Contract,
+    order: u32,
+}
+
+impl Changing {
+    fn of(
+        bytes: &[u8],
+        set: Vec<u32>,
+        old: &[u8],
+        first: u32,
+        contract: &Contract,
+        order: Order,
+    ) -> Changing {
+        let (bytes, old, contract) = (bytes.to_vec(), old.to_vec(), contract.clone());
+        Changing { bytes, set, old, first, contract, order: order.number() }
+    }
+
+    /// What stands if nothing refuses the change before the lists are looked at, else the
+    /// first number due.
+    fn begun(&self) -> Result<Begun, Refusal> {
+        let job = read_job(&mut Reader { rest: &self.bytes })?;
+        let book = read_set(&job, &self.set).ok_or(6)?;
+        if ORDERS.iter().all(|order| order.number() != self.order) {
+            return Err(2);
+        }
+        let old = read_plan(&job, &self.old)?;
+        self.contract.judged(job.buckets.len())?;
+        let first = self.first as usize;
+        if first == 0 || first >= job.intervals() {
+            return Err(18);
+        }
+        let pins = pins_of(&job, &book);
+        let levels = carried(&job, &pins, &old, first).ok_or(19)?;
+        let sizes = self.contract.sizes.iter().map(|&size| size as i64);
+        if sizes.zip(levels.1).any(|(size, level)| level > size) {
+            return Err(20);
+        }
+        Ok(Begun { job, pins, old, first, levels })
+    }
+
+    fn typed_contract(&self) -> upload_planner::Contract<'_> {
+        let Contract { rates, sizes, drains } = &self.contract;
+        upload_planner::Contract { rates, sizes, drains }
+    }
+
+    /// What to type again to see a failure.
+    fn failed(&self, trouble: &str) -> String {
+        let Changing { bytes, old, first, contract, order, .. } = self;
+        let pins = self.set.get(SET_PINS..SET_TOTALS).map_or(vec![], |pins| {
+            let pinned = pins.iter().enumerate().filter(|(_, &pin)| pin != NO_PIN);
+            pinned.map(|(at, &pin)| (at + 1, pin)).collect()
+        });
+        format!(
+            "{trouble}\n  job {}\n  {} numbers, pins {pins:?}\n  old plan {}, first {first}, \
+             {contract:?}, order {order}",
+            hex(bytes),
+            self.set.len(),
+            hex(old)
+        )
+    }
+}
+
+/// A change that nothing refuses before the lists are looked at.
+struct Begun {
+    job: Job,
+    pins: Pins,
+    old: Plan,
+    first: usize,
+    /// What the decoder and the buckets hold after the first intervals.
+    levels: (i64, Levels),
+}
+
+impl Begun {
+    /// The lengths needed: table, entries, values.
+    fn needs(&self, contract: &Contract) -> [usize; 3] {
+        let layers = self.job.intervals() + 1;
+        let rows = self.job.decoder_size as usize + 1;
+        let width: usize = contract.sizes.iter().map(|&size| size as usize + 1).product();
+        [layers * rows * width, ENTRY_BYTES * self.job.intervals(), plan_values(&self.job)]
+    }
+
+    /// The intervals up to the change as a job of its own, which may have no unit.
+    fn head(&self) -> (Job, Pins) {
+        let shown = self.first.saturating_sub(self.job.delay);
+        let mut head = self.job.clone();
+        head.delay = head.delay.min(self.first);
+        head.units.truncate(shown);
+        (head, self.pins[..shown].to_vec())
+    }
+
+    fn rest(&self, contract: &Contract) -> (Job, Pins) {
+        rest_of(&self.job, &self.pins, self.first, contract, self.levels)
+    }
+
+    /// The old entries that remain, then those of the rest.
+    fn whole(&self, rest: Plan) -> Plan {
+        [&self.old[..self.first], &rest].concat()
+    }
+
+    /// What is due by the table of the rest: the layers from `first` on, and whole plans.
+    fn due(&self, contract: &Contract) -> Due {
+        let (rest, pins) = self.rest(contract);
+        let table = fast_table(&rest, &pins);
+        let plans = read_off(&rest, &pins, &table).map(|plan| Some(self.whole(plan?)));
+        Due { table, plans }
+    }
+
+    /// What is due by trying everything.
+    fn tried(&self, contract: &Contract) -> (Due, usize) {
+        let table = completed_layers(&self.job, &self.pins, self.first, contract);
+        let all = continued(&self.job, &self.pins, &self.old, self.first, contract);
+        (Due { table, plans: all.best }, all.equals)
+    }
+
+    /// The totals of a whole plan, each interval by its own contract: followed step by step
+    /// from the starting levels, and by sums of each part. The levels of both are the same,
+    /// and every grain is accounted for.
+    fn totals(&self, contract: &Contract, plan: &Plan) -> Result<Vec<u64>, String> {
+        let mut levels: Vec<u16> = Vec::new();
+        let totals = replay_changed(
+            &self.job,
+            &self.pins,
+            self.first,
+            contract,
+            plan,
+            |decoder, buckets| {
+                levels.push(decoder as u16);
+                levels.extend(buckets.iter().map(|&level| level as u16));
+            },
+        );
+        let totals = totals.ok_or("the plan due is not admissible")?;
+        let values: Vec<u64> = totals.numbers().into_iter().map(|total| total as u64).collect();
+
+        let ((head, head_pins), (rest, rest_pins)) = (self.head(), self.rest(contract));
+        let [before, after] = [&plan[..self.first], &plan[self.first..]].map(<[_]>::to_vec);
+        let parts = [follow(&head, &head_pins, &before), follow(&rest, &rest_pins, &after)];
+        same(
+            "the levels of both parts",
+            &levels,
+            &[&parts[0].levels[..], &parts[1].levels].concat(),
+        )?;
+        let both = parts[0].values.iter().zip(&parts[1].values).map(|(one, other)| one + other);
+        same("the values of both parts", [&[0, 0], &values[..]].concat(), both.collect())?;
+
+        let last = &levels[levels.len() - self.job.buckets.len()..];
+        let left = (self.job.intervals() - self.first) as i64;
+        for (at, bucket) in self.job.buckets.iter().enumerate() {
+            let drained = self.first as i64 * bucket.drain + left * contract.drains[at] as i64;
+            let come = bucket.start + totals.channel + totals.unused[at];
+            same("the balance of both parts", drained + last[at] as i64, come)?;
+        }
+        Ok(values)
+    }
+}
+
+/// The lists that a change is lent, the set among them.
+struct ChangeLists {
+    set: Lent<u32>,
+    table: Lent<u32>,
+    entries: Lent<u8>,
+    values: Lent<u64>,
+}
+
+impl ChangeLists {
+    /// `lengths`: table, entries, values.
+    fn new(rng: &mut Rng, asked: &Changing, lengths: [usize; 3]) -> ChangeLists {
+        ChangeLists {
+            set: lent_with(rng, &asked.set),
+            table: Lent::new(rng, lengths[0]),
+            entries: Lent::new(rng, lengths[1]),
+            values: Lent::new(rng, lengths[2]),
+        }
+    }
+
+    fn change(&mut self, asked: &Changing) -> u32 {
+        let Changing { bytes, old, first, contract, order, .. } = asked;
+        let lists = (self.table.list(), self.entries.list(), self.values.list());
+        changed(bytes, self.set.held(), old, *first, contract, *order, lists.0, lists.1, lists.2)
+    }
+
+    fn kept(&self, asked: &Changing) -> Checked {
+        self.table.kept("table")?;
+        self.kept_but_table(asked)
+    }
+
+    fn kept_but_table(&self, asked: &Changing) -> Checked {
+        self.set.wrote("set", &asked.set)?;
+        self.entries.kept("entries")?;
+        self.values.kept("values")
+    }
+}
+
+/// The change is refused by this number, and writes nothing. `lengths`: table, entries,
+/// values.
+fn check_unchanged(rng: &mut Rng, asked: &Changing, number: u32, lengths: [usize; 3]) -> Checked {
+    let mut lent = ChangeLists::new(rng, asked, lengths);
+    same(&format!("change in lists of {lengths:?}"), number, lent.change(asked))?;
+    lent.kept(asked)
+}
+
+/// Asks for the change with one of the lists one short, then with lists of just enough or
+/// somewhat more, and compares all that is written: of the table the layers from `first` on.
+/// Gives the number due.
+fn check_change(rng: &mut Rng, asked: &Changing, begun: &Begun, due: &Due) -> Result<u32, String> {
+    let needs = begun.needs(&asked.contract);
+    let lengths = one_short(needs, rng.from(0, 2)).expect("needed");
+    let short = if lengths[0] < needs[0] { 11 } else { 12 };
+    check_unchanged(rng, asked, short, lengths)?;
+    let lengths = needs.map(|need| need + slack(rng));
+    check_change_in(rng, asked, begun, due, lengths)
+}
+
+/// The same in lists of these lengths, which are long enough.
+fn check_change_in(
+    rng: &mut Rng,
+    asked: &Changing,
+    begun: &Begun,
+    due: &Due,
+    lengths: [usize; 3],
+) -> Result<u32, String> {
+    let mut lent = ChangeLists::new(rng, asked, lengths);
+    let layers = begun.job.intervals() + 1 - begun.first;
+    let before = begun.first * (due.table.len() / layers);
+    let words = [&lent.table.held()[..before], &due.table].concat();
+    let number = lent.change(asked);
+    let Some(plan) = &due.plans[asked.order as usize] else {
+        same("change", 13, number)?;
+        lent.table.wrote("table", &words)?;
+        lent.kept_but_table(asked)?;
+        return Ok(13);
+    };
+    same("change", 0, number)?;
+    lent.table.wrote("table", &words)?;
+    lent.set.wrote("set", &asked.set)?;
+    lent.entries.wrote("entries", &plan_bytes(plan))?;
+    lent.values.wrote("values", &begun.totals(&asked.contract, plan)?)?;
+    Ok(0)
+}
+
+/// The typed functions give what the numbers give: with calls that set the pins in any
+/// order, and in a session. Where an order is wrong or a set they cannot be asked.
+fn check_typed_change(rng: &mut Rng, asked: &Changing, due: Option<&Due>) -> Checked {
+    let job = read_job(&mut Reader { rest: &asked.bytes });
+    let book = job.as_ref().map_or(Some(Book::new()), |job| read_set(job, &asked.set));
+    let order = ORDERS.into_iter().find(|order| order.number() == asked.order);
+    let (Some(book), Some(order)) = (book, order) else { return Ok(()) };
+    let pins = job.as_ref().map_or(vec![], |job| pins_of(job, &book));
+    let calls: Vec<Call> = fresh_calls(rng, &pins).chunks(3).map(typed_call).collect();
+    let (bytes, old, first) = (&asked.bytes, &asked.old, asked.first);
+    let (contract, order) = (asked.typed_contract(), typed_order(order));
+    let begun = asked.begun();
+    let number = match (&begun, due) {
+        (Err(number), _) => *number as u32,
+        (Ok(_), Some(due)) if due.plans[asked.order as usize].is_none() => 13,
+        _ => 0,
+    };
+    let found = upload_planner::changed(bytes, &calls, old, first, contract, order);
+    if job.is_ok() {
+        let mut session = upload_planner::Session::open(bytes).map_err(|r| r.to_string())?;
+        for (&unit, &choice) in &book {
+            session.pin(unit as u16, choice as u16).map_err(|refusal| refusal.to_string())?;
+        }
+        let best = session.best_total();
+        let kept = session.change(old, first, contract, order);
+        let answers = vec![Ok(()); book.len()];
+        let kept = kept.map(|kept| upload_planner::BestPlan { answers, ..kept });
+        ensure!(kept == found, "a session's change is another");
+        same("a session's total after a change", best, session.best_total())?;
+    }
+    let (mut table, mut entries) = (Vec::new(), Vec::new());
+    if let (Ok(begun), Some(due)) = (&begun, due) {
+        let needs = begun.needs(&asked.contract);
+        let words = contract.table_words(begun.job.intervals(), begun.job.decoder_size as u16);
+        same("typed words", needs[0], words)?;
+        table = vec![0; needs[0] - due.table.len()];
+        table.extend(&due.table);
+        entries = vec![0; needs[1]];
+    }
+    let mut words = vec![0; table.len()];
+    let lent = (&mut words, &mut entries);
+    let totals = upload_planner::change(bytes, &calls, old, first, contract, order, lent.0, lent.1);
+    same("typed change", number, totals.err().map_or(0, |refusal| refusal.number()))?;
+    ensure!(words == table, "the typed table is another");
+    let found = match found {
+        Ok(found) => found,
+        Err(refusal) => return same("owned change", number, refusal.number()),
+    };
+    same("owned change", number, 0)?;
+    let (Ok(begun), Some(due)) = (&begun, due) else { return Ok(()) };
+    let plan = due.plans[asked.order as usize].as_ref().expect("a plan");
+    let values = typed_totals(&begun.totals(&asked.contract, plan)?);
+    same("typed totals", (Ok(values), values), (totals, found.totals))?;
+    same("typed entries", [plan_bytes(plan), plan_bytes(plan)], [entries, found.entries])?;
+    ensure!(found.table == table, "the owned table is another");
+    same("owned answers", vec![0; book.len()], answer_numbers(&found.answers))
+}
+
+/// What a change is asked of where nothing is wrong with its job.
+fn changing(
+    asked: &Asked,
+    book: &Book,
+    old: &[u8],
+    first: u32,
+    contract: &Contract,
+    order: Order,
+) -> Changing {
+    let set = set_numbers(&asked.job, book);
+    Changing::of(&asked.bytes, set, old, first, contract, order)
+}
+
+fn book_of(pins: &Pins) -> Book {
+    let pinned = pins.iter().enumerate().filter_map(|(at, pinned)| Some((at + 1, (*pinned)?)));
+    pinned.collect()
+}
+
+fn contract(rates: &[u16], sizes: &[u16], drains: &[u16]) -> Contract {
+    Contract { rates: rates.to_vec(), sizes: sizes.to_vec(), drains: drains.to_vec() }
+}
+
+// ---------------------------------------------------------------------------
+// Changes by hand, and every change of Job A.
+// ---------------------------------------------------------------------------
+
+/// Job A's layers 1 to 3 by hand, under rates of 0, 1 and 3, a bucket of 2 and a drain of 1: a
+/// row for each decoder level, a word for each bucket level. Unit 2 takes 2 grains: from
+/// nothing 3 must be sent, which only the empty bucket takes. Unit 1 at choice 0 needs a peak
+/// of just 4, and after it an empty bucket.
+const CHANGED_A: [[[u32; 3]; 5]; 3] = [
+    [[70, NEVER, NEVER], [70, NEVER, NEVER], [70; 3], [50, 70, 70], [50, 50, 70]],
+    [[40, NEVER, NEVER], [40; 3], [40; 3], [40; 3], [40; 3]],
+    [[0; 3]; 5],
+];
+
+/// Changes of Job A's contract, worked out by hand. Early its plan sends 4, 0 and 4 and has
+/// levels 4 2, 0 0 and 2 2; late it sends 0, 4 and 2 and has levels 0 0, 0 2 and 0 2.
+fn changes_by_hand_group() -> Result<String, String> {
+    let mut rng = Rng(1);
+    // The old plan, after how many intervals it is left, and by what it is to go on, with the
+    // values of the whole; or the number due.
+    type Row<'a> = (
+        &'a [(usize, usize)],
+        [u8; 9],
+        u32,
+        &'a Contract,
+        Order,
+        Result<(&'a [u8], &'a [u64]), u32>,
+    );
+    let (early, late) = (Order::Early, Order::Late);
+    let lower = contract(&[0, 1, 3], &[2], &[1]);
+    let wider = contract(&[0, 1, 2, 3, 4, 5], &[0], &[4]);
+    let (one_rate, none_fits) = (contract(&[2], &[2], &[2]), contract(&[0, 4], &[1], &[2]));
+    let [to_0, to_1, to_2, to_3] =
+        [0, 1, 2, 3].map(|size: u16| contract(&[0, 2, 4], &[size], &[2]));
+    // Plans by which two or four grains more than the decoder holds come in interval 2, and
+    // one by which it holds two too few in interval 3.
+    let over = [2, 255, 255, 1, 0, 0, 0, 0, 0];
+    let far_over = [2, 255, 255, 2, 0, 0, 0, 0, 0];
+    let short = [2, 255, 255, 0, 0, 0, 0, 1, 0];
+    let one: [Row; 34] = [
+        // After 4 grains the decoder is full, and interval 2 sends none. Three grains do not
+        // go into the bucket after that, so that unit 1 leaves two for unit 2.
+        (&[], EARLY_A, 1, &lower, early, Ok((&[0, 1, 0, 1, 1, 0], &[70, 4, 5, 0]))),
+        (&[], EARLY_A, 1, &lower, late, Ok((&[0, 1, 0, 0, 1, 0], &[70, 4, 4, 0]))),
+        // After interval 2 both are empty: three grains bring the bucket to its 2.
+        (&[], EARLY_A, 2, &lower, early, Ok((&[2, 1, 0], &[50, 6, 7, 0]))),
+        (&[], EARLY_A, 2, &lower, late, Ok((&[2, 1, 0], &[50, 6, 7, 0]))),
+        // The late plan has left 2 in the bucket by then, and unit 2 needs 3 grains of it.
+        (&[], LATE_A, 2, &lower, early, Err(13)),
+        (&[], LATE_A, 2, &one_rate, late, Ok((&[0, 1, 0], &[50, 6, 6, 2]))),
+        // All that is sent leaves at once. Of the old drain 2 went by, of the new one 0 or 2.
+        (&[], LATE_A, 1, &wider, early, Ok((&[4, 0, 0, 4, 1, 0], &[50, 6, 8, 2]))),
+        (&[], LATE_A, 1, &wider, late, Ok((&[4, 0, 0, 2, 1, 0], &[50, 6, 6, 4]))),
+        // Nothing changes, and what remains of a plan is as it was. After interval 2 of the
+        // late plan that is so in the early order too: four grains do not go into the bucket.
+        (&[], EARLY_A, 1, &to_3, early, Ok((&EARLY_A[3..], &[50, 6, 8, 0]))),
+        (&[], EARLY_A, 2, &to_3, early, Ok((&EARLY_A[6..], &[50, 6, 8, 0]))),
+        (&[], LATE_A, 1, &to_3, late, Ok((&LATE_A[3..], &[50, 6, 6, 2]))),
+        (&[], LATE_A, 2, &to_3, late, Ok((&LATE_A[6..], &[50, 6, 6, 2]))),
+        (&[], LATE_A, 2, &to_3, early, Ok((&LATE_A[6..], &[50, 6, 6, 2]))),
+        // Unit 1 is decoded in interval 2. A pin that the old plan does not hold is too late
+        // after that, and binds the rest before it.
+        (&[(1, 1)], EARLY_A, 1, &to_3, early, Ok((&[0, 1, 0, 1, 1, 0], &[70, 4, 6, 0]))),
+        (&[(1, 1)], EARLY_A, 2, &to_3, early, Err(19)),
+        (&[(1, 0)], EARLY_A, 2, &to_3, early, Ok((&EARLY_A[6..], &[50, 6, 8, 0]))),
+        (&[(1, 0)], EARLY_A, 1, &lower, early, Err(13)),
+        (&[(2, 0)], EARLY_A, 2, &to_3, early, Err(13)),
+        (&[(1, 1), (2, 0)], EARLY_A, 2, &to_3, late, Err(19)),
+        // The bucket has 2 after interval 1 of the early plan, and nothing after interval 2.
+        (&[], EARLY_A, 1, &to_1, early, Err(20)),
+        (&[], EARLY_A, 1, &to_0, late, Err(20)),
+        (&[], EARLY_A, 1, &to_2, early, Ok((&EARLY_A[3..], &[50, 6, 8, 0]))),
+        (&[], EARLY_A, 2, &to_0, early, Ok((&[1, 1, 0], &[50, 6, 6, 0]))),
+        // It takes two grains at a time, so that unit 1 has its choice 1; and four never.
+        (&[], LATE_A, 1, &to_0, early, Ok((&[1, 1, 0, 1, 1, 0], &[70, 4, 4, 2]))),
+        (&[], LATE_A, 1, &to_1, late, Ok((&[1, 1, 0, 1, 1, 0], &[70, 4, 4, 2]))),
+        (&[], LATE_A, 1, &none_fits, early, Err(13)),
+        // Outside of the programme.
+        (&[], EARLY_A, 0, &to_3, early, Err(18)),
+        (&[], EARLY_A, 3, &to_3, early, Err(18)),
+        (&[], EARLY_A, 65_537, &to_3, early, Err(18)),
+        // What is wrong in interval 2 is seen by a change after it, and not by one before.
+        (&[], over, 2, &to_3, early, Err(19)),
+        (&[], over, 1, &to_3, early, Ok((&EARLY_A[3..], &[50, 6, 8, 0]))),
+        // There the bucket has 2 + 4 - 2, over its new size; that comes after.
+        (&[], far_over, 2, &to_1, early, Err(19)),
+        (&[], far_over, 1, &to_1, early, Err(20)),
+        // The last interval is never among the first.
+        (&[], short, 2, &to_3, early, Ok((&EARLY_A[6..], &[50, 6, 8, 0]))),
+    ];
+    let [two, two_one, one_two, one_one, two_none] = [[2, 2], [2, 1], [1, 2], [1, 1], [2, 0]]
+        .map(|sizes: [u16; 2]| contract(&[0, 1, 3], &sizes, &[1, 2]));
+    let two: [Row; 7] = [
+        // Both buckets have 2 after interval 1. In the last interval one grain goes into the
+        // first, from which one drains, and the second's drain of 2 finds no other.
+        (&[], EARLY_A, 1, &two, early, Ok((&[0, 1, 0, 1, 1, 0], &[70, 4, 5, 0, 1]))),
+        (&[], EARLY_A, 1, &two, late, Ok((&[0, 1, 0, 0, 1, 0], &[70, 4, 4, 0, 2]))),
+        (&[], EARLY_A, 1, &two_one, early, Err(20)),
+        (&[], EARLY_A, 1, &one_two, early, Err(20)),
+        (&[], EARLY_A, 1, &one_one, early, Err(20)),
+        (&[], EARLY_A, 2, &two_none, early, Err(13)),
+        (&[], EARLY_A, 2, &two_one, early, Ok((&[2, 1, 0], &[50, 6, 7, 0, 0]))),
+    ];
+    let mut rows = 0;
+    for (draft, list) in [(job_a(), &one[..]), (job_a().doubled(SECOND_A), &two[..])] {
+        let asked = Asked::new(&mut rng, &draft);
+        for &(pins, old, first, new, order, found) in list {
+            let book: Book = pins.iter().copied().collect();
+            let ask = changing(&asked, &book, &old, first, new, order);
+            let mut check = || -> Checked {
+                let begun = match ask.begun() {
+                    Ok(begun) => begun,
+                    Err(number) => {
+                        same("by hand", found.map(|_| ()), Err(number as u32))?;
+                        check_unchanged(&mut rng, &ask, number as u32, [500, 12, 7])?;
+                        return check_typed_change(&mut rng, &ask, None);
+                    }
+                };
+                let due = begun.due(new);
+                let other = match plan_in(order, &due.plans) {
+                    Some(plan) => Ok((plan_bytes(plan), begun.totals(new, plan)?)),
+                    None => Err(13),
+                };
+                let whole = |rest: &[u8]| [&old[..ENTRY_BYTES * begun.first], rest].concat();
+                let by_hand = found.map(|(rest, values)| (whole(rest), values.to_vec()));
+                same("by hand", &by_hand, &other)?;
+                check_change(&mut rng, &ask, &begun, &due)?;
+                check_typed_change(&mut rng, &ask, Some(&due))
+            };
+            check().map_err(|trouble| ask.failed(&trouble))?;
+            rows += 1;
+        }
+    }
+    // The table by hand.
+    let asked = Asked::new(&mut rng, &job_a());
+    for first in 1..=2 {
+        let ask = changing(&asked, &Book::new(), &EARLY_A, first, &lower, early);
+        let begun = ask.begun().map_err(|number| format!("refused: {number}"))?;
+        let table = CHANGED_A[first as usize - 1..].concat().concat();
+        same("the table by hand", &table, &begun.due(&lower).table)?;
+        let (plans, _) = begun.tried(&lower);
+        check_change(&mut rng, &ask, &begun, &Due { table, plans: plans.plans })?;
+    }
+    Ok(format!("{rows} changes"))
+}
+
+/// Every plan of Job A, after each of its intervals, with some pins and under some contracts:
+/// every continuation is tried.
+fn every_change_group() -> Result<String, String> {
+    let mut rng = Rng(1);
+    let mut tally: BTreeMap<u32, usize> = BTreeMap::new();
+    let books = [
+        Book::new(),
+        Book::from([(1, 0)]),
+        Book::from([(1, 1)]),
+        Book::from([(2, 0)]),
+        Book::from([(1, 1), (2, 1)]),
+    ];
+    let contracts = [
+        ([0, 2, 4].to_vec(), [3, 2], [2, 2]),
+        ([0, 1, 3].to_vec(), [2, 2], [1, 2]),
+        ([0, 1, 2, 3, 4, 5].to_vec(), [5, 3], [1, 4]),
+        ([2].to_vec(), [2, 2], [2, 1]),
+        ([0, 4].to_vec(), [1, 0], [4, 4095]),
+        ([1, 2, 3, 4095].to_vec(), [0, 1], [3, 3]),
+    ];
+    for draft in [job_a(), job_a().doubled(SECOND_A)] {
+        let asked = Asked::new(&mut rng, &draft);
+        let count = asked.job.buckets.len();
+        let mut old: Plan = vec![(0, NO_CHOICE), (0, 0), (0, 0)];
+        loop {
+            for (at, (rates, sizes, drains)) in contracts.iter().enumerate() {
+                let new = contract(rates, &sizes[..count], &drains[..count]);
+                // In a small run one of them each time.
+                if small() && rng.from(0, 11) != at {
+                    continue;
+                }
+                for (book, first) in books.iter().flat_map(|book| [(book, 1), (book, 2)]) {
+                    let order = rng.pick(&ORDERS);
+                    let ask = changing(&asked, book, &plan_bytes(&old), first, &new, order);
+                    let mut check = || -> Result<u32, String> {
+                        match ask.begun() {
+                            Err(number) => {
+                                check_unchanged(&mut rng, &ask, number as u32, [500, 12, 7])?;
+                                Ok(number as u32)
+                            }
+                            Ok(begun) => {
+                                let (due, _) = begun.tried(&new);
+                                same("the rest as a job", &due.table, &begun.due(&new).table)?;
+                                check_change(&mut rng, &ask, &begun, &due)
+                            }
+                        }
+                    };
+                    let number = check().map_err(|trouble| ask.failed(&trouble))?;
+                    *tally.entry(number).or_default() += 1;
+                }
+            }
+            if !next_plan(&asked.job, &mut old) {
+                break;
+            }
+        }
+    }
+    let counts = by_number(&tally);
+    ensure!(tally.keys().eq(&[0, 13, 19, 20]) || small(), "too little in it: {counts}");
+    Ok(format!("changes by number ({counts})"))
+}
+
+// ---------------------------------------------------------------------------
+// Refusals of a change.
+// ---------------------------------------------------------------------------
+
+/// A job of three units whose old plan has levels 4 and 6 of the decoder and 2 and 4 of each
+/// bucket after its first two intervals.
+fn changing_job() -> (Draft, [u8; 12]) {
+    let unit = vec![(2, 10), (0, 30), (9, 1)];
+    let draft = Draft::new([1, 8, 6, 2, 0, 0], &[0, 2, 4, 8], &vec![unit; 3]);
+    (draft, [2, 255, 255, 2, 0, 0, 0, 0, 0, 0, 0, 0])
+}
+
+/// Every set of defects at once, each in one of its ways: the first in order gives the
+/// number, and nothing is written.
+fn change_order_group() -> Result<String, String> {
+    let mut rng = Rng(1);
+    let mut tally: BTreeMap<u32, usize> = BTreeMap::new();
+    let (draft, old) = changing_job();
+    for draft in [draft.clone(), draft.doubled([6, 2, 0])] {
+        for (wrong, never) in (0..=5).flat_map(|wrong| [(wrong, false), (wrong, true)]) {
+            let count = draft.buckets().len();
+            let stored = draft.undrained(if never { rng.from(1, (1 << count) - 1) } else { 0 });
+            let bytes = wrong_job(&stored, wrong);
+            // The wrong byte of 1 is the last one; only 2 and 3 are in the header.
+            let refused = if never && wrong != 2 && wrong != 3 { 17 } else { wrong };
+            let step = match refused {
+                0 => 1,
+                _ if small() => 1023,
+                _ => 29,
+            };
+            for bits in (0..1u32 << 13).step_by(step) {
+                if small() && bits.count_ones() > 2 {
+                    continue;
+                }
+                // The defects that come last are seldom the first; so they are tried again.
+                let times = if small() { 1 } else { 1 + 3 * bits.trailing_zeros().min(13) };
+                for _ in 0..times {
+                    let has = |bit: usize| bits >> bit & 1 == 1;
+                    let number = check_change_order(&mut rng, &draft, &bytes, refused, &old, has)
+                        .map_err(|trouble| {
+                        let what = format!("header {:?}, job {wrong}", stored.header);
+                        format!("{what}, defects {bits:b}: {trouble}")
+                    })?;
+                    *tally.entry(number).or_default() += 1;
+                }
+            }
+        }
+    }
+    let counts = by_number(&tally);
+    let due = [0, 1, 2, 3, 4, 5, 6, 11, 12, 13, 14, 17, 18, 19, 20];
+    ensure!(tally.keys().eq(&due), "too little in it: {counts}");
+    Ok(format!("sets of defects by number ({counts})"))
+}
+
+fn check_change_order(
+    rng: &mut Rng,
+    draft: &Draft,
+    bytes: &[u8],
+    refused: Refusal,
+    old: &[u8],
+    has: impl Fn(usize) -> bool,
+) -> Result<u32, String> {
+    let [set, order, shape, range, never, rates, first, violation, over, table, entries, values, none] =
+        std::array::from_fn(has);
+    let by_all = rng.one_in(2);
+    let job = read_job(&mut Reader { rest: &draft.bytes() }).expect("a job as it should be");
+    let count = job.buckets.len();
+    let mut book = Book::new();
+    if none {
+        // Nine grains, and the decoder holds eight.
+        book.insert(3, 2);
+    }
+    let mut old = old.to_vec();
+    if violation {
+        // In interval 2 more than the decoder holds are taken or sent, or more than a pin
+        // lets be taken; or in interval 1 so much is sent that interval 2 has no room.
+        match rng.from(0, 3) {
+            0 => old[4] = 2,
+            1 => old[3] = 3,
+            2 => drop(book.insert(1, 1)),
+            _ => old[0] = 3,
+        }
+    }
+    if shape {
+        match rng.from(0, 4) {
+            0 => old.truncate(11),
+            1 => old.push(0),
+            2 => old[9] = 4,
+            3 => old[10] = 3,
+            _ => old[0] = 255,
+        }
+    }
+    let mut numbers = set_numbers(&job, &book);
+    if set {
+        wrong_set(&mut numbers, rng.from(0, 3));
+    }
+    let mut new = contract(&[0, 1, 5], &[4, 4][..count], &[1, 1][..count]);
+    let bucket = rng.from(0, count - 1);
+    if over {
+        new.sizes[bucket] = 3;
+    }
+    if rates {
+        new.rates = rng.pick(&[[0, 0, 5], [0, 1, 1], [0, 5, 4], [0, 1, 4096]]).to_vec();
+    }
+    if never {
+        new.drains[bucket] = 0;
+    }
+    if range {
+        let drain = count - 1 - bucket;
+        match rng.from(0, 7) {
+            0 => new.sizes[0] = 256,
+            1 => new.sizes[count - 1] = [256, 64][count - 1],
+            2 => new.drains[drain] = 4096,
+            3 => new.sizes.push(4),
+            4 => drop(new.sizes.pop()),
+            5 => new.drains.push(0),
+            6 => new.rates.clear(),
+            _ => new.rates = (0..17).collect(),
+        }
+    }
+    let mut ask = Changing::of(bytes, numbers, &old, 2, &new, rng.pick(&ORDERS));
+    if first {
+        ask.first = rng.pick(&[0, 4, 5, 256 + 2, 65_536 + 2, 0x8000_0002, u32::MAX]);
+    }
+    if order {
+        ask.order = rng.pick(&WRONG_AIMS);
+    }
+    let due = first_of(&[
+        (refused > 0, refused),
+        (set, 6),
+        (order, 2),
+        (shape, 14),
+        (range, 3),
+        (never, 17),
+        (rates, 4),
+        (first, 18),
+        (violation, 19),
+        (over, 20),
+        (table, 11),
+        (entries, 12),
+        (values, 12),
+        (none, 13),
+    ]);
+    // So many layers of nine rows, and three bytes for each of four intervals.
+    let words = 5 * 9 * 5usize.pow(count as u32);
+    let lengths = [
+        cut_to(words, table, by_all),
+        cut_to(12, entries, by_all),
+        cut_to(3 + count, values, by_all),
+    ];
+    let begun = ask.begun();
+    if due == 0 || due == 13 {
+        let begun = begun.map_err(|number| format!("refused: {number}"))?;
+        let found = check_change_in(rng, &ask, &begun, &begun.due(&new), lengths)?;
+        same("change", due, found)?;
+    } else {
+        let before = due < 11 || due == 14 || due > 13;
+        same("in order", before.then_some(due), begun.err().map(|number| number as u32))?;
+        check_unchanged(rng, &ask, due, lengths)?;
+    }
+    Ok(due)
+}
+
+/// Each number of a new contract at its limits and beyond them, and each two of its refusals
+/// together.
+fn contract_limits_group() -> Result<String, String> {
+    let mut rng = Rng(1);
+    let mut tally: BTreeMap<u32, usize> = BTreeMap::new();
+    for draft in [job_a(), job_a().doubled(SECOND_A)] {
+        let asked = Asked::new(&mut rng, &draft);
+        let count = asked.job.buckets.len();
+        let right = contract(&[0, 1, 3], &[2, 2][..count], &[1, 2][..count]);
+        for (new, due) in contract_cases(&right) {
+            let order = rng.pick(&ORDERS);
+            // After interval 2 decoder and buckets are empty, so that every size will do.
+            let ask = changing(&asked, &Book::new(), &EARLY_A, 2, &new, order);
+            let mut check = || -> Result<u32, String> {
+                let begun = match ask.begun() {
+                    Ok(begun) => begun,
+                    Err(number) => {
+                        for lengths in [[5000, 12, 7], [0, 0, 0]] {
+                            check_unchanged(&mut rng, &ask, number as u32, lengths)?;
+                        }
+                        check_typed_change(&mut rng, &ask, None)?;
+                        return Ok(number as u32);
+                    }
+                };
+                let due = begun.due(&new);
+                check_change(&mut rng, &ask, &begun, &due)?;
+                check_typed_change(&mut rng, &ask, Some(&due))?;
+                Ok(0)
+            };
+            let found = check().map_err(|trouble| ask.failed(&trouble))?;
+            same(&format!("{new:?}"), due, found)?;
+            *tally.entry(due).or_default() += 1;
+        }
+    }
+    let counts = by_number(&tally);
+    ensure!(tally.keys().eq(&[0, 3, 4, 17]), "too little in it: {counts}");
+    Ok(format!("contracts by number ({counts})"))
+}
+
+/// Contracts that differ from a right one in a number or two, and the number due; 0 where the
+/// contract is taken, be there a plan or not.
+fn contract_cases(right: &Contract) -> Vec<(Contract, u32)> {
+    let buckets = right.sizes.len();
+    let mut cases = vec![(right.clone(), 0)];
+    let rated = |rates: Vec<u16>| Contract { rates, ..right.clone() };
+    // Some wrong lengths are the right one in eight or sixteen bits.
+    for length in [0, 1, 2, 15, 16, 17, 18, 255, 256, 257, 259, 272, 65_536, 65_539] {
+        let due = if (1..=16).contains(&length) { 0 } else { 3 };
+        cases.push((rated((0..length).map(|rate| rate as u16).collect()), due));
+        // With a rate that is not right the number of rates comes first.
+        if length > 1 {
+            let mut rates: Vec<u16> = (0..length).map(|rate| rate as u16).collect();
+            rates[length - 1] = 0;
+            cases.push((rated(rates), if due == 0 { 4 } else { 3 }));
+        }
+    }
+    for (rates, due) in [
+        (vec![4095], 0),
+        (vec![4096], 4),
+        (vec![0xffff], 4),
+        (vec![0x8000], 4),
+        (vec![0, 4095], 0),
+        (vec![0, 4096], 4),
+        (vec![4095, 4096], 4),
+        (vec![4096, 4097], 4),
+        (vec![2, 2], 4),
+        (vec![0, 0], 4),
+        (vec![3, 2], 4),
+        (vec![0, 3, 2], 4),
+        (vec![0, 3, 3], 4),
+        (vec![1, 0, 3], 4),
+        // Rising in the lower byte alone, and in the upper one.
+        (vec![256, 1], 4),
+        (vec![255, 256], 0),
+    ] {
+        cases.push((rated(rates), due));
+    }
+    for at in 0..buckets {
+        let with = |size: u16, drain: u16| {
+            let mut new = right.clone();
+            (new.sizes[at], new.drains[at]) = (size, drain);
+            new
+        };
+        let largest = LARGEST[at] as u16;
+        let (size, drain) = (right.sizes[at], right.drains[at]);
+        for value in [0, 1, 2, largest - 1, largest] {
+            cases.push((with(value, drain), 0));
+        }
+        for value in [largest + 1, largest + 2, 256, 257, 0x0100 + 2, 0x8000, 0xff00, 0xffff] {
+            cases.push((with(value, drain), 3));
+            // Whatever its drain is.
+            cases.push((with(value, 0), 3));
+        }
+        for value in [1, 2, 255, 256, 257, 0x0f00, 4094, 4095] {
+            cases.push((with(size, value), 0));
+        }
+        cases.push((with(size, 0), 17));
+        for value in [4096, 4097, 0x1000 + 256, 0x8000, 0xf001, 0xffff] {
+            cases.push((with(size, value), 3));
+        }
+        // 17 before 4, and the other bucket before that.
+        let faulty = |mut new: Contract| {
+            new.rates = vec![3, 2];
+            new
+        };
+        cases.push((faulty(with(size, 0)), 17));
+        cases.push((faulty(with(largest + 1, drain)), 3));
+        for (other, largest) in LARGEST.iter().enumerate().take(buckets) {
+            let mut new = with(size, 0);
+            new.sizes[other] = *largest as u16 + 1;
+            cases.push((faulty(new), 3));
+            if other != at {
+                let mut new = with(size, 0);
+                new.drains[other] = 4096;
+                cases.push((new, 3));
+            }
+        }
+    }
+    // Another number of sizes or drains than there are buckets.
+    for length in [0, 1, 2, 3, 4, 256 + buckets, 65_536 + buckets] {
+        if length == buckets {
+            continue;
+        }
+        let resized = |list: &[u16]| {
+            let mut list = list.to_vec();
+            list.resize(length, 1);
+            list
+        };
+        let (sizes, drains) = (resized(&right.sizes), resized(&right.drains));
+        cases.push((Contract { sizes: sizes.clone(), ..right.clone() }, 3));
+        cases.push((Contract { drains: drains.clone(), ..right.clone() }, 3));
+        cases.push((Contract { sizes, drains: drains.clone(), ..right.clone() }, 3));
+        // One that is too many or too few is not looked at by itself.
+        let never = drains.iter().map(|_| 0).collect();
+        cases.push((Contract { drains: never, rates: vec![2, 2], ..right.clone() }, 3));
+    }
+    cases
+}
+
+/// Levels of each bucket just at their new size, one above it and one below it, on lines in
+/// which they stay as they are. All of both buckets is tried together.
+fn carried_levels_group() -> Result<String, String> {
+    let mut rng = Rng(1);
+    let mut tally: BTreeMap<u32, usize> = BTreeMap::new();
+    let levels = |largest: u16| [0, 1, 2, 3, largest / 2, largest - 1, largest];
+    // What is sent drains at once; no unit takes a grain.
+    let line =
+        |start: u16| Draft::new([0, 3, 255, 1, 0, start], &[0, 1], &vec![vec![(0, 5), (1, 4)]; 3]);
+    let mut check = |draft: &Draft, sizes: &[u16], over: bool| -> Checked {
+        let asked = Asked::new(&mut rng, draft);
+        let new = contract(&[0, 1], sizes, &vec![1; sizes.len()]);
+        for first in 1..=2 {
+            let old = [1, 1, 0].repeat(3);
+            let order = rng.pick(&ORDERS);
+            let ask = changing(&asked, &Book::new(), &old, first, &new, order);
+            let number = match ask.begun() {
+                Ok(begun) => check_change(&mut rng, &ask, &begun, &begun.due(&new)),
+                Err(number) => {
+                    let refused = check_unchanged(&mut rng, &ask, number as u32, [5000, 9, 5]);
+                    refused.map(|_| number as u32)
+                }
+            };
+            let number = number.map_err(|trouble| ask.failed(&trouble))?;
+            same(
+                &format!("sizes {sizes:?}, {:?}", draft.header),
+                if over { 20 } else { 0 },
+                number,
+            )?;
+            *tally.entry(number).or_default() += 1;
+        }
+        Ok(())
+    };
+    let near = |level: u16, largest: u16| -> Vec<u16> {
+        let sizes = [level.checked_sub(1), Some(level), Some(level + 1)];
+        sizes.into_iter().flatten().filter(|size| *size <= largest).collect()
+    };
+    for one in levels(255) {
+        for size in near(one, 255) {
+            check(&line(one), &[size], size < one)?;
+        }
+    }
+    for (one, other) in levels(30).into_iter().flat_map(|one| levels(63).map(|two| (one, two))) {
+        if small() && one > 1 && other > 1 && one != other {
+            continue;
+        }
+        let draft = line(one).doubled([63, 1, other]);
+        for size in near(one, 255) {
+            for second in near(other, 63) {
+                check(&draft, &[size, second], size < one || second < other)?;
+            }
+        }
+    }
+    Ok(format!("changes by number ({})", by_number(&tally)))
+}
+
+/// A change after every interval of some jobs, and after none that they have.
+fn first_intervals_group() -> Result<String, String> {
+    let mut rng = Rng(1);
+    let (mut within, mut outside) = (0, 0);
+    let mut drafts = vec![
+        job_a(),
+        job_a().doubled(SECOND_A),
+        changing_job().0,
+        even_job(1, [0, 2, 2, 1, 0, 0]),
+        even_job(2, [0, 2, 2, 1, 0, 0]),
+        even_job(1, [1, 2, 2, 1, 0, 0]),
+        even_job(1, [64, 70, 2, 1, 0, 0]),
+        even_job(40, [3, 4, 2, 1, 0, 0]),
+    ];
+    if !small() {
+        drafts.push(even_job(512, [64, 70, 1, 1, 0, 0]));
+        drafts.push(even_job(300, [0, 3, 3, 1, 0, 0]));
+    }
+    for draft in drafts {
+        let asked = Asked::new(&mut rng, &draft);
+        let intervals = asked.intervals() as u32;
+        let Some(old) = dynamic(Order::Early, &asked.job, &asked.pins) else {
+            return Err(format!("no plan for {:?}", draft.header));
+        };
+        let new = Contract::of(&asked.job);
+        let far = [256, 257, 65_536, 65_537, 0x0100_0001, 0x8000_0000, 0x8000_0001, u32::MAX];
+        let near = (0..=intervals + 3).filter(|first| intervals < 100 || first % 23 < 2);
+        for first in near.chain([intervals - 1, intervals, intervals + 1]).chain(far) {
+            let ask = changing(&asked, &Book::new(), &plan_bytes(&old), first, &new, Order::Early);
+            let mut check = || -> Checked {
+                if (1..intervals).contains(&first) {
+                    let begun = ask.begun().map_err(|number| format!("refused: {number}"))?;
+                    let due = begun.due(&new);
+                    // Nothing changes, and so the plan remains.
+                    same("the plan", Some(&old), due.plans[0].as_ref())?;
+                    within += 1;
+                    return check_change(&mut rng, &ask, &begun, &due).map(|_| ());
+                }
+                outside += 1;
+                same("first", Some(18), ask.begun().err())?;
+                let lengths = rng.pick(&[[0; 3], [5000, 2000, 7]]);
+                check_unchanged(&mut rng, &ask, 18, lengths)?;
+                check_typed_change(&mut rng, &ask, None)
+            };
+            check().map_err(|trouble| {
+                format!("header {:?}, first {first}: {trouble}", draft.header)
+            })?;
+        }
+    }
+    Ok(format!("{within} intervals within a programme, {outside} not"))
+}
+
+/// Lists of every length.
+fn change_lengths_group() -> Result<String, String> {
+    let mut rng = Rng(1);
+    let mut lists = 0;
+    for draft in [job_a(), job_a().doubled(SECOND_A)] {
+        let asked = Asked::new(&mut rng, &draft);
+        let count = asked.job.buckets.len();
+        // Tables that are larger and smaller than the job's own, and with no plan.
+        for (sizes, rates) in [([2, 2], vec![0, 1, 3]), ([5, 4], vec![0, 1]), ([2, 2], vec![1])] {
+            let new = contract(&rates, &sizes[..count], &[1, 2][..count]);
+            let ask = changing(&asked, &Book::new(), &EARLY_A, 1, &new, rng.pick(&ORDERS));
+            let begun = ask.begun().map_err(|number| format!("refused: {number}"))?;
+            let due = begun.due(&new);
+            let needs = begun.needs(&new);
+            for (which, need) in needs.into_iter().enumerate() {
+                let step = if small() { 13 } else { 1 };
+                for length in (0..need).step_by(step).chain(need - 1..need + 4) {
+                    // The others are as long as is needed, longer, or too short as well.
+                    let mut lengths = needs.map(|need| need + slack(&mut rng));
+                    lengths[which] = length;
+                    let number = first_of(&[(lengths[0] < needs[0], 11), (length < need, 12)]);
+                    let checked = match number {
+                        0 => check_change_in(&mut rng, &ask, &begun, &due, lengths).map(|_| ()),
+                        _ => check_unchanged(&mut rng, &ask, number, lengths),
+                    };
+                    checked.map_err(|trouble| format!("lists of {lengths:?}: {trouble}"))?;
+                    lists += 1;
+                    // With a table that is too short the others are not looked at.
+                    let short = [needs[0] - 1, lengths[1], lengths[2]];
+                    check_unchanged(&mut rng, &ask, 11, short)?;
+                }
+            }
+        }
+    }
+    Ok(format!("{lists} lists"))
+}
+
+// ---------------------------------------------------------------------------
+// Changes of random jobs.
+// ---------------------------------------------------------------------------
+
+/// A plan of which the first entries mostly go well, and after how many of them the contract
+/// changes. In a job of one interval it cannot change.
+fn random_old_plan(rng: &mut Rng, job: &Job, pins: &Pins) -> (Plan, usize) {
+    let first = rng.from(1, (job.intervals() - 1).max(1));
+    let best = match rng.from(0, 3) {
+        0 => dynamic(rng.pick(&ORDERS), job, pins),
+        _ => None,
+    };
+    let mut plan = best.unwrap_or_else(|| random_plan(rng, job, pins));
+    for _ in 0..6 {
+        if carried(job, pins, &plan, first).is_some() {
+            break;
+        }
+        plan = match rng.one_in(2) {
+            true => tight_plan(rng, job, pins, 0),
+            false => random_plan(rng, job, pins),
+        };
+    }
+    (plan, first)
+}
+
+/// A change of the job's contract after one of its intervals. `most` bounds the new sizes and
+/// the number of rates.
+fn random_change(rng: &mut Rng, asked: &Asked, most: [usize; 2]) -> Changing {
+    let (job, pins) = (&asked.job, &asked.pins);
+    let (plan, first) = random_old_plan(rng, job, pins);
+    let (_, levels) = carried(job, pins, &plan, first).unwrap_or((0, job.start_levels()));
+    let new = random_contract(rng, &Contract::of(job), &levels, most[0], most[1]);
+    let order = rng.pick(&ORDERS);
+    changing(asked, &book_of(pins), &plan_bytes(&plan), first as u32, &new, order)
+}
+
+/// How often each number was due, and what else the changes had in them.
+#[derive(Default)]
+struct Changes {
+    by_number: BTreeMap<u32, usize>,
+    /// More rates than before, and fewer; a larger table, and a smaller one.
+    rates: [usize; 2],
+    tables: [usize; 2],
+    /// The contract stays, and then the plan does, if it was the best.
+    same: usize,
+    /// Pins of the first units, and of the others.
+    pins: [usize; 2],
+    ties: usize,
+    told: Told,
+}
+
+impl Changes {
+    fn count(&mut self, asked: &Changing, number: u32, begun: Option<&Begun>) {
+        *self.by_number.entry(number).or_default() += 1;
+        let Some(begun) = begun else { return };
+        let own = Contract::of(&begun.job);
+        let new = &asked.contract;
+        self.rates[0] += (new.rates.len() > own.rates.len()) as usize;
+        self.rates[1] += (new.rates.len() < own.rates.len()) as usize;
+        let words = [begun.needs(new)[0], begun.job.words()];
+        self.tables[0] += (words[0] > words[1]) as usize;
+        self.tables[1] += (words[0] < words[1]) as usize;
+        self.same += (own == *new) as usize;
+        let gone = begun.first.saturating_sub(begun.job.delay);
+        let [before, behind] = [&begun.pins[..gone], &begun.pins[gone..]];
+        self.pins[0] += before.iter().any(Option::is_some) as usize;
+        self.pins[1] += behind.iter().any(Option::is_some) as usize;
+    }
+
+    fn all(&self) -> usize {
+        self.by_number.values().sum()
+    }
+
+    fn show(&self) -> String {
+        let Changes { rates, tables, same, pins, ties, .. } = self;
+        format!(
+            "{} changes by number ({}); {} with more rates and {} with fewer, {} with a larger \
+             table and {} with a smaller one, {same} with the same contract, {} with pins before \
+             and {} behind, {ties} with several equal plans{}",
+            self.all(),
+            by_number(&self.by_number),
+            rates[0],
+            rates[1],
+            tables[0],
+            tables[1],
+            pins[0],
+            pins[1],
+            self.told.show()
+        )
+    }
+
+    fn worthwhile(&self, numbers: &[u32], ties: usize) -> bool {
+        let often = |number| self.by_number.get(number).is_some_and(|c| c * 60 > self.all());
+        let of = [self.rates, self.tables, self.pins].concat();
+        numbers.iter().all(often)
+            && of.iter().all(|count| count * 30 > self.all())
+            && self.same * 100 > self.all()
+            && self.ties >= ties
+    }
+}
+
+/// Says of each mistaken rule whether the change has another answer under it. `plan` is the
+/// whole plan that is due.
+fn change_mistakes(
+    order: Order,
+    new: &Contract,
+    begun: &Begun,
+    plan: Option<&Plan>,
+) -> Vec<Mistake> {
+    let Begun { job, pins, first, levels, .. } = begun;
+    let own = Contract::of(job);
+    let other = |new: &Contract, pins: &Pins, levels: (i64, Levels)| {
+        let (rest, pins) = rest_of(job, pins, *first, new, levels);
+        dynamic(order, &rest, &pins).map(|rest| begun.whole(rest)).as_ref() != plan
+    };
+    let start = (job.start_decoder, job.start_levels());
+    let free = vec![None; pins.len()];
+    let mut mistakes = vec![
+        ("the rest from the starting levels", other(new, pins, start)),
+        ("the decoder from its starting level", other(new, pins, (start.0, levels.1))),
+        ("the buckets from their starting levels", other(new, pins, (levels.0, start.1))),
+        (
+            "the old rates",
+            other(&Contract { rates: own.rates.clone(), ..new.clone() }, pins, *levels),
+        ),
+        (
+            "the old sizes",
+            other(&Contract { sizes: own.sizes.clone(), ..new.clone() }, pins, *levels),
+        ),
+        (
+            "the old drains",
+            other(&Contract { drains: own.drains.clone(), ..new.clone() }, pins, *levels),
+        ),
+        ("the pins of the rest forgotten", other(new, &free, *levels)),
+    ];
+    let Some(plan) = plan else { return mistakes };
+    let best = dynamic(order, job, pins);
+    let anew = best.is_some_and(|best| best[..*first] != plan[..*first]);
+    let sum = |plan: &[Pair], rates: &[u16]| -> Option<u32> {
+        plan.iter().map(|entry| rates.get(entry.0).map(|&rate| rate as u32)).sum()
+    };
+    let (before, after) = plan.split_at(*first);
+    let unused = |old: &Contract, new: &Contract| {
+        // The levels of the right contracts, and the drains of others.
+        let (mut levels, mut sums) = (job.start_levels(), [0; MOST_BUCKETS]);
+        let right = [job.clone(), new.put(job, &[0; MOST_BUCKETS])];
+        for (t, entry) in (1..).zip(plan) {
+            let (right, drains) = match t <= *first {
+                true => (&right[0], &old.drains),
+                false => (&right[1], &new.drains),
+            };
+            let sent = right.rates[entry.0];
+            for at in 0..job.buckets.len() {
+                let drain = drains[at] as i64;
+                sums[at] += (drain - levels[at] - sent).max(0);
+                levels[at] = bucket_step(&right.buckets[at], levels[at], sent).0;
+            }
+        }
+        sums
+    };
+    let drained =
+        |drains: &[u16], of: &Contract| Contract { drains: drains.to_vec(), ..of.clone() };
+    let due = unused(&own, new);
+    mistakes.extend([
+        ("the first entries planned anew", anew),
+        ("all by the new rates", sum(before, &new.rates) != sum(before, &own.rates)),
+        ("all by the old rates", sum(after, &new.rates) != sum(after, &own.rates)),
+        ("all by the new drains", unused(&drained(&new.drains, &own), new) != due),
+    ]);
+    mistakes
+}
+
+/// Tiny jobs: every continuation and every completion is tried.
+fn tiny_changes_group(seed: u64, asks: bool) -> Result<String, String> {
+    let mut rng = Rng(seed);
+    let mut changes = Changes::default();
+    for index in 1..=scaled(1500) {
+        let draft = match index % 8 {
+            0 => random_job(&mut rng, &TINY),
+            1 => random_tiny_double(&mut rng),
+            2 => random_tight_job(&mut rng, &TIGHT[0]),
+            3 | 4 => random_double_job(&mut rng, &DOUBLE[0]),
+            5 => random_level_job(&mut rng, &EVEN_SHAPES[0]),
+            _ => random_equal_job(&mut rng, &EQUAL[0]),
+        };
+        let asked = Asked::new(&mut rng, &draft);
+        let ask = random_change(&mut rng, &asked, [6, 4]);
+        let within = (1..asked.intervals() as u32).contains(&ask.first);
+        let plans = continuations(&asked.job, ask.first as usize, &ask.contract);
+        if within && plans.map_or(true, |plans| plans > ENUMERATION_LIMIT) {
+            continue;
+        }
+        let mut check = || -> Checked {
+            let begun = match ask.begun() {
+                Ok(begun) => begun,
+                Err(number) => {
+                    changes.count(&ask, number as u32, None);
+                    check_unchanged(&mut rng, &ask, number as u32, [3000, 20, 7])?;
+                    return check_typed_change(&mut rng, &ask, None);
+                }
+            };
+            let (tried, equals) = begun.tried(&ask.contract);
+            let due = begun.due(&ask.contract);
+            same("the table of the rest", &tried.table, &due.table)?;
+            same("plans read off", &tried.plans, &due.plans)?;
+            let (rest, pins) = begun.rest(&ask.contract);
+            let carried = dynamics(&rest, &pins).map(|plan| Some(begun.whole(plan?)));
+            same("dynamic program", &tried.plans, &carried)?;
+            let number = check_change(&mut rng, &ask, &begun, &tried)?;
+            check_typed_change(&mut rng, &ask, Some(&tried))?;
+            // In the other order too.
+            let other = Changing { order: 1 - ask.order, ..ask.clone() };
+            check_change(&mut rng, &other, &begun, &tried)?;
+            changes.count(&ask, number, Some(&begun));
+            changes.ties += (equals > 1) as usize;
+            let order = ORDERS[ask.order as usize];
+            let plan = tried.plans[ask.order as usize].as_ref();
+            changes.told.add(&change_mistakes(order, &ask.contract, &begun, plan));
+            Ok(())
+        };
+        check().map_err(|trouble| format!("seed {seed}, job {index}: {}", ask.failed(&trouble)))?;
+    }
+    let counts = changes.show();
+    let worthwhile = changes.worthwhile(&[0, 13, 19, 20], 60) && changes.told.each(60);
+    ensure!(worthwhile || !asks, "too little in it: {counts}");
+    Ok(counts)
+}
+
+/// Jobs too large to try everything. The rest is written as a job of its own, and the library
+/// plans and replays it to the same; where the contract stays, the rest of the best plan does.
+fn larger_changes_group(seed: u64, asks: bool) -> Result<String, String> {
+    let mut rng = Rng(seed);
+    let mut changes = Changes::default();
+    let (mut rests, mut stays) = (0, 0);
+    for index in 1..=scaled(400) {
+        let draft = random_seen_job(&mut rng, index);
+        let asked = Asked::new(&mut rng, &draft);
+        let most = if asked.intervals() > 100 { [7, 4] } else { [16, 16] };
+        let mut ask = random_change(&mut rng, &asked, most);
+        let order = ORDERS[ask.order as usize];
+        let best = dynamic(order, &asked.job, &asked.pins).filter(|_| rng.one_in(6));
+        if let Some(best) = &best {
+            ask.old = plan_bytes(best);
+            ask.contract = Contract::of(&asked.job);
+        }
+        let mut check = || -> Checked {
+            let begun = match ask.begun() {
+                Ok(begun) => begun,
+                Err(number) => {
+                    changes.count(&ask, number as u32, None);
+                    return check_unchanged(&mut rng, &ask, number as u32, [3000, 2000, 7]);
+                }
+            };
+            let due = begun.due(&ask.contract);
+            let number = check_change(&mut rng, &ask, &begun, &due)?;
+            changes.count(&ask, number, Some(&begun));
+            let plan = &due.plans[ask.order as usize];
+            if let Some(best) = &best {
+                same("the best plan, under the same contract", Some(best), plan.as_ref())?;
+                stays += 1;
+            }
+            let (rest, pins) = begun.rest(&ask.contract);
+            let carried = dynamic(order, &rest, &pins).map(|rest| begun.whole(rest));
+            same("dynamic program", plan, &carried)?;
+            if begun.job.words() < 3000 {
+                check_typed_change(&mut rng, &ask, Some(&due))?;
+            }
+            check_rest(&mut rng, &rest, &pins, &due.table, order, plan, begun.first)?;
+            rests += 1;
+            changes.told.add(&change_mistakes(order, &ask.contract, &begun, plan.as_ref()));
+            Ok(())
+        };
+        check().map_err(|trouble| format!("seed {seed}, job {index}: {}", ask.failed(&trouble)))?;
+    }
+    let counts = format!("{}; {rests} rests as jobs, {stays} plans that stay", changes.show());
+    let worthwhile = changes.worthwhile(&[0, 13, 20], 0) && stays * 40 > rests;
+    ensure!(worthwhile && changes.told.each(40) || !asks, "too little in it: {counts}");
+    Ok(counts)
+}
+
+/// The library plans the rest as a job of its own to the same table and the same entries, and
+/// follows them without a violation.
+fn check_rest(
+    rng: &mut Rng,
+    rest: &Job,
+    pins: &Pins,
+    table: &[u32],
+    order: Order,
+    plan: &Option<Plan>,
+    first: usize,
+) -> Checked {
+    let draft = Lists::of_job(rest).draft();
+    let calls = fresh_calls(rng, pins);
+    let asked = Asked::with(draft.bytes(), rest.clone(), calls);
+    let plan = plan.as_ref().map(|plan| plan[first..].to_vec());
+    check_plan_in(Aim::Total, order, rng, &asked, table, &plan)
+        .map_err(|trouble| format!("the rest as a job: {trouble}"))
+}
+
+/// Plans with a violation, and changes just before its interval, just after it and
+/// elsewhere: it counts exactly where it is among the first intervals.
+fn violated_changes_group(seed: u64, asks: bool) -> Result<String, String> {
+    let mut rng = Rng(seed);
+    // By violation: how often just in the last of the first intervals, and in the next.
+    let mut tally = [[0; 2]; 6];
+    let mut by: BTreeMap<u32, usize> = BTreeMap::new();
+    let jobs = scaled(800);
+    for index in 1..=jobs {
+        let draft = match index % 5 {
+            0 => random_job(&mut rng, &MEDIUM),
+            1 => random_medium_double(&mut rng),
+            2 => random_double_job(&mut rng, &DOUBLE[1]),
+            3 => random_tight_job(&mut rng, &TIGHT[1]),
+            _ => random_tiny_double(&mut rng),
+        };
+        let asked = Asked::new(&mut rng, &draft);
+        let plan = match rng.one_in(2) {
+            true => tight_plan(&mut rng, &asked.job, &asked.pins, 4),
+            false => random_plan(&mut rng, &asked.job, &asked.pins),
+        };
+        let followed = follow(&asked.job, &asked.pins, &plan);
+        let [violation, at] = [followed.values[0], followed.values[1]].map(|value| value as usize);
+        let last = asked.intervals() - 1;
+        for first in [at.saturating_sub(1), at, rng.from(1, last.max(1))] {
+            if !(1..=last).contains(&first) {
+                continue;
+            }
+            // Every level fits.
+            let mut new = Contract::of(&asked.job);
+            new.drains.iter_mut().for_each(|drain| *drain = rng.from(1, 9) as u16);
+            let (book, order) = (book_of(&asked.pins), rng.pick(&ORDERS));
+            let entries = plan_bytes(&plan);
+            let ask = changing(&asked, &book, &entries, first as u32, &new, order);
+            let mut check = || -> Result<u32, String> {
+                let begun = ask.begun();
+                let breach = violation > 0 && at <= first;
+                same("19", breach, begun.as_ref().err() == Some(&19))?;
+                let Ok(begun) = begun else {
+                    check_unchanged(&mut rng, &ask, 19, [3000, 60, 5])?;
+                    return Ok(19);
+                };
+                let levels = &followed.levels[(1 + new.sizes.len()) * (first - 1)..];
+                let after = [&[begun.levels.0], &begun.levels.1[..new.sizes.len()]].concat();
+                let after: Vec<u16> = after.into_iter().map(|level| level as u16).collect();
+                same("the levels after the first", &after, &levels[..after.len()].to_vec())?;
+                check_change(&mut rng, &ask, &begun, &begun.due(&new))
+            };
+            let number = check()
+                .map_err(|trouble| format!("seed {seed}, job {index}: {}", ask.failed(&trouble)))?;
+            *by.entry(number).or_default() += 1;
+            if violation > 0 && (first == at || first + 1 == at) {
+                tally[violation][(first < at) as usize] += 1;
+            }
+        }
+    }
+    let names =
+        ["decoder short", "decoder over", "bucket over", "pin not held", "second bucket over"];
+    let each: Vec<String> = (names.iter().zip(&tally[1..]))
+        .map(|(name, [last, next])| format!("{name} {last} and {next}"))
+        .collect();
+    let counts = format!(
+        "{jobs} jobs, changes by number ({}); in the last of the first intervals and in the \
+         next: {}",
+        by_number(&by),
+        each.join(", ")
+    );
+    let worthwhile = tally[1..].iter().flatten().all(|count| count * 100 > jobs);
+    ensure!(worthwhile || !asks, "too little in it: {counts}");
+    Ok(counts)
+}
+
+/// Changes of tiny jobs with something wrong in one place or a few, and lists of any length.
+fn harmed_changes_group(seed: u64, asks: bool) -> Result<String, String> {
+    let mut rng = Rng(seed);
+    let mut tally: BTreeMap<u32, usize> = BTreeMap::new();
+    let inputs = scaled(12_000);
+    for index in 1..=inputs {
+        let draft = match index % 3 {
+            0 => random_tiny_double(&mut rng),
+            1 => random_double_job(&mut rng, &DOUBLE[0]),
+            _ => random_job(&mut rng, &TINY),
+        };
+        let asked = Asked::new(&mut rng, &draft);
+        let mut ask = random_change(&mut rng, &asked, [6, 4]);
+        for _ in 0..rng.pick(&[0, 1, 1, 1, 2, 3]) {
+            harm_change(&mut rng, &asked.job, &mut ask);
+        }
+        ask.old.shrink_to_fit();
+        ask.set.shrink_to_fit();
+        let begun = ask.begun();
+        // A harmed job may call for a table that is too large to compare.
+        let most = begun.as_ref().map_or(0, |begun| begun.needs(&ask.contract)[0]);
+        let due = begun.as_ref().ok().filter(|_| most < 20_000);
+        let due = due.map(|begun| begun.due(&ask.contract));
+        let needs = begun.as_ref().map_or([20; 3], |begun| begun.needs(&ask.contract));
+        let lengths = needs.map(|need| match rng.from(0, 11) {
+            0 => need - 1,
+            1 => rng.from(0, need),
+            2..=4 => need,
+            _ => need + rng.from(1, 9),
+        });
+        let lengths = [lengths[0].min(20_000), lengths[1], lengths[2]];
+        let short = (0..3).map(|at| lengths[at] < needs[at]).collect::<Vec<_>>();
+        let mut check = || -> Result<u32, String> {
+            let begun = match &begun {
+                Ok(begun) if !short.contains(&true) => begun,
+                Ok(_) => {
+                    let number = first_of(&[(short[0], 11), (short[1] || short[2], 12)]);
+                    check_unchanged(&mut rng, &ask, number, lengths)?;
+                    return Ok(number);
+                }
+                Err(number) => {
+                    check_unchanged(&mut rng, &ask, *number as u32, lengths)?;
+                    check_typed_change(&mut rng, &ask, None)?;
+                    return Ok(*number as u32);
+                }
+            };
+            let due = due.as_ref().expect("a table that is not too large");
+            if begun.job.words() < 3000 {
+                check_typed_change(&mut rng, &ask, Some(due))?;
+            }
+            check_change_in(&mut rng, &ask, begun, due, lengths)
+        };
+        let number = check()
+            .map_err(|trouble| format!("seed {seed}, input {index}: {}", ask.failed(&trouble)))?;
+        *tally.entry(number).or_default() += 1;
+    }
+    let counts = format!("{inputs} inputs by number ({})", by_number(&tally));
+    let often = |number: &u32| tally.get(number).is_some_and(|count| count * 400 > inputs);
+    let numbers = [0, 1, 2, 3, 4, 5, 6, 11, 12, 13, 14, 17, 18, 19, 20];
+    ensure!(numbers.iter().all(often) || !asks, "too little in it: {counts}");
+    Ok(counts)
+}
+
+/// Changes something in what a change is asked of.
+fn harm_change(rng: &mut Rng, job: &Job, ask: &mut Changing) {
+    let limits: [u16; 14] = [0, 1, 2, 3, 16, 62, 63, 64, 254, 255, 256, 4095, 4096, 0xffff];
+    match rng.from(0, 15) {
+        0 | 1 => harm(rng, &mut ask.bytes),
+        2 => harm_head(rng, &mut ask.bytes),
+        3 | 4 if ask.set.len() == SET_NUMBERS => harm_set(rng, job, &mut ask.set),
+        3..=5 => change_length(rng, &mut ask.set),
+        6 | 7 => harm_plan(rng, &mut ask.old, job.choices(), ENTRY_BYTES),
+        8 => {
+            let near = [0, 1, ask.first + 1, ask.first.wrapping_sub(1), job.intervals() as u32];
+            ask.first = rng.pick(&[near.to_vec(), vec![u32::MAX, ask.first + 65_536]].concat());
+        }
+        9 => ask.order = rng.pick(&WRONG_AIMS),
+        10 => change_one(rng, &mut ask.contract.rates, near),
+        11 => change_one(rng, &mut ask.contract.rates, |rng, _| rng.pick(&limits)),
+        12 => change_one(rng, &mut ask.contract.sizes, |rng, _| rng.pick(&limits)),
+        13 => change_one(rng, &mut ask.contract.sizes, near),
+        14 => change_one(rng, &mut ask.contract.drains, |rng, _| rng.pick(&limits)),
+        _ => {
+            let Contract { rates, sizes, drains } = &mut ask.contract;
+            match rng.from(0, 4) {
+                0 => change_length(rng, rates),
+                1 => change_length(rng, sizes),
+                2 => change_length(rng, drains),
+                3 => *rates = (0..rng.pick(&[0, 1, 15, 16, 17, 18])).collect(),
+                _ => drains.fill(0),
+            }
+        }
+    }
+}
+
+/// Trial jobs whose contract changes on the way, against plain loops over levels, rates and
+/// choices. The last numbers are the state and after how many intervals it changes.
+fn large_changes_group() -> Result<String, String> {
+    let few = Size { units: 48, delay: 8, decoder: 63, bucket: 15, rates: 8, choices: 8 };
+    let middle = Size { units: 120, delay: 8, decoder: 60, bucket: 60, rates: 16, choices: 31 };
+    let long = Size { units: 512, delay: 64, decoder: 31, bucket: 3, ..few };
+    let wide = Size { units: 8, rates: 16, choices: 1000, ..few };
+    let sizes = [
+        ("a trial job", middle, None, 1, 60, contract(&[0, 3, 7, 12, 20, 31], &[80], &[17])),
+        ("many units", long, None, 70, 300, contract(&[0, 1, 5, 12, 21, 30], &[9], &[18])),
+        ("a thousand choices", wide, None, 1, 9, contract(&[0, 10, 20, 40], &[40], &[25])),
+        (
+            "two buckets",
+            few,
+            Some([31, 18, 20]),
+            1,
+            4,
+            contract(&[0, 8, 18, 33], &[30, 40], &[15, 19]),
+        ),
+    ];
+    let mut rng = Rng(8);
+    let (mut words, mut changes) = (0, 0);
+    for (name, size, second, state, first, new) in &sizes {
+        let mut check = || -> Checked {
+            let draft = large_trial(size, *second, *state)?;
+            let asked = Asked::new(&mut rng, &draft);
+            let (job, pins) = (&asked.job, &asked.pins);
+            let table = fast_table(job, pins);
+            for (order, old) in ORDERS.into_iter().zip(read_off(job, pins, &table)) {
+                let old = plan_bytes(&old.ok_or("no plan")?);
+                let ask = changing(&asked, &book_of(pins), &old, *first, new, order);
+                let begun = ask.begun().map_err(|number| format!("refused: {number}"))?;
+                let due = begun.due(new);
+                let (rest, pins) = begun.rest(new);
+                let plain = loops_table(&rest, &pins, NO_LIMIT);
+                ensure!(plain == due.table, "plain loops give another table");
+                same("a large change", 0, check_change(&mut rng, &ask, &begun, &due)?)?;
+                words += due.table.len();
+                changes += 1;
+            }
+            Ok(())
+        };
+        check().map_err(|trouble| format!("{name}: {trouble}"))?;
+    }
+    Ok(format!("{} jobs, {changes} changes, {words} words", sizes.len()))
+}
+
+// ---------------------------------------------------------------------------
 // Large jobs.
 // ---------------------------------------------------------------------------
 
@@ -8491,6 +10037,13 @@ fn run_all(new_seed: u64, with_full: bool, examples: Option<&Path>) -> bool {
         print_group("limits of trial jobs", trial_limits_group()),
         print_group("refusals of trial jobs in their order", trial_order_group()),
         print_group("trial jobs over what stood there", trial_over_group()),
+        print_group("changes of contract by hand", changes_by_hand_group()),
+        print_group("every change of Job A", every_change_group()),
+        print_group("refusals of a change in their order", change_order_group()),
+        print_group("limits of a new contract", contract_limits_group()),
+        print_group("levels carried into a new contract", carried_levels_group()),
+        print_group("changes after every interval", first_intervals_group()),
+        print_group("lists of a change of every length", change_lengths_group()),
     ];
     if let Some(directory) = examples {
         results.push(print_group("examples written again", examples_group(directory)));
@@ -8507,6 +10060,10 @@ fn run_all(new_seed: u64, with_full: bool, examples: Option<&Path>) -> bool {
     seeded("harmed lists", &[1], harmed_lists_group);
     seeded("trial jobs", &[1, 2], trials_group);
     seeded("harmed headers of trial jobs", &[1], harmed_trials_group);
+    seeded("changes of contract, tiny jobs", &[1, 2], tiny_changes_group);
+    seeded("changes of contract, larger jobs", &[1], larger_changes_group);
+    seeded("changes around a violation", &[1], violated_changes_group);
+    seeded("harmed changes of contract", &[1], harmed_changes_group);
     seeded("harmed bytes", &[1], harmed_group);
     seeded("replay and report", &[1, 2], replay_group);
     seeded("jobs that never drain", &[1, 2], stored_group);
@@ -8546,6 +10103,7 @@ fn run_all(new_seed: u64, with_full: bool, examples: Option<&Path>) -> bool {
         results.push(print_group("large jobs", large_group()));
         results.push(print_group("even pictures, large jobs", even_large_group()));
         results.push(print_group("pin and see, large jobs", seen_large_group()));
+        results.push(print_group("changes of contract, large jobs", large_changes_group()));
     }
     if !small() && with_full {
         results.push(print_group("a job of the largest size", full_group()));

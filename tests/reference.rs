@@ -1,13 +1,13 @@
 //! What the test programs share: answers worked out straight from the product's
 //! paper, and the jobs they are asked of.
 //!
-//! The answers have eight parts: a reader that gives the first refusal due, an
+//! The answers have nine parts: a reader that gives the first refusal due, an
 //! enumeration of every plan (small jobs), a dynamic program that carries whole
 //! paths forward (the jobs too large to enumerate), both of these again for even
 //! pictures, with every word of the table, a reader of plans of either shape, a book of
-//! pins with the numbers of its set, a writer that gives a job's bytes or the first
-//! refusal due, and a generator that gives a trial job's. Each program uses a part of
-//! what stands here.
+//! pins with the numbers of its set, changes of contract by trying every continuation and
+//! by making a job of the rest, a writer that gives a job's bytes or the first refusal due,
+//! and a generator that gives a trial job's. Each program uses a part of what stands here.
 
 use std::collections::btree_map::Entry as MapEntry;
 use std::collections::BTreeMap;
@@ -1087,6 +1087,255 @@ pub fn read_set(job: &Job, numbers: &[u32]) -> Option<Book> {
         book.insert(unit, number as usize);
     }
     (set_numbers(job, &book) == numbers).then_some(book)
+}
+
+// ---------------------------------------------------------------------------
+// A change of contract: every continuation tried, and the rest as a job of its own.
+// ---------------------------------------------------------------------------
+
+/// The largest size of each bucket.
+pub const LARGEST: [i64; MOST_BUCKETS] = [255, 63];
+/// The most rates, and the most that a rate or a drain may be.
+pub const MOST_RATES: usize = 16;
+pub const MOST_GRAINS: i64 = 4095;
+
+/// Rates, and size and drain of each bucket, in place of a job's own. As in a draft,
+/// anything may be wrong.
+#[derive(Clone, Debug, PartialEq)]
+pub struct Contract {
+    pub rates: Vec<u16>,
+    pub sizes: Vec<u16>,
+    pub drains: Vec<u16>,
+}
+
+impl Contract {
+    /// The job's own.
+    pub fn of(job: &Job) -> Contract {
+        let each = |of: fn(&Bucket) -> i64| job.buckets.iter().map(|b| of(b) as u16).collect();
+        Contract {
+            rates: job.rates.iter().map(|&rate| rate as u16).collect(),
+            sizes: each(|bucket| bucket.size),
+            drains: each(|bucket| bucket.drain),
+        }
+    }
+
+    /// The first refusal due, for a line of so many buckets.
+    pub fn judged(&self, buckets: usize) -> Result<(), Refusal> {
+        let counts = [self.sizes.len(), self.drains.len()];
+        if counts != [buckets; 2] || self.rates.is_empty() || self.rates.len() > MOST_RATES {
+            return Err(3);
+        }
+        for (at, (&size, &drain)) in self.sizes.iter().zip(&self.drains).enumerate() {
+            if size as i64 > LARGEST[at] || drain as i64 > MOST_GRAINS {
+                return Err(3);
+            }
+        }
+        if self.drains.contains(&0) {
+            return Err(17);
+        }
+        read_rates(&words(&self.rates)).map(|_| ())
+    }
+
+    /// The job with this contract in the place of its own, its buckets at these levels at the
+    /// start.
+    pub fn put(&self, job: &Job, levels: &Levels) -> Job {
+        let mut job = job.clone();
+        job.rates = self.rates.iter().map(|&rate| rate as i64).collect();
+        for (at, bucket) in job.buckets.iter_mut().enumerate() {
+            let [size, drain] = [self.sizes[at], self.drains[at]].map(i64::from);
+            *bucket = Bucket { size, drain, start: levels[at] };
+        }
+        job
+    }
+}
+
+/// The levels of decoder and buckets after so many entries of a plan, from the starting
+/// levels and under the job's own contract; `None` where one of these has a violation.
+pub fn carried(job: &Job, pins: &Pins, plan: &Plan, first: usize) -> Option<(i64, Levels)> {
+    let (mut decoder, mut levels) = (job.start_decoder, job.start_levels());
+    for (t, &(rate, choice)) in (1..=first).zip(plan) {
+        let sent = job.rates[rate];
+        let open = options(job, pins, t);
+        // A choice that a pin rules out is not among them.
+        let (_, taken, _) = open.iter().find(|option| option.0 == choice)?;
+        decoder = by_peak(job, decoder, sent, *taken)?;
+        levels = filled(job, &levels, sent)?;
+    }
+    Some((decoder, levels))
+}
+
+/// Follows a plan whose first entries are under the job's own contract and the others under
+/// a new one, from the starting levels; `None` at a violation. `see` is told the levels after
+/// each interval.
+pub fn replay_changed(
+    job: &Job,
+    pins: &Pins,
+    first: usize,
+    contract: &Contract,
+    plan: &Plan,
+    mut see: impl FnMut(i64, &[i64]),
+) -> Option<Totals> {
+    let count = job.buckets.len();
+    let new = contract.put(job, &[0; MOST_BUCKETS]);
+    let (mut decoder, mut levels) = (job.start_decoder, job.start_levels());
+    let mut totals = Totals { unused: vec![0; count], ..Totals::default() };
+    for (t, &(rate, choice)) in (1..).zip(plan) {
+        let under = if t <= first { job } else { &new };
+        let sent = under.rates[rate];
+        if t > job.delay {
+            let unit = t - job.delay - 1;
+            if pins[unit].is_some_and(|pinned| pinned != choice) {
+                return None;
+            }
+            let Choice { grains, distortion } = job.units[unit][choice];
+            decoder = by_peak(under, decoder, sent, grains)?;
+            totals.source += grains;
+            totals.distortion += distortion;
+        } else {
+            decoder = by_peak(under, decoder, sent, 0)?;
+        }
+        for at in 0..count {
+            let (level, unused) = bucket_step(&under.buckets[at], levels[at], sent);
+            if level > under.buckets[at].size {
+                return None;
+            }
+            levels[at] = level;
+            totals.unused[at] += unused;
+        }
+        totals.channel += sent;
+        see(decoder, &levels[..count]);
+    }
+    Some(totals)
+}
+
+/// How many continuations of so many entries there are, or `None` beyond 64 bits.
+pub fn continuations(job: &Job, first: usize, contract: &Contract) -> Option<u64> {
+    let left = (job.intervals() - first) as u32;
+    let rates = (contract.rates.len() as u64).checked_pow(left)?;
+    let units = left.min(job.units.len() as u32);
+    rates.checked_mul((job.choices() as u64).checked_pow(units)?)
+}
+
+pub struct Continued {
+    /// Whole plans: the old entries and the best continuation, in each order.
+    pub best: Plans,
+    /// How many continuations that are admissible share the least distortion.
+    pub equals: usize,
+}
+
+/// Follows every continuation of the first entries from the starting levels, and keeps the
+/// one of least distortion that is first in each order.
+pub fn continued(
+    job: &Job,
+    pins: &Pins,
+    old: &Plan,
+    first: usize,
+    contract: &Contract,
+) -> Continued {
+    // Rates and choices are counted as the new contract has them; the first entries are the
+    // same in all, so that they do not matter to the order.
+    let new = contract.put(job, &[0; MOST_BUCKETS]);
+    let none = |t| (0, if t > job.delay { 0 } else { NO_CHOICE });
+    let mut rest: Plan = (first + 1..=job.intervals()).map(none).collect();
+    let mut least = i64::MAX;
+    let mut best: Plans = [None, None];
+    let mut equals = 0;
+    loop {
+        let plan: Plan = [&old[..first], &rest].concat();
+        if let Some(totals) = replay_changed(job, pins, first, contract, &plan, |_, _| ()) {
+            if totals.distortion < least {
+                (least, best, equals) = (totals.distortion, [None, None], 0);
+            }
+            if totals.distortion == least {
+                equals += 1;
+                for (order, held) in ORDERS.iter().zip(&mut best) {
+                    if held.as_ref().map_or(true, |held| order.prefers(job, &plan, held)) {
+                        *held = Some(plan.clone());
+                    }
+                }
+            }
+        }
+        if !next_plan(&new, &mut rest) {
+            return Continued { best, equals };
+        }
+    }
+}
+
+/// The rest of a programme as a job of its own: the intervals after the first ones, with the
+/// units that they decode, under the new contract and from these levels; and its pins.
+pub fn rest_of(
+    job: &Job,
+    pins: &Pins,
+    first: usize,
+    contract: &Contract,
+    (decoder, levels): (i64, Levels),
+) -> (Job, Pins) {
+    let gone = first.saturating_sub(job.delay);
+    let mut rest = contract.put(job, &levels);
+    rest.delay = job.delay.saturating_sub(first);
+    rest.start_decoder = decoder;
+    rest.units.drain(..gone);
+    (rest, pins[gone..].to_vec())
+}
+
+/// Every word of the layers from `first` on, by trying every completion.
+pub fn completed_layers(job: &Job, pins: &Pins, first: usize, contract: &Contract) -> Vec<u32> {
+    let new = contract.put(job, &[0; MOST_BUCKETS]);
+    let mut layers = Vec::new();
+    for t in first..=job.intervals() {
+        for decoder in 0..=job.decoder_size {
+            for levels in new.all_levels() {
+                let word = completed(&new, pins, NO_LIMIT, t, decoder, &levels);
+                layers.push(word.map_or(u32::MAX, |word| word as u32));
+            }
+        }
+    }
+    layers
+}
+
+/// A contract for a line of so many buckets, mostly near one that is given: the same; or with
+/// other rates, more or fewer; or with other sizes and drains, where `at_least` are levels
+/// that the sizes mostly hold. It is in range.
+pub fn random_contract(
+    rng: &mut Rng,
+    own: &Contract,
+    at_least: &[i64],
+    most_size: usize,
+    most_rates: usize,
+) -> Contract {
+    let mut contract = own.clone();
+    if !rng.one_in(4) {
+        let most = *own.rates.last().expect("a rate") as usize;
+        let most = (most.min(4000) + rng.from(0, 3)).max(2);
+        let count = rng.from(1, most_rates.min(most));
+        contract.rates = rng.rising(count, most);
+        if !rng.one_in(4) {
+            contract.rates[0] = 0;
+        }
+        if rng.one_in(20) {
+            contract.rates[count - 1] = 4095;
+        }
+    }
+    for at in 0..own.sizes.len() {
+        let (size, level) = (own.sizes[at] as usize, at_least[at] as usize);
+        let most = if at == 0 { most_size } else { most_size.min(63) };
+        contract.sizes[at] = match rng.from(0, 9) {
+            0 | 1 => size,
+            2 | 3 => level,
+            4 | 5 => level.saturating_sub(1),
+            6 => rng.from(0, most),
+            _ => rng.from(level.min(most), most),
+        } as u16;
+        let drain = own.drains[at] as usize;
+        contract.drains[at] = match rng.from(0, 5) {
+            0 | 1 => drain,
+            2 => drain + rng.from(0, 2),
+            3 => drain - rng.from(0, drain.min(2)),
+            _ => random_drain(rng, 6),
+        }
+        .clamp(1, 4095) as u16;
+    }
+    contract
 }
 
 // ---------------------------------------------------------------------------

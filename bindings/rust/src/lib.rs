@@ -24,10 +24,10 @@
 //!
 //! [`write()`] makes the bytes of a job from its header and lists, and [`trial`] those of
 //! a job to try things with, from its header and a starting state; [`open`],
-//! [`archive`], [`calls()`], [`plan`], [`replay`], [`report`] and [`turn`] take these
-//! bytes and read them again. They fill lists that the caller lends; [`written`],
-//! [`trial_job`], [`called`], [`best_plan`], [`replayed`] and [`turned`] make the lists
-//! themselves. Nothing is kept between calls. A list that is filled may be longer than
+//! [`archive`], [`calls()`], [`plan`], [`replay`], [`report`], [`turn`] and [`change`] take
+//! these bytes and read them again. They fill lists that the caller lends; [`written`],
+//! [`trial_job`], [`called`], [`best_plan`], [`replayed`], [`turned`] and [`changed`] make
+//! the lists themselves. Nothing is kept between calls. A list that is filled may be longer than
 //! needed: what stands past the part named as written keeps its values. Wherever a job is
 //! read, its own refusals come first: 1 to 5, and for those that open it 17. A refusal
 //! writes nothing, except that [`Refusal::NoPlan`] comes after the search and leaves
@@ -37,11 +37,15 @@
 //! to, opens a [`Session`]. It keeps the pins and the table from click to click, and of
 //! the table a click fills only what its unit has a part in.
 //!
+//! A carrier may alter the [`Contract`] while the programme is sent. [`change`] keeps what
+//! was sent under the old one and plans the rest afresh under the new one, from the levels
+//! that were reached.
+//!
 //! A drain of 0 was once typed for a line without a limit, and says the opposite: what
 //! is sent stays in the bucket. Jobs with it, in either bucket, are refused with 17,
 //! directly after 3 and before the next record is looked at: by [`open`], [`calls()`],
-//! [`plan`], [`write()`] and [`trial`], by [`called`], [`best_plan`], [`written`] and
-//! [`trial_job`], and by [`Session::open`]. Such jobs that are stored are opened by
+//! [`plan`], [`change`], [`write()`] and [`trial`], by [`called`], [`best_plan`],
+//! [`changed`], [`written`] and [`trial_job`], and by [`Session::open`]. Such jobs that are stored are opened by
 //! [`archive`], which takes all other jobs too; [`replay`], [`report`], [`turn`],
 //! [`replayed`] and [`turned`] take what it takes.
 //!
@@ -121,9 +125,11 @@ pub enum Refusal {
     /// [`Order`] always have one or the other.
     WrongRecord,
     /// 3: a field of the header is out of range, or the fields are not nine or
-    /// twelve. A [`Header`] always has one or the other.
+    /// twelve. A [`Header`] always has one or the other. Of a [`Contract`]: a size or a
+    /// drain is out of range, there is another number of them than the line has buckets,
+    /// no rate or more than 16.
     Header,
-    /// 4: a rate is over 4,095, or the rates do not rise.
+    /// 4: a rate is over 4,095, or the rates do not rise; also of a [`Contract`].
     Rates,
     /// 5: a choice's grains are over 4,095 or its distortion is over 1,000,000.
     Choices,
@@ -143,7 +149,7 @@ pub enum Refusal {
     TableTooShort,
     /// 12: another list that is to be filled is too short.
     ListTooShort,
-    /// 13: no plan is admissible.
+    /// 13: no plan is admissible. From [`change`]: none of the rest is.
     NoPlan,
     /// 14: the entries are not 3 × T bytes, or one of them is out of range. From
     /// [`turn`]: the job has more than 31 choices, or the bytes were no plan of two
@@ -155,12 +161,20 @@ pub enum Refusal {
     /// 16: a list's length is not what the header calls for.
     Lengths,
     /// 17: the drain of a bucket is 0, so that the line never drains. [`archive`],
-    /// [`replay`], [`report`] and [`turn`] take such a job.
+    /// [`replay`], [`report`] and [`turn`] take such a job. Of a [`Contract`] it is
+    /// refused too.
     NeverDrains,
+    /// 18: the interval after which the contract changes is not from 1 to T − 1.
+    NotWithin,
+    /// 19: the old plan has a violation up to the interval after which the contract
+    /// changes.
+    OldViolation,
+    /// 20: the level that a bucket has when the contract changes is over its new size.
+    CarriedOver,
 }
 
 impl Refusal {
-    const ALL: [Refusal; 17] = [
+    const ALL: [Refusal; 20] = [
         Refusal::Cut,
         Refusal::WrongRecord,
         Refusal::Header,
@@ -178,6 +192,9 @@ impl Refusal {
         Refusal::InputTooLong,
         Refusal::Lengths,
         Refusal::NeverDrains,
+        Refusal::NotWithin,
+        Refusal::OldViolation,
+        Refusal::CarriedOver,
     ];
 
     /// The refusal's number, from 1.
@@ -201,7 +218,8 @@ impl fmt::Display for Refusal {
                 "a record, an aim, an order or a call of another kind or length than the one due"
             }
             Refusal::Header => {
-                "a field of the header is out of range, or the fields are not nine or twelve"
+                "a field of the header or a number of a contract is out of range, or there are \
+                 more or fewer than are due"
             }
             Refusal::Rates => "a rate is over 4,095, or the rates do not rise",
             Refusal::Choices => "a choice's grains or distortion are over their limit",
@@ -217,6 +235,9 @@ impl fmt::Display for Refusal {
             Refusal::InputTooLong => "the input is longer than 32,768 bytes",
             Refusal::Lengths => "a list's length is not what the header calls for",
             Refusal::NeverDrains => "the drain of a bucket is 0, so that the line never drains",
+            Refusal::NotWithin => "the contract does not change within the programme",
+            Refusal::OldViolation => "the old plan has a violation before the contract changes",
+            Refusal::CarriedOver => "the level of a bucket is over its size in the new contract",
         })
     }
 }
@@ -460,6 +481,36 @@ impl Header {
     }
 }
 
+/// What a carrier sells: the rates, and the size and the drain of each bucket. A job has a
+/// contract of its own; [`change`] and [`changed`] put another in its place while the
+/// programme is sent. The decoder, the units and the delay stay, and the line keeps its
+/// number of buckets.
+#[derive(Clone, Copy, Debug, PartialEq, Eq, Hash)]
+pub struct Contract<'a> {
+    /// 1 to 16 rates, each at most 4,095, strictly rising.
+    pub rates: &'a [u16],
+    /// The size of each bucket, in the order of the job: at most 255 for the first, 63 for
+    /// the second.
+    pub sizes: &'a [u16],
+    /// The drain of each bucket, from 1 to 4,095.
+    pub drains: &'a [u16],
+}
+
+impl Contract<'_> {
+    /// How many words the table takes under this contract, for a job of so many intervals
+    /// ([`Opened::intervals`]) and a decoder of this size:
+    /// (T + 1) × (decoder size + 1) × (bucket size + 1), with two buckets
+    /// × (second size + 1).
+    pub fn table_words(self, intervals: usize, decoder: u16) -> usize {
+        let buffers = [decoder].into_iter().chain(self.sizes.iter().copied());
+        // A contract out of range may call for more than can be counted; it is refused,
+        // however long the list.
+        buffers.fold(intervals.saturating_add(1), |words, size| {
+            words.saturating_mul(usize::from(size) + 1)
+        })
+    }
+}
+
 /// The bytes of the largest job.
 const LARGEST_JOB: usize = 3_074_112;
 
@@ -529,7 +580,8 @@ pub struct Totals {
     /// What they leave of the drain, in grains: in each interval the larger of 0
     /// and the drain less the bucket's level before it less what it sends. The
     /// bucket's starting level + channel grains + unused grains = T × drain + its
-    /// last level.
+    /// last level; where the contract [changes](change), each interval counts with its own
+    /// drain.
     pub unused_grains: u64,
     /// The same of the second bucket, where the line has one.
     pub second_unused: Option<u64>,
@@ -892,6 +944,105 @@ pub fn turn(job: &[u8], old: &[u8], entries: &mut [u8]) -> Result<(), Refusal> {
     checked(numbers::turn(job, old, entries))
 }
 
+/// Plans the rest of a programme afresh when the carrier's contract changes. It makes the
+/// calls as [`calls()`] does, and goes by the pins that stand at the end; [`calls()`] says
+/// what they met with.
+///
+/// - `old`: 3 × T bytes, a plan of the job, as [`plan`] writes them.
+/// - `first`: how many of its entries remain, from 1 to T − 1. They lead to some levels
+///   under the job's own contract. The intervals after them are planned under the new one,
+///   from these levels.
+/// - `contract`: the new one, with as many sizes and drains as the job has buckets.
+/// - `order`: which of several plans of the rest as good it is to be.
+/// - `table`: [`Contract::table_words`] words, by the new sizes. The layers of intervals
+///   `first` to T are written as [`plan`] writes them, those before keep their values.
+/// - `entries`: 3 × T bytes are written: the first ones of `old`, then those of the rest,
+///   whose rates are counted in the new contract.
+///
+/// The plan of the rest has the least total distortion of all that start at those levels
+/// and are admissible under the new contract. The totals are of the whole plan, each interval
+/// counted by its own contract.
+///
+/// # Errors
+///
+/// In this order: 1 to 5 and 17 for the job; 14 for `old`; 3, 17 and 4 for the contract; 18
+/// where `first` is not from 1 to T − 1; 19 where `old` has a violation in an interval up to
+/// `first`, a pin that is not held too; 20 where the level that a bucket then has is over its
+/// new size; 11; 12 where `entries` is too short; 13, which leaves `table` written.
+pub fn change(
+    job: &[u8],
+    calls: &[Call],
+    old: &[u8],
+    first: u32,
+    contract: Contract,
+    order: Order,
+    table: &mut [u32],
+    entries: &mut [u8],
+) -> Result<Totals, Refusal> {
+    let (set, _) = set_after(job, calls)?;
+    change_with(job, &set, old, first, contract, order, table, entries)
+}
+
+/// The set of pins that calls leave, and what each of them met with.
+fn set_after(job: &[u8], calls: &[Call]) -> Result<(Vec<u32>, Vec<Result<(), Refusal>>), Refusal> {
+    let mut set = vec![0; numbers::SET_NUMBERS];
+    checked(numbers::set(job, &mut set))?;
+    let made = calls.iter().map(|call| {
+        checked(match *call {
+            Call::Pin { unit, choice } => numbers::pin(job, &mut set, unit, choice),
+            Call::Lift { unit } => numbers::lift(job, &mut set, unit),
+        })
+    });
+    let answers = made.collect();
+    Ok((set, answers))
+}
+
+fn change_with(
+    job: &[u8],
+    set: &[u32],
+    old: &[u8],
+    first: u32,
+    contract: Contract,
+    order: Order,
+    table: &mut [u32],
+    entries: &mut [u8],
+) -> Result<Totals, Refusal> {
+    let Contract { rates, sizes, drains } = contract;
+    let order = order.number();
+    let mut values = [0; numbers::PLAN_VALUES_MOST];
+    let lent = (table, entries, &mut values);
+    checked(numbers::change(
+        job, set, old, first, rates, sizes, drains, order, lent.0, lent.1, lent.2,
+    ))?;
+    Ok(Totals::of(values, buckets_of(job)))
+}
+
+/// Where the decoder's size stands in a set.
+const SET_DECODER: usize = 3;
+
+/// A change with lists of its own; the answers are left out.
+fn changed_with(
+    job: &[u8],
+    opened: Opened,
+    set: &[u32],
+    old: &[u8],
+    first: u32,
+    contract: Contract,
+    order: Order,
+) -> Result<BestPlan, Refusal> {
+    let mut entries = vec![0; opened.plan_bytes()];
+    // What refuses a contract comes before 11, so that the table's words are counted for
+    // one in range alone.
+    match change_with(job, set, old, first, contract, order, &mut [], &mut entries) {
+        Err(Refusal::TableTooShort) | Ok(_) => {}
+        Err(refusal) => return Err(refusal),
+    }
+    let decoder = set[SET_DECODER] as u16;
+    let mut table = vec![0; contract.table_words(opened.intervals, decoder)];
+    let totals = change_with(job, set, old, first, contract, order, &mut table, &mut entries)?;
+    Ok(BestPlan { totals, entries, answers: Vec::new(), table })
+}
+
 fn met_with(answers: Vec<u8>) -> Vec<Result<(), Refusal>> {
     answers.into_iter().map(|answer| checked(answer.into())).collect()
 }
@@ -963,7 +1114,8 @@ pub struct BestPlan {
     /// What each call met with; empty where a [`Session`] planned.
     pub answers: Vec<Result<(), Refusal>>,
     /// The least distortion from every state; for [`Aim::Even`] without the choices
-    /// above the plan's greatest distortion.
+    /// above the plan's greatest distortion. Where the contract changes it is that of the
+    /// new one, and 0 in the layers before.
     pub table: Vec<u32>,
 }
 
@@ -1338,6 +1490,62 @@ impl<'a> Session<'a> {
         Ok((found.held(&levels, *opened), found))
     }
 
+    /// Plans the rest of the programme afresh when the carrier's contract changes, with the
+    /// pins that stand, as [`changed`] does with those that calls leave. The session stays
+    /// with the job's own contract, and so does [`Session::table`].
+    ///
+    /// # Errors
+    ///
+    /// In this order: 14 for `old`; 3, 17 and 4 for the contract; 18; 19; 20; 13.
+    ///
+    /// # Examples
+    ///
+    /// While the contract stays as it was, the rest of a best plan is planned as it was.
+    /// Then unit 1, which is decoded in interval 2, is pinned at its second choice.
+    ///
+    /// ```
+    /// use upload_planner::{written, Aim, Contract, Header, Order, Refusal, Session};
+    ///
+    /// let header = Header {
+    ///     units: 2,
+    ///     delay: 1,
+    ///     decoder: 4,
+    ///     bucket: 3,
+    ///     drain: 2,
+    ///     level: 0,
+    ///     fill: 0,
+    ///     rates: 3,
+    ///     choices: 2,
+    ///     second: None,
+    /// };
+    /// let job = written(&header, &[0, 2, 4], &[4, 2, 5, 2], &[10, 30, 12, 40])?;
+    /// let mut session = Session::open(&job)?;
+    /// let best = session.plan(Aim::Total, Order::Early)?;
+    /// let same = Contract { rates: &[0, 2, 4], sizes: &[3], drains: &[2] };
+    /// for first in 1..=2 {
+    ///     let again = session.change(&best.entries, first, same, Order::Early)?;
+    ///     assert_eq!((again.entries, again.totals), (best.entries.clone(), best.totals));
+    /// }
+    ///
+    /// // After interval 1 the pin can be held still, after interval 2 it is too late.
+    /// session.pin(1, 1)?;
+    /// let coarse = session.change(&best.entries, 1, same, Order::Early)?;
+    /// assert_eq!(coarse.entries, [2, 255, 255, 0, 1, 0, 1, 1, 0]);
+    /// assert_eq!(coarse.totals.distortion, 30 + 40);
+    /// let late = session.change(&best.entries, 2, same, Order::Early);
+    /// assert_eq!(late, Err(Refusal::OldViolation));
+    /// # Ok::<(), Refusal>(())
+    /// ```
+    pub fn change(
+        &self,
+        old: &[u8],
+        first: u32,
+        contract: Contract,
+        order: Order,
+    ) -> Result<BestPlan, Refusal> {
+        changed_with(self.job, self.opened, &self.set, old, first, contract, order)
+    }
+
     /// The choice that a unit is pinned at; `None` where it is free, or the job has no
     /// such unit.
     pub fn pin_of(&self, unit: u16) -> Option<u16> {
@@ -1412,6 +1620,83 @@ impl fmt::Debug for Session<'_> {
             .field("best_total", &self.best_total())
             .finish_non_exhaustive()
     }
+}
+
+/// [`change`] with lists of its own, as long as the job and the contract need.
+///
+/// # Errors
+///
+/// In this order: 1 to 5 and 17 for the job; 14 for `old`; 3, 17 and 4 for the contract; 18;
+/// 19; 20; 13.
+///
+/// # Examples
+///
+/// The best plan sends four grains in interval 1, which fill the decoder and leave two in the
+/// bucket; then nothing for unit 1, which takes all four, and four more for unit 2. After
+/// interval 1 the carrier lowers the rates, the bucket's size and its drain.
+///
+/// Interval 2 can still send nothing only, and leaves one grain in the bucket. Three grains in
+/// interval 3 would leave three there, and it now holds two. One grain is no use to unit 2,
+/// which takes two, unless unit 1 leaves some: so unit 1 takes two, and loses 30.
+///
+/// ```
+/// use upload_planner::{best_plan, changed, written, Aim, Call, Contract, Header, Order};
+/// use upload_planner::Refusal;
+///
+/// let header = Header {
+///     units: 2,
+///     delay: 1,
+///     decoder: 4,
+///     bucket: 3,
+///     drain: 2,
+///     level: 0,
+///     fill: 0,
+///     rates: 3,
+///     choices: 2,
+///     second: None,
+/// };
+/// let job = written(&header, &[0, 2, 4], &[4, 2, 5, 2], &[10, 30, 12, 40])?;
+/// let old = best_plan(&job, &[], Aim::Total, Order::Early)?.entries;
+/// assert_eq!(old, [2, 255, 255, 0, 0, 0, 2, 1, 0]);
+///
+/// let lower = Contract { rates: &[0, 1, 3], sizes: &[2], drains: &[1] };
+/// let best = changed(&job, &[], &old, 1, lower, Order::Early)?;
+/// assert_eq!(best.entries, [2, 255, 255, 0, 1, 0, 1, 1, 0]);
+/// assert_eq!(best.totals.distortion, 30 + 40);
+/// assert_eq!(best.totals.channel_grains, 4 + 0 + 1);
+///
+/// // The table is that of the new contract from interval 1 on; the layer before was not
+/// // written. After interval 1 the decoder holds four grains; with less than two in the
+/// // bucket interval 3 could send three.
+/// assert_eq!(best.table.len(), 4 * 5 * 3);
+/// assert_eq!(best.table[..15], [0; 15]);
+/// assert_eq!(best.table[(1 * 5 + 4) * 3..][..3], [50, 50, 70]);
+///
+/// // Late it sends nothing in interval 3.
+/// let late = changed(&job, &[], &old, 1, lower, Order::Late)?;
+/// assert_eq!(late.entries, [2, 255, 255, 0, 1, 0, 0, 1, 0]);
+///
+/// // Unit 1 is to have its four grains all the same; or the bucket has no room for what is
+/// // in it; or the programme is over.
+/// let fine = [Call::Pin { unit: 1, choice: 0 }];
+/// assert_eq!(changed(&job, &fine, &old, 1, lower, Order::Early), Err(Refusal::NoPlan));
+/// let small = Contract { sizes: &[1], ..lower };
+/// assert_eq!(changed(&job, &[], &old, 1, small, Order::Early), Err(Refusal::CarriedOver));
+/// assert_eq!(changed(&job, &[], &old, 3, lower, Order::Early), Err(Refusal::NotWithin));
+/// # Ok::<(), Refusal>(())
+/// ```
+pub fn changed(
+    job: &[u8],
+    calls: &[Call],
+    old: &[u8],
+    first: u32,
+    contract: Contract,
+    order: Order,
+) -> Result<BestPlan, Refusal> {
+    let opened = open(job)?;
+    let (set, answers) = set_after(job, calls)?;
+    let best = changed_with(job, opened, &set, old, first, contract, order)?;
+    Ok(BestPlan { answers, ..best })
 }
 
 /// [`turn`] with a list of its own, as long as the job needs.

@@ -8,16 +8,16 @@
 //! first: 1 to 5, and of [`open`], [`calls`], [`plan`], [`set`] and all that take a set
 //! but [`replay_set`] also 17. An aim that is neither [`TOTAL`] nor [`EVEN`] is refused
 //! with 2 too, right after the job's numbers and before the calls', or after the set's 6,
-//! and so is an order that is neither [`EARLY`] nor [`LATE`], right after the aim. A
-//! `values` list is one of those to be filled: where it is too short, its 12 comes right
-//! after theirs.
+//! and so is an order that is neither [`EARLY`] nor [`LATE`], right after the aim, or where
+//! there is none in its place. A `values` list is one of those to be filled: where it is too
+//! short, its 12 comes right after theirs.
 //!
 //! A set of pins is [`SET_NUMBERS`] numbers that the caller keeps between calls: [`set`]
 //! writes the one without a pin, [`pin`], [`lift`], [`pin_and_see`] and [`lift_and_see`]
-//! bring it up to date, [`plan_set`] and [`replay_set`] read it. Number 0 is the kind of
-//! the job's header, 1 or 8 for one bucket or two; then come twelve fields in the order of
-//! [`write()`], the last three 0 where there is one bucket; from [`SET_PINS`] on the pins
-//! of units 1 to 512, a choice or [`NO_PIN`]; from [`SET_TOTALS`] on the three values of
+//! bring it up to date, [`plan_set`], [`replay_set`] and [`change`] read it. Number 0 is the
+//! kind of the job's header, 1 or 8 for one bucket or two; then come twelve fields in the
+//! order of [`write()`], the last three 0 where there is one bucket; from [`SET_PINS`] on the
+//! pins of units 1 to 512, a choice or [`NO_PIN`]; from [`SET_TOTALS`] on the three values of
 //! [`calls`]. Each call reads all of them against the job again and refuses others with 6,
 //! right after the job's numbers. Numbers behind them are not looked at and keep their
 //! values. [`archive_set`] writes the set of a stored job whose line may never drain.
@@ -56,11 +56,11 @@ pub const OPEN_VALUES: usize = 4;
 /// How many values [`calls`] writes: how many pins stand at the end, the sum of
 /// their grains, the sum of their distortions.
 pub const CALLS_VALUES: usize = 3;
-/// How many values [`plan`] writes for a job with one bucket: distortion, source
-/// grains, channel grains, unused grains.
+/// How many values [`plan`] and [`change`] write for a job with one bucket: distortion,
+/// source grains, channel grains, unused grains.
 pub const PLAN_VALUES: usize = 4;
-/// How many values [`plan`] writes for a job with two buckets, where the unused
-/// grains of the second come last. A list of so many is long enough for every job.
+/// How many values [`plan`] and [`change`] write for a job with two buckets, where the
+/// unused grains of the second come last. A list of so many is long enough for every job.
 pub const PLAN_VALUES_MOST: usize = 5;
 /// How many values [`replay`] writes for a job with one bucket: 0 or the
 /// violation's number; its interval or 0; then those of [`plan`], each 0 where
@@ -226,6 +226,29 @@ extern "C" {
         entries_len: usize,
     ) -> u32;
 
+    fn upload_change(
+        job: *const u8,
+        job_len: usize,
+        set: *const u32,
+        set_len: usize,
+        old: *const u8,
+        old_len: usize,
+        first: u32,
+        rates: *const u16,
+        rates_len: usize,
+        sizes: *const u16,
+        sizes_len: usize,
+        drains: *const u16,
+        drains_len: usize,
+        order: u32,
+        table: *mut u32,
+        table_len: usize,
+        entries: *mut u8,
+        entries_len: usize,
+        values: *mut u64,
+        values_len: usize,
+    ) -> u32;
+
     fn upload_write(
         fields: *const u16,
         fields_len: usize,
@@ -252,7 +275,7 @@ extern "C" {
     ) -> u32;
 }
 
-// In all seventeen: a slice's pointer is aligned, never null, and good for the
+// In all eighteen: a slice's pointer is aligned, never null, and good for the
 // slice's length; slices that are written overlap no other. That is all the
 // library asks, and it reads and writes nothing else.
 
@@ -487,6 +510,48 @@ pub fn turn(job: &[u8], old: &[u8], entries: &mut [u8]) -> u32 {
             old.len(),
             entries.as_mut_ptr(),
             entries.len(),
+        )
+    }
+}
+
+/// Plans the rest of a programme afresh under a new contract, from the levels that the first
+/// entries of an old plan led to, with the pins of a set and in the order, [`EARLY`] or
+/// [`LATE`].
+pub fn change(
+    job: &[u8],
+    set: &[u32],
+    old: &[u8],
+    first: u32,
+    rates: &[u16],
+    sizes: &[u16],
+    drains: &[u16],
+    order: u32,
+    table: &mut [u32],
+    entries: &mut [u8],
+    values: &mut [u64],
+) -> u32 {
+    unsafe {
+        upload_change(
+            job.as_ptr(),
+            job.len(),
+            set.as_ptr(),
+            set.len(),
+            old.as_ptr(),
+            old.len(),
+            first,
+            rates.as_ptr(),
+            rates.len(),
+            sizes.as_ptr(),
+            sizes.len(),
+            drains.as_ptr(),
+            drains.len(),
+            order,
+            table.as_mut_ptr(),
+            table.len(),
+            entries.as_mut_ptr(),
+            entries.len(),
+            values.as_mut_ptr(),
+            values.len(),
         )
     }
 }
