@@ -1,4 +1,5 @@
 -- What is proved of the definitions, for the proofs of crates that name this one.
+pub mod Unders
 pub mod Prefix
 pub mod Conditions
 pub mod Front

@@ -6,7 +6,7 @@ use mathlib.Core.List.{List, [], _∷_, _++_}
 use lib.ListN.{length, getD, take, drop}
 use Rattle.base.specs.Answer.{refused, gives}
 use Rattle.base.specs.Refusals.{Condition, condition, InOrder}
-use Rattle.model.specs.Job.{Levels, Job, Entry, intervals}
+use Rattle.model.specs.Job.{bucketAt, Levels, Job, Entry, intervals}
 use Rattle.model.specs.Levels.{bucketLevels}
 use Rattle.model.specs.Pins.{PinMap, Click, no-pins, clicks-after}
 use Rattle.model.specs.Admissible.{AllWithin, Shows, ending, SoundFor, Admissible}
@@ -44,6 +44,17 @@ Draining n c = (i : ℕ) → i < n → 1 ≤ getD (c .drains) i 0
 pub record Rising (c : Contract) : Type 0 where
   pub most : (y : ℕ) → y < length (c .rates) → getD (c .rates) y 0 ≤ 4095
   pub rise : (y : ℕ) → y + 1 < length (c .rates) → getD (c .rates) y 0 < getD (c .rates) (y + 1) 0
+
+-- the job under the new contract: its rates and, bucket by bucket, its sizes and drains; all else is the old job's
+pub record UnderClaim (j : Job) (c : Contract) (k : Job) : Type 0 where
+  pub rates : k .line .rates ≡ c .rates
+  pub count : length (k .line .buckets) ≡ length (j .line .buckets)
+  pub size : (i : ℕ) → i < length (j .line .buckets) → bucketAt (k .line .buckets) i .size ≡ getD (c .sizes) i 0
+  pub drain : (i : ℕ) → i < length (j .line .buckets) → bucketAt (k .line .buckets) i .drain ≡ getD (c .drains) i 0
+  pub decoder : k .line .decoder ≡ j .line .decoder
+  pub delay : k .delay ≡ j .delay
+  pub choices : k .choices ≡ j .choices
+  pub units : k .units ≡ j .units
 
 -- what the call asks of a job that the set matches, in order, where m are the set's pins
 abbrev pub Asks : Job → PinMap → List ℕ → ℕ → Contract → List ℕ → List ℕ → List Condition
@@ -88,6 +99,9 @@ module _ (j : Job) (m : PinMap) (old : List ℕ) (s : ℕ) (c : Contract) (o : O
     pub table-size : length (r .table) ≡ length table
 
 -- The claims.
+
+abbrev pub Unders : Type 0
+Unders = (j : Job) (c : Contract) → Offers (length (j .line .buckets)) c → UnderClaim j c (under j c)
 
 -- of the call with any set: the job, 1 to 5 and 17, then the set, then the conditions above; where nothing of these refuses it, as claimed
 abbrev pub ChangeCalls : Type 0
