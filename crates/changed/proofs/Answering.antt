@@ -46,8 +46,8 @@ module _ (job l : List ℕ) (own : PinSet) (named : own ≡ set-in l) (old : Lis
     pub change-12 : length values < 3 + buckets-in job → set-planned 12 table entries values ≡ change-export job l old s c order table entries values
     change-12 h = few (λ n. set-planned n table entries values) O (3 + buckets-in job) values _ e h ∙ sym export-is
 
-    pub change-told : 3 + buckets-in job ≤ length values → (x : Planned) (t p : List ℕ) → planner.planned x t p ≡ change-call job own old s c (order-named order) table entries → (r : ℕ) (new : List ℕ) → Told x values r new → set-planned r t p new ≡ change-export job l old s c order table entries values
-    change-told room x t p i r new h = found-told x t p _ i values r new h ∙ sym (export-is ∙ behind (λ n. set-planned n table entries values) O (3 + buckets-in job) values _ e room)
+    pub change-told : 3 + buckets-in job ≤ length values → (o : Order) → o ≡ order-named order → (x : Planned) (t p : List ℕ) → planner.planned x t p ≡ change-call job own old s c o table entries → (r : ℕ) (new : List ℕ) → Told x values r new → set-planned r t p new ≡ change-export job l old s c order table entries values
+    change-told room o q x t p i r new h = found-told x t p _ i values r new h ∙ ap (λ (o : Order). after-plan (change-call job own old s c o table entries) values) q ∙ sym (export-is ∙ behind (λ n. set-planned n table entries values) O (3 + buckets-in job) values _ e room)
 
 -- there is room for the values that the code writes
 pub change-room : (b : List ℕ) (own : PinSet) (old : List ℕ) (s : ℕ) (c : Contract) (o : Order) (table entries : List ℕ) (x : Planned) (t p : List ℕ) → planner.planned x t p ≡ change-call b own old s c o table entries → (n : ℕ) → 3 + buckets-in b ≤ n → Room x n

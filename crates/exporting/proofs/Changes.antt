@@ -12,7 +12,6 @@ use Rattle.format.specs.Parser.{Looks, on-read}
 use Rattle.format.specs.Parser as P
 use Rattle.format.specs.JobBytes.{opening, parse}
 use Rattle.format.specs.Claims.{InLimits}
-use Rattle.pinning.specs.PinSet.{PinSet}
 use Rattle.pinning.specs.Check.{Matches, checked}
 use Rattle.pinning.specs.Numbers.{set-in}
 use Rattle.pinning.proofs.Agree.{limits, checked-refused, matched, unmatched}
@@ -20,7 +19,6 @@ use Rattle.planning.specs.Calls as planning
 use Rattle.planning.specs.Calls.{refuse}
 use Rattle.planning.specs.Seeing.{pins-of}
 use Rattle.changing.specs.Contracts.{Contract}
-use Rattle.changing.specs.Calls.{change-call}
 use Rattle.changing.specs.Claims.{Asks, ChangeClaim}
 use Rattle.changing.proofs.Changes.{Following, in-turn, follows, change-calls}
 use Rattle.changing.proofs.Changes as changing

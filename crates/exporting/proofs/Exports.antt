@@ -13,10 +13,8 @@ use Rattle.base.specs.Lent.{over, put}
 use Rattle.base.specs.Lent as lent
 use Rattle.base.proofs.Refusals.{Decides, no-more, one-more, decides-join, AllHold, in-order, guarded-here, guarded-last, unless-some, unless-none}
 use Rattle.base.proofs.Lent.{put-given, put-refused}
-use Rattle.model.specs.Job.{Job, Entry, intervals}
-use Rattle.model.specs.Pins.{PinMap, pin-totals}
-use Rattle.model.specs.Admissible.{Admissible}
-use Rattle.model.specs.Best.{Aim, Order}
+use Rattle.model.specs.Job.{Job, intervals}
+use Rattle.model.specs.Pins.{pin-totals}
 use Rattle.model.specs.Replay.{Totals}
 use Rattle.model.specs.Table.{words}
 use Rattle.format.specs.Parser.{Looks, on-read, on-took, refusal-in}
@@ -31,8 +29,6 @@ use Rattle.replaying.specs.Calls.{Replayed, totals-are, violated, report-call, 
 use Rattle.replaying.proofs.Reports.{replay-decides, reports}
 use Rattle.replaying.specs.Former.{turn-call}
 use Rattle.replaying.proofs.Former.{turns}
-use Rattle.planning.specs.Calls as planning
-use Rattle.planning.specs.Claims.{PlanClaim}
 use Rattle.format.specs.Places.{job-size}
 use Rattle.writing.specs.Claims.{Asks, Written}
 use Rattle.writing.proofs.Refusals.{refusal-order, done-first}

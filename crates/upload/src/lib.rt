@@ -193,7 +193,19 @@ pub extern "C" fn upload_change(
 ) -> u32
     ensures { λ r. ⌜ set-planned r (now (table .exit)) (now (entries .exit)) (now (values .exit)) ≡ change-export (now (job .entry)) (now (set .entry)) (now (old .entry)) first (contract (now (rates .entry)) (now (sizes .entry)) (now (drains .entry))) order (now (table .entry)) (now (entries .entry)) (now (values .entry)) ⌝ }
 {
-    changed::change(job, set, old, first, rates, sizes, drains, order, table, entries, values)
+    changed::change(
+        job,
+        set,
+        old,
+        first,
+        rates,
+        sizes,
+        drains,
+        order,
+        table,
+        entries,
+        values,
+    )
 }
 
 // Writes a job from the nine fields of its header, or twelve, its rates, and sizes and distortions by unit and choice, unit after unit. Values: how many bytes the job took. Another number of fields is no header.

@@ -58,7 +58,7 @@ same-length-3 c = search needs
 returns-3 : tie.Need-returns-3
 unfolding verdict
 returns-3 c =
-    change-told _ _ _ (c .before .before .before .before .before .before .before .before .before .before .before .before .before .before .before .before .before .set-in .ensures) _ _ _ _ _ _ _ (ap verdict (sym (c .before .before .before .before .before .before .before .before .before .before .before .before .before .before .enum-told .given .1)) ∙ c .before .before .before .before .before .before .before .before .before .before .before .before .before .before .before .before .set-refusal .ensures) (rw (← c .before .before .before .before .before .before .before .before .before .before .before .before .before .buckets-in .ensures) (c .before .before .before .before .before .before .before .before .before .before .before .before .if1 .left)) (c .before .before .before .before .before .before .before .before .change .result) _ _ (rw (← c .before .before .before .before .before .before .before .before .before .before .before .order-named .ensures) (c .before .before .before .before .before .before .before .before .change .ensures)) _ _ (c .before .before .tell .ensures)
+    change-told _ _ _ (c .before .before .before .before .before .before .before .before .before .before .before .before .before .before .before .before .before .set-in .ensures) _ _ _ _ _ _ _ (ap verdict (sym (c .before .before .before .before .before .before .before .before .before .before .before .before .before .before .enum-told .given .1)) ∙ c .before .before .before .before .before .before .before .before .before .before .before .before .before .before .before .before .set-refusal .ensures) (rw (← c .before .before .before .before .before .before .before .before .before .before .before .before .before .buckets-in .ensures) (c .before .before .before .before .before .before .before .before .before .before .before .before .if1 .left)) _ (c .before .before .before .before .before .before .before .before .before .before .before .order-named .ensures) (c .before .before .before .before .before .before .before .before .change .result) _ _ (c .before .before .before .before .before .before .before .before .change .ensures) _ _ (c .before .before .tell .ensures)
 
 pub change-spec : {M : Type 1} → statement M
 change-spec =
