@@ -475,12 +475,14 @@ uint32_t upload_turn(const uint8_t *job, size_t job_len,
             first, 63 for the second.
    drains:  the new drain of each bucket, 1 to 4,095.
    order:   one of enum upload_order.
-   table:   (T + 1) x (D + 1) x (K + 1) words, with a second bucket x (K2 + 1), by the
-            NEW sizes: layers `first` to T are written, those before stay.
+   table:   (T + 1) x (decoder size + 1) x (bucket size + 1) words, with a second
+            bucket x (its size + 1), by the new sizes: layers `first` to T are
+            written, those before stay.
    entries: 3 x T bytes written: the old ones, then those of the rest, whose rate
             indices are of the new rates.
-   values:  distortion, source size and channel size of the whole plan, then the
-            unused drain of each bucket: each interval by its own contract.
+   values:  3 numbers and one for each bucket written, as upload_plan writes them:
+            distortion, source size and channel size of the whole plan, then the
+            unused drain of each bucket, each interval by its own contract.
 
    Refusals in order: 1 to 5 and 17 for the job; 6; 2 for another order; 14 for the
    old plan; of the new contract 3 (a size or drain out of range, another number of

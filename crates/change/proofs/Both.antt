@@ -2,7 +2,7 @@
 use Prim.Native.Nat.{ℕ, suc, _+_, _≤_, _<_}
 use mathlib.Core.Path.{_≡_, refl, sym, ap, _∙_}
 use mathlib.Core.Bool.{Bool, true, false, _&&_}
-use mathlib.Core.Option.{Option, none, some, Option·map}
+use mathlib.Core.Option.{Option·map}
 use mathlib.Core.List.{List, [], _∷_, _++_, append-assoc, zipWith}
 use native.Mathlib.Omega.{arith}
 use native.Mathlib.Numerals.{add-one}

@@ -1,17 +1,14 @@
 -- A change over a line: what planning the rest asks, and what it comes to.
-use Prim.Native.Nat.{ℕ, _+_, _-_, _*_, _≤_, _<_}
-use mathlib.Core.Path.{_≡_, refl, sym, ap, _∙_}
+use Prim.Native.Nat.{ℕ, _-_, _*_}
+use mathlib.Core.Path.{_≡_, sym, _∙_}
 use mathlib.Core.Bool.{true}
 use mathlib.Core.Option.{none, some}
 use mathlib.Core.List.{List}
 use native.Mathlib.Omega.{arith}
-use lib.ListN.{length, take, drop, length-drop, length-map}
-use Rattle.model.specs.Job as model
-use Rattle.model.specs.Job.{Job, intervals}
+use lib.ListN.{length, take, drop, length-drop}
+use Rattle.model.specs.Job.{Job}
 use Rattle.model.specs.Pins.{PinMap}
-use Rattle.model.specs.Replay as r
 use Rattle.model.specs.Best.{Order, total}
-use Rattle.model.specs.Table.{InLayer}
 use Rattle.format.specs.JobBytes.{Header, opening, rate-limits, job-in, Opens}
 use Rattle.format.proofs.Bounds.{start-inside}
 use Rattle.format.proofs.Opened.{job-limits, units-are, intervals-are, decoder-is}

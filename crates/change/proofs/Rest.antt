@@ -2,12 +2,12 @@
 use Prim.Native.Nat.{ℕ, _+_, _-_, _*_, _≤_, _<_}
 use mathlib.Core.Path.{_≡_, refl, sym, ap, _∙_}
 use mathlib.Core.Option.{Option, none, some}
-use mathlib.Core.List.{List, [], _∷_, _++_, append-nil}
+use mathlib.Core.List.{List, _++_, append-nil}
 use native.Mathlib.Omega.{arith}
 use lib.ListN.{length, getD, take, drop, length-drop, take-append-drop, drop-of-length-le}
 use lib.Seq.{length-take-le, take-all, drop-at, getD-take}
 use borrow.Rule.Slice.PartMut.{putMid, post-is}
-use Rattle.base.specs.Answer.{Answer, refused, gives}
+use Rattle.base.specs.Answer.{refused, gives}
 use Rattle.base.proofs.Answers.{not-refused, gives-same}
 use Rattle.model.specs.Job as model
 use Rattle.model.specs.Job.{Job, on-line, intervals}
@@ -15,7 +15,6 @@ use Rattle.model.specs.Pins.{PinMap}
 use Rattle.model.specs.Replay as r
 use Rattle.model.specs.Replay.{plus}
 use Rattle.model.specs.Best.{Order, Open, least-total, total, open-for}
-use Rattle.model.specs.Table.{words}
 use Rattle.model.proofs.Lines.{intervals-on}
 use Rattle.model.proofs.Walks.{fits-length}
 use Rattle.format.specs.JobBytes.{Header, job-in, Opens}
@@ -30,11 +29,9 @@ use Rattle.best.proofs.Plans.{drains-most}
 use Rattle.replaying.specs.Entries.{entry-size}
 use Rattle.planning.specs.Calls as calls
 use Rattle.planning.specs.Calls.{searched, search-in}
-use Rattle.planning.specs.Claims.{BestWritten}
 use Rattle.planning.proofs.DemandThree.{search-claim}
 use Rattle.planner.specs.declared.Planned.the-variants as p
-use Rattle.planner.specs.Answers.{answered, planned, Searches}
-use Rattle.front.specs.Answers.{SmallTotals}
+use Rattle.planner.specs.Answers.{answered, planned}
 use Rattle.changing.specs.Calls.{both-totals, all-entries, behind}
 use Rattle.changing.proofs.Small.{distortion-small, source-small, channel-small, unused-small}
 use Rattle.change.specs.Answers.{Adds, Continues}

@@ -1,11 +1,10 @@
 -- What refuses a change, test by test, and what is known where nothing does.
 use Prim.Native.Nat.{ℕ, _+_, _-_, _*_, _≤_, _<_}
-use mathlib.Core.Path.{_≡_, refl, sym, ap, _∙_}
-use mathlib.Core.Bool.{Bool, true, false}
+use mathlib.Core.Path.{_≡_, sym, _∙_}
+use mathlib.Core.Bool.{true, false}
 use mathlib.Core.Option.{none, some}
-use mathlib.Core.List.{List, [], _∷_}
+use mathlib.Core.List.{List}
 use native.Mathlib.Omega.{arith}
-use lib.ListN.{length}
 use borrow.Author.Tests.{lt-leb, le-leb, leb-true}
 use Rattle.base.specs.Refusals.{refusal}
 use Rattle.base.proofs.Refusals.{refusal-past, refusal-here, refusal-last, refusal-none}
@@ -13,7 +12,7 @@ use Rattle.model.specs.Job.{Job, on-line, intervals}
 use Rattle.model.specs.Pins.{PinMap}
 use Rattle.model.specs.Step.{overfull}
 use Rattle.model.specs.Replay.{totals}
-use Rattle.model.specs.Table.{layerWords, words}
+use Rattle.model.specs.Table.{words}
 use Rattle.model.proofs.Lines.{intervals-on}
 use Rattle.format.specs.Limits.{limit, kept}
 use Rattle.format.proofs.Limits.{is-kept, of-kept, not-kept}

@@ -1,15 +1,15 @@
 -- What refuses a change for a job that the set matches: the old plan, the contract's three, then the rest.
-use Prim.Native.Nat.{ℕ, suc, _+_, _*_, _≤_}
-use mathlib.Core.Path.{_≡_, refl, sym, ap, ap₂, _∙_}
+use Prim.Native.Nat.{ℕ, suc, _+_}
+use mathlib.Core.Path.{_≡_, refl, sym, ap, _∙_}
 use mathlib.Core.Bool.{Bool, true, false}
-use mathlib.Core.Option.{Option, none, some}
+use mathlib.Core.Option.{Option, some}
 use mathlib.Core.List.{List, [], _∷_, map, zipWith}
 use native.Mathlib.Omega.{arith}
 use lib.ListN.{length, length-map}
 use Rattle.base.specs.If.{if_then_else_, one-if}
 use Rattle.base.specs.Refusals.{refusal}
 use Rattle.base.proofs.Refusals.{refusal-past, refusal-here}
-use Rattle.model.specs.Job.{Line, Job, on-line, intervals}
+use Rattle.model.specs.Job.{Line, Job, on-line}
 use Rattle.model.specs.Pins.{PinMap}
 use Rattle.format.specs.Limits.{each-kept}
 use Rattle.format.proofs.Limits.{all-fit}
@@ -17,7 +17,6 @@ use Rattle.format.specs.JobBytes.{Policed, Header, bucket-of, opening, drain-li
 use Rattle.format.proofs.Opened.{decoder-is}
 use Rattle.header.specs.Answers.{extra}
 use Rattle.line.specs.declared.Line as code
-use Rattle.line.specs.Answers.{line-is}
 use Rattle.table.specs.Answers.{job-on}
 use Rattle.replaying.specs.Entries.{shaped}
 use Rattle.replay.proofs.Levels.{bucket-count}

@@ -88,7 +88,7 @@ fn put_first(entries: &mut [u8], old: &[u8], count: usize)
     }
 }
 
-// Plans the rest, behind the first `first` entries, whose totals are known. They are copied when the rest has a plan.
+// Plans the rest, behind the first `first` entries, whose totals are known. These entries are copied when the rest has a plan.
 fn plan_rest(
     order: Order,
     job: &[u8],

@@ -1,41 +1,39 @@
 -- A change of contract, with any set and after any list of pins and lifts: `ChangeCalls`, `ChangesAfter` and `ChangeKeeps`.
 use Prim.Native.Nat.{ℕ, _+_, _-_, _*_, _≤_, _<_}
-use mathlib.Core.Path.{_≡_, refl, sym, ap, ap₂, _∙_}
+use mathlib.Core.Path.{_≡_, refl, sym, ap, ap₂, _∙_, subst}
 use mathlib.Core.Logic.{_↔_}
 use mathlib.Core.Bool.{Bool, true, false}
 use mathlib.Core.Option.{Option, none, some}
 use mathlib.Core.List.{List, [], _∷_, _++_}
 use native.Mathlib.Omega.{arith}
-use lib.ListN.{length, take, drop, length-append, length-drop, length-map}
+use lib.ListN.{length, take, drop, length-append, length-drop}
 use lib.Seq.{length-take-le, take-append-add, drop-append-add, drop-drop}
 use lib.Dec.{leb}
 use borrow.Author.Tests.{leb-true, le-leb}
 use Rattle.base.specs.Answer.{Answer, refused, gives}
-use Rattle.base.specs.Refusals.{Test, Condition, condition, guarded, InOrder}
+use Rattle.base.specs.Refusals.{Test, Condition, guarded, InOrder}
 use Rattle.base.proofs.Answers.{not-refused}
-use Rattle.base.proofs.Refusals.{guarded-past, guarded-here, guarded-last, guarded-none, AllHold, Guarded, was-refused, was-done, guarded-is}
-use Rattle.model.specs.Job.{Levels, Job, Entry, on-line, intervals}
+use Rattle.base.proofs.Refusals.{guarded-past, guarded-here, guarded-none, AllHold}
+use Rattle.model.specs.Job.{Levels, Job, on-line, intervals}
 use Rattle.model.specs.Levels.{bucketLevels}
 use Rattle.model.specs.Pins.{PinMap}
-use Rattle.model.specs.Admissible.{AllWithin, Shows, ending, SoundFor, Admissible}
+use Rattle.model.specs.Admissible.{AllWithin, Shows, ending, SoundFor}
 use Rattle.model.specs.Step.{overfull}
 use Rattle.model.specs.Replay.{Totals, totals, plus}
 use Rattle.model.specs.Best.{Order, Open, unlimited, least-total, total, open-for}
-use Rattle.model.specs.Table.{layerWords, words, IsTable}
-use Rattle.model.specs.Claims.{kept-open}
+use Rattle.model.specs.Table.{words}
 use Rattle.model.proofs.Lines.{intervals-on}
 use Rattle.format.specs.Choices.{no-choice}
-use Rattle.format.specs.Parser.{took, on-read}
-use Rattle.format.specs.Parser as P
-use Rattle.format.specs.JobBytes.{parse, opening, header-in}
+use Rattle.format.specs.Parser.{on-read}
+use Rattle.format.specs.JobBytes.{opening}
 use Rattle.format.specs.Claims.{InLimits}
-use Rattle.format.proofs.Bounds.{limited}
+use Rattle.format.proofs.Bounds.{limited, start-inside}
 use Rattle.format.proofs.Places.{well-read}
-use Rattle.pinning.specs.PinSet.{PinSet, lines}
-use Rattle.pinning.specs.Check.{Matches, checked}
+use Rattle.pinning.specs.PinSet.{lines}
+use Rattle.pinning.specs.Check.{checked}
 use Rattle.pinning.proofs.Agree.{checked-refused, matched, unmatched}
 use Rattle.pinning.proofs.History.{history}
-use Rattle.replaying.specs.Entries.{entry-size, entry-at, entry-bytes, plan-from, plan-of, shaped}
+use Rattle.replaying.specs.Entries.{entry-size, entry-at, plan-from, plan-of}
 use Rattle.replaying.specs.Claims.{InShape}
 use Rattle.replaying.proofs.Entries.{shapes}
 use Rattle.planning.specs.Words.{table-from}
@@ -45,10 +43,12 @@ use Rattle.planning.proofs.Layers.{from-table}
 use Rattle.planning.proofs.DemandThree.{search-claim}
 use Rattle.planning.proofs.Refusals.{guarded-keeps, read-keeps, search-keeps}
 use Rattle.changing.specs.Contracts.{Contract, line-under, under}
-use Rattle.changing.specs.Calls.{remaining, front, carried, is-clean, none-over, rest-tests, change-tests, both-totals, all-entries, behind, change-in, change-call}
-use Rattle.changing.specs.Claims.{Offers, Draining, Rising, Asks, Continued, ChangeClaim, ChangeCalls, ChangesAfter, ChangeKeeps}
+use Rattle.changing.specs.Calls.{remaining, carried, none-over, rest-tests, change-tests, both-totals, all-entries, behind, change-in, change-call}
+use Rattle.changing.specs.Claims.{Offers, Asks, Counted, Continued, ChangeClaim, ChangeCalls, ChangesAfter, ChangeKeeps}
 use Rattle.changing.proofs.Conditions.{offers-iff, draining-iff, rising-iff, within-iff, within-is}
-use Rattle.changing.proofs.Front.{entries-take, read-both, sound-iff, carried-shows}
+use Rattle.changing.proofs.Front.{entries-take, read-both, count, sound-iff, carried-shows, carried-inside}
+use Rattle.changing.proofs.Unders.{unders}
+use Rattle.changing.proofs.Counted.{counted}
 
 -- tests that say what conditions say, where each may rely on the conditions before it
 pub data Following : List Test → List Condition → Type 1 where
@@ -99,7 +99,7 @@ module _ (j : Job) (m : PinMap) (old : List ℕ) (s : ℕ) (c : Contract) (o : O
   length-under : intervals J ≡ intervals j
   length-under = intervals-on j (line-under j c)
 
-  module _ (few : j .choices ≤ no-choice) (shape : InShape j old) (offers : Offers (length (j .line .buckets)) c) (less : s < intervals j) (room : words J ≤ length table) (space : 3 * intervals j ≤ length entries) where
+  module _ (few : j .choices ≤ no-choice) (shape : InShape j old) (offers : Offers (length (j .line .buckets)) c) (some-entry : 1 ≤ s) (less : s < intervals j) (room : words J ≤ length table) (space : 3 * intervals j ≤ length entries) (fills : length (j .start .buckets) ≡ length (j .line .buckets)) (levels : length (at .buckets) ≡ length (j .line .buckets)) where
     claim : PlanClaim J m total o s at table (drop (entry-size * s) entries) found
     claim = search-claim J m total o s at (unfold on-line in few) (unfold on-line line-under in (omega (arith, offers .few-rates))) (omega (arith, length-under)) table (drop (entry-size * s) entries) room (omega (arith, length-drop (entry-size * s) entries, length-under))
 
@@ -120,6 +120,9 @@ module _ (j : Job) (m : PinMap) (old : List ℕ) (s : ℕ) (c : Contract) (o : O
       unfolding plan-of
       taken = entries-take (entry-at old) 0 s (intervals j) (omega arith)
 
+      both-counted : Counted j c at (remaining j m s old) (w .plan) (plus before (totals J s at (w .plan)))
+      both-counted = subst (λ (n : ℕ). Counted j c at (remaining j m s old) (w .plan) (plus before (totals J n at (w .plan)))) (count j m old s some-entry less) (counted j c at (remaining j m s old) (w .plan) fills (unders j c offers .count) levels)
+
       both : (a : Answer Totals) → a ≡ gives (totals J s at (w .plan)) → (both-totals before a ≡ gives (plus before (totals J s at (w .plan)))) × (all-entries a first (found .entries) entries ≡ all)
       unfolding both-totals all-entries
       both a e = (rw e, rw e)
@@ -135,7 +138,10 @@ module _ (j : Job) (m : PinMap) (old : List ℕ) (s : ℕ) (c : Contract) (o : O
             read-back =
                 let n : intervals j ≡ s + (intervals J - s) = omega (arith, length-under) in
                 rw (b .1) (ap (plan-from all 0) n ∙ read-both old (found .entries) s (intervals J - s) (omega (arith, shape .size)) ∙ ap₂ _++_ (sym taken) (w .read-back));
+            whole = plus before (totals J s at (w .plan));
             totals-are = b .0;
+            parts = refl;
+            counted = both-counted;
             entries-rest = rw (b .1) (ap (λ (n : ℕ). drop n all) cut ∙ drop-append-add first (found .entries) (3 * (intervals J - s)) ∙ w .rest ∙ drop-drop (3 * (intervals J - s)) (entry-size * s) entries ∙ ap (λ (n : ℕ). drop n entries) whole);
             size = rw (b .1) (length-append first (found .entries) ∙ omega (arith, first-long, w .size, length-drop (entry-size * s) entries));
           }
@@ -182,6 +188,9 @@ module _ (j : Job) (l : InLimits j) (m : PinMap) (old : List ℕ) (s : ℕ) (c :
   shown : (1 ≤ s) × (s < intervals j) → SoundFor j m 0 (j .start) (plan-of j old) s → Shows (ending j m 0 (j .start) (plan-of j old) s) (carried j m s old)
   shown w f = carried-shows j m old s (w .0) (w .1) (sound-iff j m old s (w .0) (w .1) .1 f)
 
+  inside-count : (1 ≤ s) × (s < intervals j) → SoundFor j m 0 (j .start) (plan-of j old) s → length (carried j m s old .buckets) ≡ length (j .line .buckets)
+  inside-count w f = carried-inside j m old s (w .0) (w .1) (start-inside j l) (sound-iff j m old s (w .0) (w .1) .1 f) .count
+
   pub follows : Following (change-tests j m old s c (length table) (length entries)) (Asks j m old s c table entries)
   unfolding change-tests rest-tests
   follows =
@@ -197,7 +206,7 @@ module _ (j : Job) (l : InLimits j) (m : PinMap) (old : List ℕ) (s : ℕ) (c :
 
   pub asked : (q : Planned) → q ≡ guarded (refuse table entries) (change-tests j m old s c (length table) (length entries)) (change-in j (under j c) m old s o table entries) → InOrder q (refuse table entries) (Asks j m old s c table entries) (ChangeClaim j m old s c o table entries q)
   asked q e = in-turn (refuse table entries) follows (ChangeClaim j m old s c o table entries) (change-in j (under j c) m old s o table entries) q e
-      (λ h. changed j m old s c o table entries few-choices (h .0) (h .1 .0) (h .1 .1 .1 .1 .0 .1) (h .1 .1 .1 .1 .1 .1 .1 .0) (h .1 .1 .1 .1 .1 .1 .1 .1 .0) (shown (h .1 .1 .1 .1 .0) (h .1 .1 .1 .1 .1 .0)))
+      (λ h. changed j m old s c o table entries few-choices (h .0) (h .1 .0) (h .1 .1 .1 .1 .0 .0) (h .1 .1 .1 .1 .0 .1) (h .1 .1 .1 .1 .1 .1 .1 .0) (h .1 .1 .1 .1 .1 .1 .1 .1 .0) (l .buckets .2) (inside-count (h .1 .1 .1 .1 .0) (h .1 .1 .1 .1 .1 .0)) (shown (h .1 .1 .1 .1 .0) (h .1 .1 .1 .1 .1 .0)))
 
 -- the call of a job that the set matches, or not
 pub change-calls : ChangeCalls

@@ -1,31 +1,25 @@
 -- What each test asks, in the words of the claims: the new contract, the interval, the old plan up to it, and the levels that are carried.
-use Prim.Native.Nat.{ℕ, zero, suc, _+_, _-_, _≤_, _<_}
-use mathlib.Core.Path.{_≡_, refl, sym, ap, _∙_}
+use Prim.Native.Nat.{ℕ, zero, suc, _-_, _≤_, _<_}
+use mathlib.Core.Path.{_≡_, refl, sym}
 use mathlib.Core.Logic.{_↔_}
-use mathlib.Core.Bool.{Bool, true, false}
-use mathlib.Core.Option.{Option, none, some}
+use mathlib.Core.Bool.{true}
+use mathlib.Core.Option.{Option}
 use mathlib.Core.List.{List, [], _∷_, zipWith}
 use native.Mathlib.Omega.{arith}
 use native.Mathlib.Numerals.{add-one}
-use lib.ListN.{length, getD, take}
-use lib.Seq.{length-take-le}
-use Rattle.model.specs.Job.{Bucket, Levels, no-levels, Job, Entry, intervals}
-use Rattle.model.specs.Levels.{bucketLevels}
-use Rattle.model.specs.Pins.{PinMap}
-use Rattle.model.specs.Admissible.{AllWithin, Shows, ending, Sound, SoundFor}
+use lib.ListN.{length, getD}
+use Rattle.model.specs.Job.{Bucket}
+use Rattle.model.specs.Admissible.{AllWithin}
 use Rattle.model.specs.Step.{overfull}
-use Rattle.model.specs.Replay.{Result, clean, stopped, replay, last-levels}
-use Rattle.model.specs.Claims.{ReplayClaim}
-use Rattle.model.proofs.DemandTwo.{demand-two}
+use Rattle.model.specs.Replay.{Result, clean, stopped}
 use Rattle.model.proofs.Tests.{FirstOver, no-one, this, overfull-finds}
 use Rattle.format.specs.Limits.{Limit, limit, kept, each-kept, AllKept}
 use Rattle.format.specs.JobBytes.{Policed, largest-sizes, bucket-limits, opening, drain-limits, rate-limits}
 use Rattle.format.proofs.Limits.{not-true, is-kept, of-kept, all-fit, fit-all}
 use Rattle.format.proofs.Bounds.{rates-within, rate-most-from, rising-from}
 use Rattle.changing.specs.Contracts.{Contract, policed-under, contract-limits}
-use Rattle.changing.specs.Calls.{front, carried, is-clean, none-over, remaining}
+use Rattle.changing.specs.Calls.{carried, is-clean, none-over}
 use Rattle.changing.specs.Claims.{Offers, Draining, Rising}
-use Rattle.changing.proofs.Prefix.{ending-same, take-same, last-is}
 
 -- limits that are kept, as a test
 kept-iff : (ls : List Limit) → (each-kept ls ≡ true) ↔ AllKept ls

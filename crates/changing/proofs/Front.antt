@@ -5,11 +5,11 @@ use mathlib.Core.Logic.{_↔_}
 use mathlib.Core.Bool.{true}
 use mathlib.Core.List.{List, [], _∷_, _++_}
 use native.Mathlib.Omega.{arith}
-use lib.ListN.{length, getD, take, drop, length-append, List·getD-append}
+use lib.ListN.{length, getD, take, length-append, List·getD-append}
 use lib.Seq.{length-take-le, getD-take, drop-append-add}
-use Rattle.model.specs.Job.{Levels, no-levels, Job, Entry, intervals}
+use Rattle.model.specs.Job.{Levels, Job, Entry, intervals}
 use Rattle.model.specs.Pins.{PinMap}
-use Rattle.model.specs.Admissible.{Violation, Sound, Shows, ending, SoundFor}
+use Rattle.model.specs.Admissible.{Violation, Shows, ending, SoundFor}
 use Rattle.model.specs.Step.{Outcome, violates, reaches, outcome}
 use Rattle.model.specs.Replay.{Result, clean, stopped, written, go-on, replay, last-levels}
 use Rattle.model.specs.Table.{InLayer}
@@ -85,7 +85,7 @@ module _ (j : Job) (m : PinMap) (old : List ℕ) (s : ℕ) (some-entry : 1 ≤ s
   unfolding plan-of
   plan-count = entries-length (entry-at old) 0 (intervals j)
 
-  count : length (remaining j m s old) ≡ s
+  pub count : length (remaining j m s old) ≡ s
   count = length-take-le s (plan-of j old) (omega (arith, plan-count))
 
   claim : ReplayClaim j m 0 (j .start) (remaining j m s old) (front j m s old)

@@ -1,11 +1,10 @@
 -- Two plans that agree in their first entries have the same levels up to there.
-use Prim.Native.Nat.{ℕ, zero, suc, _+_, _-_, _≤_, _<_}
-use mathlib.Core.Path.{_≡_, refl, sym, ap, ap₂, _∙_}
+use Prim.Native.Nat.{ℕ, zero, suc, _+_, _-_, _≤_}
+use mathlib.Core.Path.{_≡_, refl, ap, ap₂}
 use mathlib.Core.List.{List, [], _∷_, zipWith}
 use native.Mathlib.Omega.{arith}
 use lib.ListN.{length, getD, take}
 use lib.Seq.{getD-take}
-use lib.IntN.{ℤ, pos, _+ℤ_, _-ℤ_}
 use Rattle.model.specs.Job.{Bucket, Levels, no-levels, Job, Entry, sends, takes}
 use Rattle.model.specs.Levels.{no-entry, entryOf, sent, taken, decoderLevel, decoderPeak, bucketLevel, bucketLevels}
 use Rattle.model.specs.Pins.{PinMap}

@@ -1,14 +1,12 @@
 -- Totals of a plan in shape are small: each interval adds at most a drain, a size, a rate and a distortion within their limits.
 use Prim.Native.Nat.{ℕ, zero, suc, _+_, _-_, _*_, _≤_, _<_}
-use mathlib.Core.Path.{_≡_, refl, sym, ap, _∙_}
 use mathlib.Core.List.{List, [], _∷_, zipWith}
 use native.Mathlib.Omega.{arith}
 use native.Mathlib.Nat.{suc-mul}
-use native.Mathlib.Decide.{decLt}
-use lib.ListN.{length, getD, List·getD-eq-default}
+use lib.ListN.{length, getD}
 use Rattle.base.specs.Lists.{sum, gathered}
-use Rattle.model.specs.Job.{Bucket, Line, bucketAt, Levels, Job, Entry, on-line, intervals, coding, sends, takes, distorts, PlanFits}
-use Rattle.model.specs.Levels.{entryOf, sent, taken, distorted, bucketLevel, unusedDrain, unusedTotals}
+use Rattle.model.specs.Job.{Bucket, Line, bucketAt, Levels, Job, Entry, on-line, coding, sends, takes, distorts, PlanFits}
+use Rattle.model.specs.Levels.{entryOf, sent, taken, distorted, unusedDrain, unusedTotals}
 use Rattle.model.specs.Replay.{total-distortion, totals}
 use Rattle.model.proofs.Lines.{intervals-on, choice-on, coding-on}
 use Rattle.model.proofs.Units.{entry-fits}

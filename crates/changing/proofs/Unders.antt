@@ -1,13 +1,13 @@
 -- The job under a new contract, bucket by bucket: `Unders`.
 use Prim.Native.Nat.{ℕ, zero, suc, _<_}
-use mathlib.Core.Path.{_≡_, refl, sym, ap, _∙_}
+use mathlib.Core.Path.{_≡_, refl, ap, _∙_}
 use mathlib.Core.List.{List, [], _∷_, map, zipWith}
 use native.Mathlib.Omega.{arith}
 use lib.ListN.{length, getD}
-use Rattle.model.specs.Job.{Bucket, bucketAt, Job, on-line}
-use Rattle.format.specs.JobBytes.{Policed, bucket-of}
-use Rattle.changing.specs.Contracts.{Contract, policed-under, line-under}
-use Rattle.changing.specs.Claims.{UnderClaim, Unders}
+use Rattle.model.specs.Job.{Bucket, bucketAt, on-line}
+use Rattle.format.specs.JobBytes.{bucket-of}
+use Rattle.changing.specs.Contracts.{policed-under, line-under}
+use Rattle.changing.specs.Claims.{Unders}
 
 -- sizes and drains in turn
 abbrev buckets : List ℕ → List ℕ → List Bucket
@@ -37,4 +37,5 @@ unders j c o = record {
   delay = refl;
   choices = refl;
   units = refl;
+  start = refl;
 }

@@ -1,5 +1,5 @@
 -- What is claimed of a change of contract: each claim is a type, which a theorem of proofs/ inhabits. Levels are those of the equations, and plans are judged by `Admissible`; neither knows replay or search.
-use Prim.Native.Nat.{ℕ, _+_, _-_, _*_, _≤_, _<_}
+use Prim.Native.Nat.{ℕ, _+_, _*_, _≤_, _<_}
 use mathlib.Core.Path.{_≡_}
 use mathlib.Core.Logic.{_↔_}
 use mathlib.Core.List.{List, [], _∷_, _++_}
@@ -7,10 +7,11 @@ use lib.ListN.{length, getD, take, drop}
 use Rattle.base.specs.Answer.{refused, gives}
 use Rattle.base.specs.Refusals.{Condition, condition, InOrder}
 use Rattle.model.specs.Job.{bucketAt, Levels, Job, Entry, intervals}
-use Rattle.model.specs.Levels.{bucketLevels}
+use Rattle.base.specs.Lists.{sum}
+use Rattle.model.specs.Levels.{sent, taken, distorted, bucketLevels, unusedDrain}
 use Rattle.model.specs.Pins.{PinMap, Click, no-pins, clicks-after}
 use Rattle.model.specs.Admissible.{AllWithin, Shows, ending, SoundFor, Admissible}
-use Rattle.model.specs.Replay.{totals, plus}
+use Rattle.model.specs.Replay.{Totals, totals, plus}
 use Rattle.model.specs.Best.{Order, unlimited, total}
 use Rattle.model.specs.Table.{layerWords, words, IsTable}
 use Rattle.model.specs.Claims.{BestOf}
@@ -55,6 +56,7 @@ pub record UnderClaim (j : Job) (c : Contract) (k : Job) : Type 0 where
   pub delay : k .delay ≡ j .delay
   pub choices : k .choices ≡ j .choices
   pub units : k .units ≡ j .units
+  pub start : k .start ≡ j .start
 
 -- what the call asks of a job that the set matches, in order, where m are the set's pins
 abbrev pub Asks : Job → PinMap → List ℕ → ℕ → Contract → List ℕ → List ℕ → List Condition
@@ -72,6 +74,14 @@ Asks j m old s c table entries =
     ∷ condition 12 (3 * intervals j ≤ length entries)
     ∷ []
 
+-- totals of a whole plan, counted interval by interval: sizes and distortions as the units have them; what is sent, and what each bucket leaves unused, by the old contract for the entries in `first`, from the starting levels, and by the new one for those in `rest`, from the levels `at`
+pub record Counted (j : Job) (c : Contract) (at : Levels) (first rest : List Entry) (t : Totals) : Type 0 where
+  pub distortion : t .distortion ≡ sum (distorted j 0 (first ++ rest)) (length first + length rest)
+  pub source : t .source ≡ sum (taken j 0 (first ++ rest)) (length first + length rest)
+  pub channel : t .channel ≡ sum (sent j first) (length first) + sum (sent (under j c) rest) (length rest)
+  pub unused-count : length (t .unused) ≡ length (j .line .buckets)
+  pub unused : (i : ℕ) → i < length (j .line .buckets) → getD (t .unused) i 0 ≡ sum (unusedDrain j 0 first (bucketAt (j .line .buckets) i) (getD (j .start .buckets) i 0)) (length first) + sum (unusedDrain (under j c) (length first) rest (bucketAt (under j c .line .buckets) i) (getD (at .buckets) i 0)) (length rest)
+
 module _ (j : Job) (m : PinMap) (old : List ℕ) (s : ℕ) (c : Contract) (o : Order) (table entries : List ℕ) where
   -- from the levels `at` there is a best continuation; all entries are those that remain and, behind them, its own; the totals are the two parts', each by its own contract
   pub record Continued (at : Levels) (r : Planned) : Type 0 where
@@ -79,7 +89,10 @@ module _ (j : Job) (m : PinMap) (old : List ℕ) (s : ℕ) (c : Contract) (o : O
     pub best : BestOf (under j c) s total o (Admissible (under j c) m s at) rest
     pub bytes : take (3 * intervals j) (r .entries) ≡ take (3 * s) old ++ entry-bytes rest
     pub read-back : plan-from (r .entries) 0 (intervals j) ≡ take s (plan-of j old) ++ rest
-    pub totals-are : r .answer ≡ gives (plus (totals j 0 (j .start) (take s (plan-of j old))) (totals (under j c) s at rest))
+    pub whole : Totals
+    pub totals-are : r .answer ≡ gives whole
+    pub parts : whole ≡ plus (totals j 0 (j .start) (take s (plan-of j old))) (totals (under j c) s at rest)
+    pub counted : Counted j c at (take s (plan-of j old)) rest whole
     pub entries-rest : drop (3 * intervals j) (r .entries) ≡ drop (3 * intervals j) entries
     pub size : length (r .entries) ≡ length entries
 

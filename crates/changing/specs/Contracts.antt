@@ -1,6 +1,6 @@
 -- A contract that a carrier alters to: rates, and of each bucket a size and a drain (document 02, E12).
 use Prim.Native.Nat.{ℕ}
-use mathlib.Core.List.{List, [], _∷_, map, zipWith}
+use mathlib.Core.List.{List, _∷_, map, zipWith}
 use lib.ListN.{length}
 use Rattle.model.specs.Job.{Line, Job, on-line}
 use Rattle.format.specs.Limits.{Limit, limit}

@@ -25,6 +25,9 @@ fn buckets_of(two: bool) -> usize
     1
 }
 
+// How many rates a contract may have.
+const MOST_RATES: usize = Header::MAX_RATES as usize;
+
 // The bucket in a place of the lists, with nothing in it.
 fn bucket_at(sizes: &[u16], drains: &[u16], at: usize) -> Bucket
     requires { ⌜ (at < length (now sizes)) × (at < length (now drains)) ⌝ }
@@ -49,7 +52,7 @@ pub fn offered(two: bool, rates: &[u16], sizes: &[u16], drains: &[u16]) -> bool
         return false;
     }
     match rates.len() {
-        1..=16 => {}
+        1..=MOST_RATES => {}
         _ => return false,
     }
     if !bucket_at(sizes, drains, 0).fits(Header::MAX_BUCKET) {

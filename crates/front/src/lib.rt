@@ -1,5 +1,4 @@
 // The entries of an old plan that remain when the contract changes (document 02, E12): the levels that they lead to under the old contract, and their totals.
-ghost use Prim.Native.Nat.{_≤_};
 ghost use Rattle.format.specs.JobBytes.{job-in};
 ghost use Rattle.header.specs.Answers.{plain};
 ghost use Rattle.pinning.specs.PinSet.{lines};

@@ -1,8 +1,6 @@
 -- `change::both_unused` meets its contract.
 use Rattle.change.proofs.Both.{no, second-fits, second-both}
-use native.Mathlib.Omega.{arith}
 use mathlib.Core.Path.{refl, sym, _∙_}
-use borrow.Author.Needs.{needs}
 use Rattle.change.proofs.both_unused.Statement.{statement}
 use Rattle.change.proofs.both_unused.Tie as tie
 

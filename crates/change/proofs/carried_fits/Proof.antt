@@ -1,8 +1,6 @@
 -- `change::carried_fits` meets its contract.
 use Rattle.change.proofs.Both.{first-over, first-within, second-within, no-second}
 use Rattle.interval.specs.Answers.{levels-of, second-of, line-of}
-use native.Mathlib.Omega.{arith}
-use borrow.Author.Needs.{needs}
 use Rattle.change.proofs.carried_fits.Statement.{statement}
 use Rattle.change.proofs.carried_fits.Tie as tie
 

@@ -1,6 +1,5 @@
 -- `change::change` meets its contract.
 use Rattle.change.proofs.Over.{change-refused, change-took}
-use Rattle.planner.specs.Answers.{answered, planned}
 use Rattle.pinset.specs.Answers.{set-of}
 use Rattle.pinset.proofs.Answering.{ready, ready-took}
 use Rattle.job.proofs.Answers.{answer-took, answer-refused}

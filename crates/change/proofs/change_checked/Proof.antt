@@ -2,8 +2,7 @@
 use Rattle.change.proofs.Over.{call-refused, call-done, Taken, taken}
 use Rattle.change.proofs.Verdicts.{counts, buckets-under, over-same}
 use Rattle.contract.specs.Answers.{contract}
-use Rattle.changing.specs.Calls.{rest-tests, change-in}
-use Rattle.base.specs.Refusals.{refusal}
+use Rattle.changing.specs.Calls.{change-in}
 use Rattle.format.specs.JobBytes.{job-in}
 use Rattle.format.proofs.Opened.{job-limits, units-are, decoder-is}
 use Rattle.header.specs.Answers.{plain, verdict}
@@ -12,7 +11,7 @@ use Rattle.pinset.specs.Answers.{set-of}
 use Rattle.model.specs.Job.{Line, Job}
 use Rattle.best.specs.Answers.{order-is}
 use lib.ListN.{length}
-use mathlib.Core.Path.{_≡_, sym, ap, _∙_}
+use mathlib.Core.Path.{sym, ap, _∙_}
 use native.Mathlib.Omega.{arith}
 use borrow.Author.Needs.{needs}
 use Rattle.change.proofs.change_checked.Statement.{statement}

@@ -8,7 +8,7 @@ use Rattle.pinning.specs.PinSet.{lines}
 use Rattle.pinset.specs.Answers.{set-of}
 use Rattle.header.specs.Answers.{plain}
 use lib.ListN.{length}
-use mathlib.Core.Path.{_≡_, sym, ap, _∙_}
+use mathlib.Core.Path.{sym, _∙_}
 use native.Mathlib.Omega.{arith}
 use borrow.Author.Needs.{needs}
 use Rattle.change.proofs.change_over.Statement.{statement}

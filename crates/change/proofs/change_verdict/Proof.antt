@@ -1,16 +1,14 @@
 -- `change::change_verdict` meets its contract: the old plan, the contract, then the rest.
 use Rattle.change.proofs.Verdicts.{how-many, counts, buckets-under, is-14, is-3, is-17, is-4, is-rest}
-use Rattle.contract.specs.Answers.{contract, LineUnder}
+use Rattle.contract.specs.Answers.{contract}
 use Rattle.changing.specs.Contracts.{policed-under, contract-limits}
 use Rattle.format.specs.Limits.{each-kept}
 use Rattle.format.proofs.Opened.{job-limits, decoder-is}
 use Rattle.header.specs.Answers.{extra, policed-of, plain, verdict}
 use Rattle.pinset.specs.Answers.{set-of}
-use Rattle.line.specs.Answers.{line-is}
 use Rattle.model.specs.Job.{Line}
 use lib.ListN.{length}
-use mathlib.Core.Bool.{true}
-use mathlib.Core.Path.{_≡_, sym, ap, _∙_}
+use mathlib.Core.Path.{sym, ap, _∙_}
 use Prim.Native.Nat.{ℕ, _+_}
 use native.Mathlib.Omega.{arith}
 use borrow.Author.Tests.{not-true, not-false}

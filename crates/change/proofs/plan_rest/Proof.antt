@@ -1,6 +1,6 @@
 -- `change::plan_rest` meets its contract: a refusal keeps the entries, and a plan stands behind those that remain.
 use Rattle.change.proofs.Rest.{part-all, put-back, rest-refused, rest-best, adds}
-use Rattle.planner.specs.Answers.{Searches, planned, aim-is}
+use Rattle.planner.specs.Answers.{planned, aim-is}
 use Rattle.planner.specs.declared.Planned.{Planned}
 use Rattle.planner.specs.declared.Planned.the-variants as p
 use Rattle.planning.specs.Calls.{search-in}
@@ -10,11 +10,10 @@ use Rattle.table.specs.Answers.{job-on}
 use Rattle.best.specs.Answers.{order-is}
 use Rattle.interval.specs.Answers.{levels-of}
 use Rattle.model.specs.Best.{total}
-use lib.ListN.{length, take, drop}
+use lib.ListN.{take, drop}
 use mathlib.Core.List.{List, _++_}
 use mathlib.Core.Path.{_≡_, sym, ap, _∙_}
 use Prim.Native.Nat.{ℕ, _*_}
-use native.Mathlib.Omega.{arith}
 use borrow.Author.Needs.{needs}
 use Rattle.change.proofs.plan_rest.Statement.{statement}
 use Rattle.change.proofs.plan_rest.Tie as tie

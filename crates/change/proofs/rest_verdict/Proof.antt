@@ -11,8 +11,7 @@ use Rattle.line.specs.Answers.{line-is}
 use Rattle.line.proofs.Sizes.{each-small}
 use Rattle.changing.specs.Calls.{none-over}
 use Rattle.model.specs.Step.{overfull}
-use mathlib.Core.Bool.{true, false}
-use mathlib.Core.Path.{_≡_, sym, ap, _∙_}
+use mathlib.Core.Path.{sym, ap, _∙_}
 use native.Mathlib.Omega.{arith}
 use borrow.Author.Tests.{not-true, not-false}
 use borrow.Author.Needs.{needs}
