@@ -9,8 +9,9 @@
 //! Planning stands beside two plain programs: four nested loops, with a second
 //! bucket five, and the two passes of the library written plainly. All three must
 //! give the same table, plan and least distortion. Loops over 1,000 choices would
-//! take minutes, and are left out. Even pictures stand beside the least total, and
-//! a sitting of pins and lifts, seen at once, beside planning anew after each.
+//! take minutes, and are left out. Even pictures stand beside the least total, a
+//! sitting of pins and lifts, seen at once, beside planning anew after each, and a list
+//! of what larger buckets bring beside planning for each size.
 //!
 //! What is timed are trial jobs, so that they can be made again from a header and a
 //! state. The headers are those of `Size::header`: the sizes that are printed, a drain of
@@ -1408,6 +1409,124 @@ fn time_sitting(job: &[u8], unit: u16) -> [f64; 2] {
     times.map(|time| time / CLICKS as f64)
 }
 
+/// What larger buckets bring, the library alone: one call that lists the least total for each
+/// size of the first bucket from the job's own to 255, beside planning the job afresh with
+/// each of these sizes in its place. Both must give the same numbers and the same last table.
+///
+/// What a list can save depends on the job. The bucket stops to matter soon where it drains
+/// about as much as the units would take: then most sizes have the total of the largest. Where
+/// it drains less, each grain of its size is one more that is sent, and it matters to the end.
+/// A job without a plan at size 255 has none for any.
+fn size_tables(with_full: bool) {
+    println!("\nwhat larger buckets bring: a list of all sizes from the job's own to 255 in one");
+    println!("call, beside planning afresh for each of them; the library alone, the least of up");
+    println!("to seven in turn; totals: how many the list has, and from which size on the last;");
+    println!("a line names decoder and buckets, and how long a larger bucket matters");
+    println!(
+        "  {:<46} {:>5} {:>10} {:>10} {:>10} {:>7}",
+        "", "sizes", "totals", "afresh", "listed", "ratio"
+    );
+    let base = Size { units: 120, delay: 8, decoder: 60, bucket: 20, ..FEWER };
+    let few = Size { units: 60, decoder: 25, bucket: 12, ..base };
+    let double = Size { units: 90, decoder: 15, bucket: 31, rates: 8, ..base };
+    let second = Some(half_full(3, 9));
+    let mut jobs = vec![
+        ("120 units, 60 and 20, drain 28: not at all", base, None, 28),
+        ("drain 26: soon no more", base, None, 26),
+        ("drain 16: to the end", base, None, 16),
+        ("drain 16, two choices: no plan", Size { choices: 2, ..base }, None, 16),
+        ("60 and 200, drain 16: to the end", Size { bucket: 200, ..base }, None, 16),
+        ("60 units, 25 and 12, drain 12: soon no more", few, None, 12),
+        ("drain 4: to the end", few, None, 4),
+        ("90 units, 15, 31 and 3, drain 7: soon no more", double, second, 7),
+        ("drain 3: to the end", double, second, 3),
+    ];
+    if with_full {
+        let size = Size { bucket: 252, ..FEWER };
+        jobs.push(("512 units, 255 and 252, drain 16: to the end", size, None, 16));
+    }
+    for (name, size, second, drain) in jobs {
+        let (totals, [listed, afresh]) = time_sizes(&with_drain(&size, second, drain));
+        let falls: Vec<usize> =
+            (1..totals.len()).filter(|&at| totals[at] < totals[at - 1]).collect();
+        let different = match totals.last() {
+            Some(&NEVER) => "none".to_string(),
+            _ => format!("{}, {}", 1 + falls.len(), size.bucket + falls.last().unwrap_or(&0)),
+        };
+        let (sizes, ratio) = (totals.len(), format!("{:.3}", listed / afresh));
+        let [listed, afresh] = [listed, afresh].map(shown);
+        println!("  {name:<46} {sizes:>5} {different:>10} {afresh:>10} {listed:>10} {ratio:>7}");
+    }
+}
+
+/// The trial job of a size with another drain of the first bucket.
+fn with_drain(size: &Size, second: Option<[u16; 3]>, drain: u16) -> Vec<u8> {
+    let mut job = trial_of(size, second, STATE);
+    job[12..14].copy_from_slice(&drain.to_le_bytes());
+    job
+}
+
+/// A job with one of the sizes, its set without a pin, and the words of its table.
+struct OfSize {
+    job: Vec<u8>,
+    set: Vec<u32>,
+    words: usize,
+}
+
+/// The totals of all sizes, and the times of one call and of planning for each. Jobs and sets of
+/// each size are made before that, and a table of the largest serves all.
+fn time_sizes(job: &[u8]) -> (Vec<u32>, [f64; 2]) {
+    let opened = upload_planner::open(job).expect("a job");
+    let fresh = |job: &[u8]| {
+        let mut set = vec![0; numbers::SET_NUMBERS];
+        assert!(numbers::set(job, &mut set) == 0, "no set");
+        set
+    };
+    let each: Vec<OfSize> = (opened.bucket_sizes())
+        .map(|size| {
+            let mut job = job.to_vec();
+            job[10..12].copy_from_slice(&size.to_le_bytes());
+            let words = upload_planner::open(&job).expect("a job").table_words;
+            OfSize { set: fresh(&job), job, words }
+        })
+        .collect();
+    let set = fresh(job);
+    let words = opened.largest_table_words();
+    let mut tables = [vec![0; words], vec![1; words]];
+    let mut totals = [vec![0; each.len()], vec![1; each.len()]];
+    let mut entries = vec![0; opened.plan_bytes()];
+    let ([our_table, other_table], [ours, others]) = (&mut tables, &mut totals);
+    let mut list = || {
+        let answer = numbers::sizes(black_box(job), &set, our_table, ours);
+        assert!(answer == 0, "the list is refused");
+    };
+    let mut plan = || {
+        for (OfSize { job, set, words }, total) in each.iter().zip(others.iter_mut()) {
+            let mut values = [0; numbers::PLAN_VALUES_MOST];
+            let (aim, order) = (numbers::TOTAL, ORDER.number());
+            let lent = (&mut other_table[..*words], &mut entries, &mut values);
+            *total = match numbers::plan_set(job, set, aim, order, lent.0, lent.1, lent.2) {
+                0 => values[0] as u32,
+                13 => NEVER,
+                _ => panic!("planning is refused"),
+            };
+        }
+    };
+    let start = Instant::now();
+    list();
+    plan();
+    // What takes seconds is timed once more; short calls over some repeats.
+    let once = start.elapsed().as_secs_f64();
+    let rounds = (3.0 / once).ceil().min(7.0) as usize;
+    let repeats = (0.02 / once).ceil() as usize;
+    let times =
+        in_turn(rounds, || (0..repeats).for_each(|_| list()), || (0..repeats).for_each(|_| plan()));
+    assert!(totals[0] == totals[1], "the numbers differ");
+    assert!(tables[0] == tables[1], "the last tables differ");
+    let [totals, _] = totals;
+    (totals, times.map(|time| time / repeats as f64))
+}
+
 /// Opening, a pin and a replay take as long for each byte of the largest job as for each
 /// byte of a job of half its bytes or a quarter of them.
 fn largest_tables() {
@@ -1499,15 +1618,18 @@ fn time_report(size: &Size, job: &[u8]) -> [f64; 2] {
 
 fn main() {
     let (mut with_full, mut all) = (true, true);
-    let (mut choices_alone, mut sitting_alone) = (false, false);
+    let (mut choices_alone, mut sitting_alone, mut sizes_alone) = (false, false, false);
     for argument in std::env::args().skip(1) {
         match argument.as_str() {
             "--no-full" => with_full = false,
             "--planning" => all = false,
             "--choices" => choices_alone = true,
             "--sitting" => sitting_alone = true,
+            "--sizes" => sizes_alone = true,
             _ => {
-                println!("usage: bench/run [--planning | --choices | --sitting] [--no-full]");
+                println!(
+                    "usage: bench/run [--planning | --choices | --sitting | --sizes] [--no-full]"
+                );
                 std::process::exit(2);
             }
         }
@@ -1518,6 +1640,9 @@ fn main() {
     println!("larger jobs with a decoder of 0 and replay have jobs of their own");
     if sitting_alone {
         return sitting_tables(with_full);
+    }
+    if sizes_alone {
+        return size_tables(with_full);
     }
     println!("ratio: the library's time over that of a plain program; below 1 it is faster");
     if all && !choices_alone {
@@ -1532,6 +1657,7 @@ fn main() {
         two_bucket_tables(with_full);
         even_tables(with_full);
         sitting_tables(with_full);
+        size_tables(with_full);
     }
     many_choice_tables();
 }

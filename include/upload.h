@@ -22,7 +22,8 @@
 
    A carrier may alter the contract, rates and buckets, while the programme is
    sent. upload_change keeps what was sent under the old one and plans the rest
-   afresh under the new one, from the levels that were reached.
+   afresh under the new one, from the levels that were reached. upload_sizes lists
+   what larger buckets would bring.
 
    The header says how many buckets there are: a job that opens has it in its
    byte 2, the kind of its first record, which is one of enum upload_header. With
@@ -63,7 +64,7 @@
        upload_calls     opening    17
        upload_plan      opening    17
        upload_set, upload_pin, upload_lift, upload_pin_and_see,
-       upload_lift_and_see, upload_plan_set, upload_change
+       upload_lift_and_see, upload_plan_set, upload_change, upload_sizes
                         opening    17
        upload_archive   archive    opened, with the values that another drain has
        upload_replay    archive    replayed without pins: each call is refused
@@ -107,7 +108,8 @@ enum upload_refusal {
     UPLOAD_NO_SUCH_CHOICE = 8,  /* pin: the choice is not below M */
     UPLOAD_PINNED = 9,          /* pin: the unit is pinned already */
     UPLOAD_NOT_PINNED = 10,     /* lift: the unit is not pinned */
-    UPLOAD_TABLE_TOO_SHORT = 11,/* the table has fewer words than planning needs */
+    UPLOAD_TABLE_TOO_SHORT = 11,/* the table has fewer words than planning needs; upload_sizes:
+                                   than planning with the largest first bucket needs */
     UPLOAD_LIST_TOO_SHORT = 12, /* another list that is to be filled is too short */
     UPLOAD_NO_PLAN = 13,        /* no plan is admissible; upload_change: none of the rest is */
     UPLOAD_NOT_A_PLAN = 14,     /* the entries are not 3 x T bytes, or one is out of range;
@@ -159,8 +161,12 @@ enum upload_header {
 /* The choice of an interval that decodes no unit. */
 #define UPLOAD_NO_UNIT 65535
 
-/* The word of a state from which no plan can be completed. */
+/* The word of a state from which no plan can be completed, and the total of a size
+   for which there is none. */
 #define UPLOAD_NEVER UINT32_C(4294967295)
+
+/* The largest size of a first bucket. */
+#define UPLOAD_LARGEST_SIZE 255
 
 /* A set of pins as numbers: what an editor's tool keeps between its calls, in a
    list of its own. upload_set writes the set without a pin, and the calls that
@@ -502,6 +508,26 @@ uint32_t upload_change(const uint8_t *job, size_t job_len,
                        uint32_t *table, size_t table_len,
                        uint8_t *entries, size_t entries_len,
                        uint64_t *values, size_t values_len);
+
+/* Lists what a larger bucket would bring: the least total for each size of the first
+   bucket from the job's own, K, to UPLOAD_LARGEST_SIZE, all else equal, with the pins
+   of a set. No number exceeds the one before it.
+
+   set:    the job's, with its own K; not written.
+   table:  (T + 1) x (decoder size + 1) x 256 words, and with two buckets x (second
+           bucket's size + 1), are written: the table of the job with a first bucket
+           of size UPLOAD_LARGEST_SIZE, as upload_plan_set writes it for UPLOAD_TOTAL.
+           Unless K is that size it is not the set's own: do not go on from it with a
+           call that sees.
+   totals: 256 - K numbers written, size after size: the least total distortion, or
+           UPLOAD_NEVER where no plan is admissible.
+
+   Refusals in order: 1 to 5 for the job, with 17 directly after 3; 6; 11; 12 where
+   `totals` is too short. UPLOAD_NO_PLAN is not given. */
+uint32_t upload_sizes(const uint8_t *job, size_t job_len,
+                      const uint32_t *set, size_t set_len,
+                      uint32_t *table, size_t table_len,
+                      uint32_t *totals, size_t totals_len);
 
 /* Writes a job's bytes from its header and lists: the record of the header, that
    of the rates, then one for each unit. What is written opens and holds this

@@ -5,8 +5,9 @@
 //! that the least total gives them too once all choices above the greatest distortion
 //! are gone, of the report that a long delay takes little more time than a short one,
 //! of the archive that it takes what opening takes with another drain, of a sitting that it
-//! comes to the set, the table and the plans of a fresh one with its pins, and of a change of
-//! contract that it plans the rest as a job of its own is planned.
+//! comes to the set, the table and the plans of a fresh one with its pins, of a change of
+//! contract that it plans the rest as a job of its own is planned, and of a list for larger
+//! buckets that each number is what planning gives for the job with that size.
 //!
 //! Build and run, where DIR holds libupload.a:
 //!
@@ -3929,6 +3930,7 @@ fn check_no_sitting(
     let mut set: Lent<u32> = Lent::new(rng, length);
     let mut table: Lent<u32> = Lent::new(rng, table);
     let mut entries: Lent<u8> = Lent::new(rng, values);
+    let mut totals: Lent<u32> = Lent::new(rng, values);
     let mut values: Lent<u64> = Lent::new(rng, values);
     let (unit, choice) = (rng.from(0, 2) as u16, rng.from(0, 2) as u16);
     let (aim, order) = (rng.pick(&[TOTAL, EVEN, 2]), rng.pick(&[EARLY, LATE, 2]));
@@ -3961,12 +3963,16 @@ fn check_no_sitting(
             entries.list(),
             values.list(),
         ),
+        numbers::sizes(bytes, set.held(), table.list(), totals.list()),
     ];
-    same("calls that make or take a set", [number; 7], found)?;
+    same("calls that make or take a set", [number; 8], found)?;
     set.kept("set")?;
     table.kept("table")?;
     entries.kept("entries")?;
+    totals.kept("totals")?;
     values.kept("values")?;
+    let found = upload_planner::larger_buckets(bytes, &[]).err().map(|refusal| refusal.number());
+    same("an owned list of sizes", Some(number), found)?;
     let found = upload_planner::Session::open(bytes).err().map(|refusal| refusal.number());
     same("typed session", Some(number), found)
 }
@@ -5523,6 +5529,8 @@ fn check_cut_set(rng: &mut Rng, bytes: &[u8], job: &Job, list: &[u32], length: u
     let mut entries: Lent<u8> = Lent::new(rng, room);
     let room = rng.pick(&[0, level_numbers(job)]);
     let mut levels: Lent<u16> = Lent::new(rng, room);
+    let room = rng.pick(&[0, 256]);
+    let mut totals: Lent<u32> = Lent::new(rng, room);
     let (aim, order) = (rng.pick(&[TOTAL, EVEN]), rng.pick(&[EARLY, LATE]));
     let plan: Plan = (1..=job.intervals()).map(|t| random_entry(rng, job, t)).collect();
     let mut plan = plan_bytes(&plan);
@@ -5537,10 +5545,12 @@ fn check_cut_set(rng: &mut Rng, bytes: &[u8], job: &Job, list: &[u32], length: u
         numbers::plan_set(bytes, cut, aim, order, table.list(), entries.list(), last),
         numbers::replay_set(bytes, cut, &plan, levels.list(), last),
         changed(bytes, cut, &plan, first, &new, order, table.list(), entries.list(), last),
+        numbers::sizes(bytes, cut, table.list(), totals.list()),
     ];
-    same("no set of the job", [6; 7], found)?;
+    same("no set of the job", [6; 8], found)?;
     set.wrote("what is no set", list)?;
     table.kept("table")?;
+    totals.kept("totals")?;
     values.kept("values")?;
     entries.kept("entries")?;
     levels.kept("levels")
@@ -7028,7 +7038,7 @@ fn set_never_group() -> Result<String, String> {
 fn check_undrained(rng: &mut Rng, bytes: &[u8], list: &[u32], plan: &Plan, wrong: bool) -> Checked {
     let mut set = lent_with(rng, list);
     let (mut table, mut entries): (Lent<u32>, Lent<u8>) = (Lent::new(rng, 2000), Lent::new(rng, 9));
-    let mut values: Lent<u64> = Lent::new(rng, 7);
+    let (mut values, mut totals): (Lent<u64>, Lent<u32>) = (Lent::new(rng, 7), Lent::new(rng, 256));
     let buckets = if list[0] == 8 { 2 } else { 1 };
     let new = Contract { rates: vec![0, 2], sizes: vec![3; buckets], drains: vec![1; buckets] };
     let (old, lists) = (plan_bytes(plan), (table.list(), values.list()));
@@ -7043,9 +7053,12 @@ fn check_undrained(rng: &mut Rng, bytes: &[u8], list: &[u32], plan: &Plan, wrong
         numbers::plan_set(bytes, set.held(), EVEN, 9, lists.0, entries.list(), lists.1),
         changed(bytes, set.held(), &old, 1, &new, EARLY, lists.0, entries.list(), lists.1),
         changed(bytes, set.held(), &old[1..], 3, &new, 9, lists.0, entries.list(), lists.1),
+        numbers::sizes(bytes, set.held(), lists.0, totals.list()),
+        numbers::sizes(bytes, set.held(), &mut [], &mut []),
         numbers::set(bytes, set.list()),
     ];
-    same("a job that never drains", [17; 11], found)?;
+    same("a job that never drains", [17; 13], found)?;
+    totals.kept("totals")?;
     let mut levels = vec![7; 9];
     let replayed =
         numbers::replay_set(bytes, set.held(), &plan_bytes(plan), &mut levels, &mut [7; 7]);
@@ -8438,10 +8451,7 @@ impl Changing {
     /// What to type again to see a failure.
     fn failed(&self, trouble: &str) -> String {
         let Changing { bytes, old, first, contract, order, .. } = self;
-        let pins = self.set.get(SET_PINS..SET_TOTALS).map_or(vec![], |pins| {
-            let pinned = pins.iter().enumerate().filter(|(_, &pin)| pin != NO_PIN);
-            pinned.map(|(at, &pin)| (at + 1, pin)).collect()
-        });
+        let pins = shown_pins(&self.set);
         format!(
             "{trouble}\n  job {}\n  {} numbers, pins {pins:?}\n  old plan {}, first {first}, \
              {contract:?}, order {order}",
@@ -8450,6 +8460,12 @@ impl Changing {
             hex(old)
         )
     }
+}
+
+/// The pins in the numbers of a set, right or wrong, by unit.
+fn shown_pins(set: &[u32]) -> Vec<(usize, u32)> {
+    let pins = set.get(SET_PINS..SET_TOTALS).unwrap_or(&[]);
+    (1..).zip(pins.iter().copied()).filter(|(_, pin)| *pin != NO_PIN).collect()
 }
 
 /// A change that nothing refuses before the lists are looked at.
@@ -9877,6 +9893,927 @@ fn large_changes_group() -> Result<String, String> {
 }
 
 // ---------------------------------------------------------------------------
+// What a larger bucket brings: what is asked, and what is due.
+// ---------------------------------------------------------------------------
+
+/// What a list for larger buckets is asked of. Anything in it may be wrong.
+#[derive(Clone)]
+struct Sizing {
+    bytes: Vec<u8>,
+    set: Vec<u32>,
+}
+
+impl Sizing {
+    /// With these pins. Numbers may stand behind the set.
+    fn of(rng: &mut Rng, asked: &Asked, book: &Book) -> Sizing {
+        let mut set = set_numbers(&asked.job, book);
+        set.extend((0..slack(rng)).map(|_| rng.next() as u32).collect::<Vec<u32>>());
+        set.shrink_to_fit();
+        Sizing { bytes: asked.bytes.clone(), set }
+    }
+
+    /// What stands if nothing refuses the list before the lists are looked at, else the first
+    /// number due.
+    fn begun(&self) -> Result<(Job, Book), Refusal> {
+        let job = read_job(&mut Reader { rest: &self.bytes })?;
+        let book = read_set(&job, &self.set).ok_or(6)?;
+        Ok((job, book))
+    }
+
+    /// What to type again to see a failure.
+    fn failed(&self, trouble: &str) -> String {
+        let (numbers, pins) = (self.set.len(), shown_pins(&self.set));
+        format!("{trouble}\n  job {}\n  {numbers} numbers, pins {pins:?}", hex(&self.bytes))
+    }
+}
+
+/// The lengths needed: the table of a first bucket of 255, and a number for each size.
+fn size_needs(job: &Job) -> [usize; 2] {
+    let [first, inner @ ..] = &job.buckets[..] else { panic!("no bucket") };
+    let rows = (job.intervals() + 1) * (job.decoder_size as usize + 1);
+    let width: usize = inner.iter().map(|bucket| bucket.size as usize + 1).product();
+    [rows * 256 * width, 256 - first.size as usize]
+}
+
+/// What is due: a number for each size, and the table of the largest.
+struct Listed {
+    totals: Vec<u32>,
+    table: Vec<u32>,
+}
+
+impl Listed {
+    fn of(job: &Job, pins: &Pins, totals: Vec<u32>) -> Listed {
+        Listed { totals, table: fast_table(&enlarged(job, 255), pins) }
+    }
+
+    /// As the typed functions give it.
+    fn typed(&self, job: &Job) -> Vec<(u16, Option<u32>)> {
+        let total = |total: &u32| (*total != NEVER).then_some(*total);
+        (job.buckets[0].size as u16..).zip(self.totals.iter().map(total)).collect()
+    }
+}
+
+/// The word of layer 0 at the starting levels, in a table with a first bucket of this size.
+fn size_by_table(job: &Job, pins: &Pins, size: i64) -> u32 {
+    let job = enlarged(job, size);
+    fast_table(&job, pins)[job.word(0, job.start_decoder, &job.start_levels())]
+}
+
+/// A table for each size.
+fn sizes_by_tables(job: &Job, pins: &Pins) -> Vec<u32> {
+    larger_sizes(job).map(|size| size_by_table(job, pins, size)).collect()
+}
+
+/// The same with fewer tables. A plan stays admissible in a larger bucket: so where two sizes
+/// have the same total, all between them have it.
+fn sizes_by_halves(job: &Job, pins: &Pins) -> Vec<u32> {
+    let sizes: Vec<i64> = larger_sizes(job).collect();
+    let last = sizes.len() - 1;
+    let total = |at: usize| size_by_table(job, pins, sizes[at]);
+    let mut totals = vec![NEVER; sizes.len()];
+    (totals[0], totals[last]) = (total(0), total(last));
+    let mut parts = vec![(0, last)];
+    while let Some((low, high)) = parts.pop() {
+        if totals[low] == totals[high] {
+            let same = totals[low];
+            totals[low..high].fill(same);
+        } else if high - low > 1 {
+            let middle = (low + high) / 2;
+            totals[middle] = total(middle);
+            parts.extend([(low, middle), (middle, high)]);
+        }
+    }
+    totals
+}
+
+/// The places at which a number is less than the one before it.
+fn falls(totals: &[u32]) -> Vec<usize> {
+    (1..totals.len()).filter(|&at| totals[at] < totals[at - 1]).collect()
+}
+
+/// The lists that are lent, the set among them.
+struct SizeLists {
+    set: Lent<u32>,
+    table: Lent<u32>,
+    totals: Lent<u32>,
+}
+
+impl SizeLists {
+    /// `lengths`: table, totals.
+    fn new(rng: &mut Rng, ask: &Sizing, lengths: [usize; 2]) -> SizeLists {
+        SizeLists {
+            set: lent_with(rng, &ask.set),
+            table: Lent::new(rng, lengths[0]),
+            totals: Lent::new(rng, lengths[1]),
+        }
+    }
+
+    fn list(&mut self, ask: &Sizing) -> u32 {
+        numbers::sizes(&ask.bytes, self.set.held(), self.table.list(), self.totals.list())
+    }
+
+    fn wrote(&self, ask: &Sizing, totals: &[u32], table: &[u32]) -> Checked {
+        self.totals.wrote("totals", totals)?;
+        self.table.wrote("table", table)?;
+        self.set.wrote("set", &ask.set)
+    }
+}
+
+/// The list is refused by this number, and writes nothing. `lengths`: table, totals.
+fn check_unlisted(rng: &mut Rng, ask: &Sizing, number: u32, lengths: [usize; 2]) -> Checked {
+    let mut lent = SizeLists::new(rng, ask, lengths);
+    let what = format!("sizes in lists of {lengths:?}");
+    same(&what, number, lent.list(ask))?;
+    lent.wrote(ask, &[], &[]).map_err(|trouble| format!("{what}: {trouble}"))
+}
+
+/// Asks for the list with each of the lists one short, then with lists of just enough or
+/// somewhat more, and compares all that is written.
+fn check_listed(rng: &mut Rng, ask: &Sizing, listed: &Listed) -> Checked {
+    let (job, _) = ask.begun().map_err(|number| format!("refused: {number}"))?;
+    let needs = size_needs(&job);
+    same("what is needed", needs, [listed.table.len(), listed.totals.len()])?;
+    let mut falling = listed.totals.windows(2).map(|pair| pair[1] <= pair[0]);
+    ensure!(falling.all(|falls| falls), "a number exceeds the one before it");
+    check_unlisted(rng, ask, 11, [needs[0] - 1, needs[1]])?;
+    check_unlisted(rng, ask, 12, [needs[0], needs[1] - 1])?;
+    let lengths = needs.map(|need| need + slack(rng));
+    check_listed_in(rng, ask, listed, lengths)
+}
+
+/// The same in lists of these lengths, which are long enough.
+fn check_listed_in(rng: &mut Rng, ask: &Sizing, listed: &Listed, lengths: [usize; 2]) -> Checked {
+    let mut lent = SizeLists::new(rng, ask, lengths);
+    same("sizes", 0, lent.list(ask))?;
+    lent.wrote(ask, &listed.totals, &listed.table)
+}
+
+/// Each of these sizes is put in the place of the job's own, and the job planned with the same
+/// pins: the number is the total of that, or there is no plan. The table of 255 is the last
+/// one.
+fn check_each_size(
+    rng: &mut Rng,
+    ask: &Sizing,
+    listed: &Listed,
+    sizes: impl Iterator<Item = i64>,
+) -> Checked {
+    let (job, book) = ask.begun().map_err(|number| format!("refused: {number}"))?;
+    let first = job.buckets[0].size;
+    let mut entries = vec![7; ENTRY_BYTES * job.intervals()];
+    for size in sizes {
+        let bytes = patched(&ask.bytes, 4 + 2 * BUCKET, &(size as u16).to_le_bytes());
+        let job = enlarged(&job, size);
+        let (set, order) = (set_numbers(&job, &book), rng.pick(&[EARLY, LATE]));
+        let (mut table, mut values) = (vec![7; job.words()], vec![7; plan_values(&job)]);
+        let lists = (&mut table, &mut entries, &mut values);
+        let number = numbers::plan_set(&bytes, &set, TOTAL, order, lists.0, lists.1, lists.2);
+        let planned = match number {
+            0 => values[0] as u32,
+            13 => NEVER,
+            _ => return Err(format!("planning with size {size}: refused {number}")),
+        };
+        let listed_total = listed.totals[(size - first) as usize];
+        same(&format!("planning with size {size}"), listed_total, planned)?;
+        ensure!(size < 255 || table == listed.table, "planning with size 255: another table");
+    }
+    Ok(())
+}
+
+/// The typed functions give what the numbers give: with calls that set the pins in any
+/// order, and in a session, which stays as it is. Where a set is wrong they cannot be asked.
+fn check_typed_sizes(rng: &mut Rng, ask: &Sizing, listed: Option<&Listed>) -> Checked {
+    let bytes = &ask.bytes;
+    let refused = |refusal: upload_planner::Refusal| refusal.number();
+    let (job, book) = match ask.begun() {
+        Ok(begun) => begun,
+        Err(6) => return Ok(()),
+        Err(number) => {
+            let due = Err(number as u32);
+            let calls = [Call::Pin { unit: 1, choice: 0 }];
+            let found = upload_planner::larger_buckets(bytes, &calls).map_err(refused);
+            same("an owned list", due.clone(), found.map(|_| ()))?;
+            let mut lists = [Lent::new(rng, 7), Lent::new(rng, 7)];
+            let [table, totals] = &mut lists;
+            let found = upload_planner::sizes(bytes, &calls, table.list(), totals.list());
+            same("a typed list", due, found.map_err(refused))?;
+            return lists.iter().try_for_each(|list| list.kept("typed lists"));
+        }
+    };
+    let Some(listed) = listed else { return Ok(()) };
+    let due = listed.typed(&job);
+    let needs = size_needs(&job);
+    let opened = upload_planner::open(bytes).map_err(|refusal| refusal.to_string())?;
+    let found = [opened.largest_table_words(), opened.bucket_sizes().len()];
+    same("the lengths of opening", needs, found)?;
+    ensure!(due.iter().map(|of| of.0).eq(opened.bucket_sizes()), "other sizes of opening");
+    same("the bucket of opening", job.buckets[0].size as u16, opened.bucket)?;
+
+    let calls = fresh_calls(rng, &pins_of(&job, &book));
+    let calls: Vec<Call> = calls.chunks(3).map(typed_call).collect();
+    for lengths in [[needs[0] - 1, needs[1]], [needs[0], needs[1] - 1], needs] {
+        let mut lent = SizeLists::new(rng, ask, lengths);
+        let lists = (lent.table.list(), lent.totals.list());
+        let found = upload_planner::sizes(bytes, &calls, lists.0, lists.1).map_err(refused);
+        let number = first_of(&[(lengths[0] < needs[0], 11), (lengths[1] < needs[1], 12)]);
+        same("a typed list", if number > 0 { Err(number) } else { Ok(()) }, found)?;
+        match number {
+            0 => lent.wrote(ask, &listed.totals, &listed.table)?,
+            _ => lent.wrote(ask, &[], &[])?,
+        }
+    }
+    let found = upload_planner::larger_buckets(bytes, &calls).map_err(refused);
+    same("an owned list", Ok(&due), found.as_ref())?;
+
+    let mut session = upload_planner::Session::open(bytes).map_err(|r| r.to_string())?;
+    for (&unit, &choice) in &book {
+        session.pin(unit as u16, choice as u16).map_err(|refusal| refusal.to_string())?;
+    }
+    let before = session.clone();
+    same("a session's list", &due, &session.larger_buckets())?;
+    same("a session's own total", due[0].1, session.best_total())?;
+    ensure!(session == before, "the session is another after a list");
+    Ok(())
+}
+
+// ---------------------------------------------------------------------------
+// Larger buckets by hand, from every size on, and refused.
+// ---------------------------------------------------------------------------
+
+/// Job A on a line that drains one grain, with a bucket of this size and level. Unit 2 takes 2
+/// grains in interval 3; unit 1 takes 4 by interval 2 and loses 10, or 2 and loses 30. Six
+/// grains bring the bucket to its level at the start and 3, as 2, 2 and 2; four as 2, 0 and 2
+/// bring it one up.
+fn slow_a(size: u16, level: u16) -> Draft {
+    job_a().with(BUCKET, size).with(DRAIN, 1).with(START_BUCKET, level)
+}
+
+/// Units that lose a unit of distortion for each grain short of two, and a drain of one: with
+/// a grain in each interval the bucket stays, and each grain more in it is one that some
+/// unit gains. So with size k from an empty bucket N units lose N - k, if k is at most N.
+fn falling_job(units: usize, size: u16) -> Draft {
+    let unit = vec![(2, 0), (1, 1), (0, 2)];
+    Draft::new([0, 2, size, 1, 0, 0], &[0, 1, 2], &vec![unit; units])
+}
+
+/// The numbers from the first size named on, each as far as the next size.
+fn stepped(steps: &[(u16, u32)]) -> Vec<u32> {
+    let held = |size: u16| steps.iter().rfind(|step| step.0 <= size).map(|step| step.1);
+    (steps[0].0..=255).filter_map(held).collect()
+}
+
+/// Lists worked out by hand.
+fn sizes_by_hand_group() -> Result<String, String> {
+    let mut rng = Rng(1);
+    type Row<'a> = (Draft, &'a [(usize, usize)], &'a [(u16, u32)]);
+    let slow = |second: [u16; 3]| slow_a(0, 0).doubled(second);
+    // One interval, and a grain more of rate for each size.
+    let rates: Vec<u16> = (0..16).collect();
+    let coding = |grains: u16| (grains, 15 - grains as u32);
+    let stairs =
+        Draft::new([0, 15, 0, 1, 0, 0], &rates, &[rates.iter().copied().map(coding).collect()]);
+    let stair_steps: Vec<(u16, u32)> = (0..15).map(|size| (size, 14 - size as u32)).collect();
+    let at_once = |size: u16, level: u16| {
+        Draft::new([0, 255, size, 1, 0, level], &[0, 255], &[vec![(255, 0), (0, 9)]])
+    };
+    let short_steps: Vec<(u16, u32)> = (0..=8).map(|size| (size, 8 - size as u32)).collect();
+    let long_steps: Vec<(u16, u32)> = (0..=255).map(|size| (size, 256 - size as u32)).collect();
+    let mut rows: Vec<Row> = vec![
+        // The decoder holds no more than four grains, and two at a time drain at once.
+        (job_a(), &[], &[(3, 50)]),
+        (job_a().with(BUCKET, 0), &[], &[(0, 50)]),
+        (job_a(), &[(1, 1)], &[(3, 70)]),
+        (job_a(), &[(2, 0)], &[(3, NEVER)]),
+        // A bucket of nothing takes no grain; 50 is had after two sizes that have 70.
+        (slow_a(0, 0), &[], &[(0, NEVER), (1, 70), (3, 50)]),
+        (slow_a(1, 0), &[], &[(1, 70), (3, 50)]),
+        (slow_a(2, 0), &[], &[(2, 70), (3, 50)]),
+        (slow_a(3, 0), &[], &[(3, 50)]),
+        (slow_a(254, 0), &[], &[(254, 50)]),
+        // The largest has one number.
+        (slow_a(255, 0), &[], &[(255, 50)]),
+        (slow_a(255, 0), &[(2, 0)], &[(255, NEVER)]),
+        (slow_a(255, 255), &[], &[(255, NEVER)]),
+        (slow_a(255, 0).doubled([1, 1, 0]), &[], &[(255, 70)]),
+        // Pins: unit 2 never has five grains.
+        (slow_a(0, 0), &[(1, 0)], &[(0, NEVER), (3, 50)]),
+        (slow_a(0, 0), &[(1, 1)], &[(0, NEVER), (1, 70)]),
+        (slow_a(0, 0), &[(2, 1)], &[(0, NEVER), (1, 70), (3, 50)]),
+        (slow_a(0, 0), &[(1, 1), (2, 1)], &[(0, NEVER), (1, 70)]),
+        (slow_a(0, 0), &[(2, 0)], &[(0, NEVER)]),
+        (slow_a(0, 0), &[(1, 0), (2, 0)], &[(0, NEVER)]),
+        // The level at the start stays, whatever the size.
+        (slow_a(1, 1), &[], &[(1, NEVER), (2, 70), (4, 50)]),
+        (slow_a(4, 1), &[], &[(4, 50)]),
+        (slow_a(252, 252), &[], &[(252, NEVER), (253, 70), (255, 50)]),
+        (slow_a(253, 253), &[], &[(253, NEVER), (254, 70)]),
+        (slow_a(254, 254), &[], &[(254, NEVER), (255, 70)]),
+        (slow_a(254, 251), &[], &[(254, 50)]),
+        (slow_a(253, 251), &[], &[(253, 70), (254, 50)]),
+        // The second bucket stays: it takes all that the first one can, or only four grains, or
+        // none, or four with the one in it.
+        (slow([3, 1, 0]), &[], &[(0, NEVER), (1, 70), (3, 50)]),
+        (slow([2, 1, 0]), &[], &[(0, NEVER), (1, 70)]),
+        (slow([1, 1, 0]), &[], &[(0, NEVER), (1, 70)]),
+        (slow([0, 1, 0]), &[], &[(0, NEVER)]),
+        (slow([3, 1, 1]), &[], &[(0, NEVER), (1, 70)]),
+        (slow([0, 2, 0]), &[(1, 0)], &[(0, NEVER), (3, 50)]),
+        (slow_a(250, 250).doubled([63, 1, 60]), &[], &[(250, NEVER), (251, 70), (253, 50)]),
+        (slow_a(250, 250).doubled([63, 1, 62]), &[], &[(250, NEVER), (251, 70)]),
+        // A fall at each size.
+        (stairs, &[], &stair_steps),
+        (falling_job(8, 0), &[], &short_steps),
+    ];
+    if !small() {
+        // The total is as large as it may be.
+        let units = vec![vec![(0, 1_000_000)]; 512];
+        rows.extend::<[Row; 5]>([
+            (Draft::new([0, 0, 252, 1, 0, 0], &[0], &units), &[], &[(252, 512_000_000)]),
+            (falling_job(256, 0), &[], &long_steps),
+            // 255 grains at once, of which one drains: 254 of them stay, or 255, or 256.
+            (at_once(0, 0), &[], &[(0, 9), (254, 0)]),
+            (at_once(1, 1), &[], &[(1, 9), (255, 0)]),
+            (at_once(2, 2), &[], &[(2, 9)]),
+        ]);
+    }
+    let (mut numbers, count) = (0, rows.len());
+    for (at, (draft, pins, steps)) in rows.into_iter().enumerate() {
+        let asked = Asked::new(&mut rng, &draft);
+        let book: Book = pins.iter().copied().collect();
+        let ask = Sizing::of(&mut rng, &asked, &book);
+        let (job, pins) = (&asked.job, pins_of(&asked.job, &book));
+        let totals = stepped(steps);
+        let mut check = || -> Checked {
+            if job.plans().is_some_and(|plans| plans <= ENUMERATION_LIMIT) {
+                same("by hand, and every plan", &totals, &sizes_by_plans(job, &pins))?;
+            }
+            let due =
+                if small() { sizes_by_halves(job, &pins) } else { sizes_by_tables(job, &pins) };
+            same("by hand, and by tables", &totals, &due)?;
+            let listed = Listed::of(job, &pins, totals.clone());
+            check_listed(&mut rng, &ask, &listed)?;
+            let some = larger_sizes(job).filter(|size| !small() || (at as i64 + size) % 64 == 0);
+            check_each_size(&mut rng, &ask, &listed, some)?;
+            if job.words() < 10_000 && (!small() || at % 5 == 0) {
+                check_typed_sizes(&mut rng, &ask, Some(&listed))?;
+            }
+            Ok(())
+        };
+        check()
+            .map_err(|trouble| format!("header {:?}: {}", draft.header, ask.failed(&trouble)))?;
+        numbers += totals.len();
+    }
+    Ok(format!("{count} lists, {numbers} numbers"))
+}
+
+/// The same job with each size from 0 to 255 in turn: its list is the rest of the list of
+/// size 0, and the table is the same for all.
+fn every_own_size_group() -> Result<String, String> {
+    let mut rng = Rng(1);
+    let mut lists = 0;
+    let books = [Book::new(), Book::from([(1, 0)]), Book::from([(2, 0)])];
+    for (draft, step) in [(slow_a(0, 0), 1), (slow_a(0, 0).doubled([1, 1, 0]), 7)] {
+        let step = if small() { 63 } else { step };
+        for size in (0..=255).step_by(step).chain([254, 255]) {
+            let asked = Asked::new(&mut rng, &draft.with(BUCKET, size));
+            let book = &books[size as usize % books.len()];
+            let pins = pins_of(&asked.job, book);
+            let totals = sizes_by_plans(&enlarged(&asked.job, 0), &pins);
+            let listed = Listed::of(&asked.job, &pins, totals[size as usize..].to_vec());
+            let ask = Sizing::of(&mut rng, &asked, book);
+            check_listed(&mut rng, &ask, &listed).map_err(|trouble| ask.failed(&trouble))?;
+            lists += 1;
+        }
+    }
+    Ok(format!("{lists} lists"))
+}
+
+/// Every set of defects at once, on lines that drain and that never do: the first in order
+/// gives the number, and nothing is written. That there is no plan is no defect.
+fn size_order_group() -> Result<String, String> {
+    let mut rng = Rng(1);
+    let mut tally: BTreeMap<u32, usize> = BTreeMap::new();
+    for draft in &drains_of_a() {
+        let right = Asked::new(&mut rng, draft);
+        let needs = size_needs(&right.job);
+        for (wrong, bits) in (0..=5).flat_map(|wrong| (0..1 << 7).map(move |bits| (wrong, bits))) {
+            if small() && bits % 17 > 0 {
+                continue;
+            }
+            let [set, table, totals, by_all, no_plan, way, other] =
+                std::array::from_fn(|bit| bits >> bit & 1 == 1);
+            // The wrong byte of 1 is the last one; only 2 and 3 are in the header.
+            let never = draft.never_drains() && wrong != 2 && wrong != 3;
+            let refused = if never { 17 } else { wrong };
+            let book = Book::from([if no_plan { (2, 0) } else { (1, 0) }]);
+            let mut ask = Sizing::of(&mut rng, &right, &book);
+            ask.bytes = wrong_job(draft, wrong);
+            if set {
+                ask.set.truncate(SET_NUMBERS);
+                wrong_set(&mut ask.set, way as usize + 2 * other as usize);
+                ask.set.shrink_to_fit();
+            }
+            let due = first_of(&[(refused > 0, refused), (set, 6), (table, 11), (totals, 12)]);
+            let lengths = [cut_to(needs[0], table, by_all), cut_to(needs[1], totals, by_all)];
+            let begun = ask.begun().err().map(|number| number as u32);
+            let mut check = || -> Checked {
+                same("in order", (due > 0 && due < 11 || due == 17).then_some(due), begun)?;
+                if due > 0 {
+                    return check_unlisted(&mut rng, &ask, due, lengths);
+                }
+                let pins = pins_of(&right.job, &book);
+                let listed = Listed::of(&right.job, &pins, sizes_by_plans(&right.job, &pins));
+                same("no plan", no_plan, listed.totals[0] == NEVER)?;
+                check_listed_in(&mut rng, &ask, &listed, lengths)
+            };
+            check().map_err(|trouble| {
+                format!("header {:?}, job {wrong}, defects {bits:b}: {trouble}", draft.header)
+            })?;
+            check_typed_sizes(&mut rng, &ask, None)?;
+            *tally.entry(due).or_default() += 1;
+        }
+    }
+    let counts = by_number(&tally);
+    let due = [0, 1, 2, 3, 4, 5, 6, 11, 12, 17];
+    ensure!(tally.keys().eq(&due) || small(), "too little in it: {counts}");
+    Ok(format!("sets of defects by number ({counts})"))
+}
+
+/// Lists of every length. A table that is long enough for the job itself, or for a bucket of
+/// 254, is too short.
+fn size_lengths_group() -> Result<String, String> {
+    let mut rng = Rng(1);
+    let mut lists = 0;
+    // Two layers of a row of 256 words, and Job A's, with one bucket and two.
+    let row = Draft::new(BARE, &[0], &[vec![(0, 5)]]);
+    for draft in [row, slow_a(0, 0), slow_a(250, 250), slow_a(253, 253).doubled([1, 1, 0])] {
+        let asked = Asked::new(&mut rng, &draft);
+        let ask = Sizing::of(&mut rng, &asked, &Book::new());
+        let (job, pins) = (&asked.job, &asked.pins);
+        let listed = Listed::of(job, pins, sizes_by_plans(job, pins));
+        let needs = size_needs(job);
+        let own = [job.words(), enlarged(job, 254).words()];
+        for (which, need) in needs.into_iter().enumerate() {
+            let step = if small() { 97 } else { 1 };
+            let near = [need - 1, need, need + 1, need + 2];
+            let named = if which == 0 { own.to_vec() } else { vec![1, need / 2] };
+            for length in (0..need).step_by(step).chain(named).chain(near) {
+                // The other is as long as is needed, longer, or too short as well.
+                let mut lengths = needs.map(|need| need + slack(&mut rng));
+                if rng.one_in(8) {
+                    lengths[1 - which] = rng.from(0, needs[1 - which] - 1);
+                }
+                lengths[which] = length;
+                let number = first_of(&[(lengths[0] < needs[0], 11), (lengths[1] < needs[1], 12)]);
+                let checked = match number {
+                    0 => check_listed_in(&mut rng, &ask, &listed, lengths),
+                    _ => check_unlisted(&mut rng, &ask, number, lengths),
+                };
+                checked.map_err(|trouble| ask.failed(&trouble))?;
+                lists += 1;
+            }
+        }
+    }
+    Ok(format!("{lists} lists"))
+}
+
+// ---------------------------------------------------------------------------
+// Larger buckets of random jobs.
+// ---------------------------------------------------------------------------
+
+/// What lists had in them.
+#[derive(Default)]
+struct Sizes {
+    lists: usize,
+    /// With a plan for no size, for some and for all.
+    plans: [usize; 3],
+    /// Numbers less than the one before, and lists with several of these; those of one number
+    /// and of 256.
+    falls: usize,
+    several: usize,
+    ends: [usize; 2],
+    pinned: usize,
+    two: usize,
+    told: Told,
+}
+
+impl Sizes {
+    fn count(&mut self, job: &Job, pins: &Pins, totals: &[u32]) {
+        self.lists += 1;
+        let never = totals.iter().filter(|total| **total == NEVER).count();
+        self.plans[if never == totals.len() { 0 } else { 1 + (never == 0) as usize }] += 1;
+        let falls = falls(totals).len();
+        self.falls += falls;
+        self.several += (falls > 1) as usize;
+        self.ends[0] += (totals.len() == 1) as usize;
+        self.ends[1] += (totals.len() == 256) as usize;
+        self.pinned += pins.iter().any(Option::is_some) as usize;
+        self.two += (job.buckets.len() > 1) as usize;
+    }
+
+    fn show(&self) -> String {
+        let Sizes { lists, plans, falls, several, ends, pinned, two, told } = self;
+        format!(
+            "{lists} lists, {} without a plan, {} with one for the larger sizes alone and {} for \
+             all; {falls} falls, {several} lists with several; {} of one number and {} of 256; \
+             {pinned} with pins, {two} of two buckets{}",
+            plans[0],
+            plans[1],
+            plans[2],
+            ends[0],
+            ends[1],
+            if told.is_empty() { String::new() } else { told.show() }
+        )
+    }
+
+    /// Each of these at least once in so many lists.
+    fn worthwhile(&self, often: usize) -> bool {
+        let Sizes { plans, falls, several, ends, pinned, two, .. } = self;
+        let counts = [&plans[..], &ends[..], &[*falls, *several, *pinned, *two]].concat();
+        counts.iter().all(|count| count * often >= self.lists)
+    }
+}
+
+/// Says of each mistaken rule whether the list is another under it, or its last number.
+fn size_mistakes(job: &Job, pins: &Pins, totals: &[u32]) -> Vec<Mistake> {
+    let last = *totals.last().expect("a number");
+    let at_255 = |job: &Job, pins: &Pins| size_by_table(job, pins, 255) != last;
+    // The list ends where two numbers are equal.
+    let flat = totals.windows(2).position(|pair| pair[0] == pair[1]);
+    let mut mistakes = vec![
+        ("one number for all", last != totals[0]),
+        ("a list ended by two equal numbers", flat.is_some_and(|at| last != totals[at])),
+        ("the pins forgotten", sizes_by_plans(job, &vec![None; pins.len()]) != totals),
+        ("a bucket that starts fuller", {
+            let more = 255 - job.buckets[0].size;
+            at_255(&job.with_bucket(0, |bucket| bucket.start += more), pins)
+        }),
+        (
+            "a bucket that starts empty",
+            at_255(&job.with_bucket(0, |bucket| bucket.start = 0), pins),
+        ),
+        ("a larger decoder", {
+            let mut larger = job.clone();
+            larger.decoder_size += 1;
+            at_255(&larger, pins)
+        }),
+        ("the last size left out", totals.len() > 1 && last != totals[totals.len() - 2]),
+        ("the first size left out", totals.len() > 1 && totals[0] != totals[1]),
+    ];
+    if job.buckets.len() > 1 {
+        let second = job.with_bucket(1, |bucket| bucket.size = 63);
+        mistakes.push(("a larger second bucket", at_255(&second, pins)));
+    }
+    mistakes
+}
+
+/// A word of the table, by trying every completion of its levels.
+fn word_by_completions(job: &Job, pins: &Pins, at: usize) -> u32 {
+    let (rows, width) = (job.decoder_size as usize + 1, job.width());
+    let (t, decoder) = (at / width / rows, at / width % rows);
+    let levels = job.all_levels()[at % width];
+    let word = completed(job, pins, NO_LIMIT, t, decoder as i64, &levels);
+    word.map_or(NEVER, |word| word as u32)
+}
+
+/// Tiny jobs, by following every plan. The set is made by the job's calls, refused ones
+/// included.
+fn tiny_sizes_group(seed: u64, asks: bool) -> Result<String, String> {
+    let mut rng = Rng(seed);
+    let mut sizes = Sizes::default();
+    for index in 1..=scaled(100) {
+        let draft = match index % 12 {
+            0 => random_tiny_double(&mut rng),
+            1 => random_job(&mut rng, &TINY),
+            _ => random_sized_job(&mut rng, &SIZED[0]),
+        };
+        let asked = Asked::new(&mut rng, &draft);
+        let (job, pins) = (&asked.job, &asked.pins);
+        let mut desk = Desk::lent(&mut rng, asked.bytes.clone(), job.clone(), 0)?;
+        for (call, number) in asked.calls.chunks(3).zip(&asked.answers) {
+            same("a call for a set", *number, desk.make([call[0], call[1], call[2]])?)?;
+        }
+        let ask = Sizing { bytes: asked.bytes.clone(), set: desk.set.held().to_vec() };
+        let totals = sizes_by_plans(job, pins);
+        let mut check = || -> Checked {
+            same("by halves", &totals, &sizes_by_halves(job, pins))?;
+            if index % 4 == 0 {
+                same("by tables", &totals, &sizes_by_tables(job, pins))?;
+            }
+            let listed = Listed::of(job, pins, totals.clone());
+            for _ in 0..3 {
+                let at = rng.from(0, listed.table.len() - 1);
+                let word = word_by_completions(&enlarged(job, 255), pins, at);
+                same(&format!("every completion of word {at}"), word, listed.table[at])?;
+            }
+            check_listed(&mut rng, &ask, &listed)?;
+            let (first, falls) = (job.buckets[0].size, falls(&totals));
+            let near = |size: i64| falls.iter().any(|&at| (size - first - at as i64).abs() < 2);
+            let every = index % 3 == 0;
+            let some = larger_sizes(job).filter(|&size| {
+                every || near(size) || size == first || size > 253 || size % 50 == 7
+            });
+            check_each_size(&mut rng, &ask, &listed, some)?;
+            if index % 4 == 1 {
+                check_typed_sizes(&mut rng, &ask, Some(&listed))?;
+            }
+            Ok(())
+        };
+        check().map_err(|trouble| format!("seed {seed}, job {index}: {}", ask.failed(&trouble)))?;
+        sizes.count(job, pins, &totals);
+        sizes.told.add(&size_mistakes(job, pins, &totals));
+    }
+    let counts = sizes.show();
+    let worthwhile = sizes.worthwhile(25) && sizes.told.each(60);
+    ensure!(worthwhile || !asks, "too little in it: {counts}");
+    Ok(counts)
+}
+
+/// Jobs too large to try everything, by tables and, where a number falls and at the ends, by
+/// the dynamic program.
+fn larger_sizes_group(seed: u64, asks: bool) -> Result<String, String> {
+    let mut rng = Rng(seed);
+    let mut sizes = Sizes::default();
+    for index in 1..=scaled(40) {
+        let draft = match index % 8 {
+            0 => random_double_job(&mut rng, &DOUBLE[1]),
+            1 => random_tight_job(&mut rng, &TIGHT[0]),
+            2 => random_even_job(&mut rng, &EVEN_SHAPES[0]),
+            _ => random_sized_job(&mut rng, &SIZED[1]),
+        };
+        let asked = Asked::new(&mut rng, &draft);
+        let (job, pins) = (&asked.job, &asked.pins);
+        let ask = Sizing::of(&mut rng, &asked, &book_of(pins));
+        let totals = sizes_by_halves(job, pins);
+        let mut check = || -> Checked {
+            let first = job.buckets[0].size as usize;
+            let mut places = vec![0, totals.len() - 1, rng.from(0, totals.len() - 1)];
+            for at in falls(&totals).into_iter().take(2) {
+                places.extend([at - 1, at]);
+            }
+            for &at in &places {
+                let found = size_by_paths(rng.pick(&ORDERS), job, pins, (first + at) as i64);
+                same(&format!("dynamic program, size {}", first + at), totals[at], found)?;
+            }
+            let listed = Listed::of(job, pins, totals.clone());
+            check_listed(&mut rng, &ask, &listed)?;
+            let some = places.iter().map(|at| (first + at) as i64);
+            check_each_size(&mut rng, &ask, &listed, some)
+        };
+        check().map_err(|trouble| format!("seed {seed}, job {index}: {}", ask.failed(&trouble)))?;
+        sizes.count(job, pins, &totals);
+    }
+    let counts = sizes.show();
+    ensure!(sizes.worthwhile(40) || !asks, "too little in it: {counts}");
+    Ok(counts)
+}
+
+/// Sittings in which a list is asked for after pins and lifts, seen or not, and refused ones
+/// among them. Set and table stay as they are, and a session does.
+fn size_sittings_group(seed: u64, asks: bool) -> Result<String, String> {
+    let mut rng = Rng(seed);
+    let mut sizes = Sizes::default();
+    let (mut refused, mut lifted) = (0, 0);
+    for index in 1..=scaled(12) {
+        let draft = random_sized_job(&mut rng, &Shape { commands: 0, ..SIZED[0] });
+        let mut desk = Desk::new(&mut rng, &draft)?;
+        let bytes = desk.bytes.clone();
+        let light = rng.one_in(2);
+        let mut check = || -> Checked {
+            let opened = upload_planner::Session::open(&bytes);
+            let mut session = opened.map_err(|refusal| refusal.to_string())?;
+            desk.plan(&mut rng, Aim::Total, order_in_turn(index))?;
+            for _ in 0..4 {
+                for _ in 0..rng.from(1, 4) {
+                    let call = sitting_call(&mut rng, &desk, light);
+                    let due = desk.see(&mut rng, call, 0, 1)?;
+                    let [kind, unit, choice] = call;
+                    let found = match kind {
+                        6 => session.pin(unit, choice),
+                        _ => session.lift(unit),
+                    };
+                    let found = found.err().map_or(0, |refusal| refusal.number());
+                    same(&format!("typed call {call:?}"), due as u32, found)?;
+                    refused += (due > 0) as usize;
+                    lifted += (due == 0 && kind == 7) as usize;
+                }
+                let (job, pins) = (desk.job.clone(), desk.pins());
+                let ask = Sizing { bytes: bytes.clone(), set: desk.set.held().to_vec() };
+                let listed = Listed::of(&job, &pins, sizes_by_halves(&job, &pins));
+                let needs = size_needs(&job).map(|need| need + slack(&mut rng));
+                check_listed_in(&mut rng, &ask, &listed, needs)?;
+                // The desk's own lists, and its own table in the place of the one that is lent.
+                let (number, mut lists) = (first_of(&[(job.buckets[0].size < 255, 11)]), [7; 256]);
+                let own = &mut desk.table.list()[..job.words()];
+                let found = numbers::sizes(&bytes, &ask.set, own, &mut lists);
+                same("the desk's own table", number, found)?;
+                desk.holds()?;
+                same("the word of the desk", desk.total(), listed.totals[0])?;
+                same("a session's list", &listed.typed(&job), &session.larger_buckets())?;
+                check_typed_session(&session, &desk)?;
+                sizes.count(&job, &pins, &listed.totals);
+            }
+            Ok(())
+        };
+        check().map_err(|trouble| desk.failed(seed, index, &trouble))?;
+    }
+    let counts = format!("{}, {refused} calls refused, {lifted} lifts", sizes.show());
+    let worthwhile = sizes.falls * 4 > sizes.lists && refused * 3 > sizes.lists && lifted > 5;
+    ensure!(worthwhile || !asks, "too little in it: {counts}");
+    Ok(counts)
+}
+
+/// Lists of tiny jobs with something wrong in one place or a few, and lists of any length.
+fn harmed_sizes_group(seed: u64, asks: bool) -> Result<String, String> {
+    let mut rng = Rng(seed);
+    let mut tally: BTreeMap<u32, usize> = BTreeMap::new();
+    let inputs = scaled(3000);
+    for index in 1..=inputs {
+        let shape = Shape { decoder: 3, ..SIZED[0] };
+        let draft = random_sized_job(&mut rng, &shape);
+        let draft = random_stored(&mut rng, &draft, 12);
+        let asked = Asked::new(&mut rng, &draft);
+        let mut ask = Sizing::of(&mut rng, &asked, &book_of(&asked.pins));
+        for _ in 0..rng.pick(&[0, 1, 1, 1, 2, 3]) {
+            match rng.from(0, 5) {
+                0 | 1 => harm(&mut rng, &mut ask.bytes),
+                2 => harm_head(&mut rng, &mut ask.bytes),
+                3 | 4 if ask.set.len() >= SET_NUMBERS => {
+                    harm_set(&mut rng, &asked.job, &mut ask.set[..SET_NUMBERS])
+                }
+                _ => ask.set.truncate(rng.pick(&[0, 1, SET_TOTALS, SET_NUMBERS - 1, SET_NUMBERS])),
+            }
+        }
+        ask.bytes.shrink_to_fit();
+        ask.set.shrink_to_fit();
+        let begun = ask.begun();
+        let needs = begun.as_ref().map_or([20; 2], |(job, _)| size_needs(job));
+        let lengths = needs.map(|need| match rng.from(0, 11) {
+            0 => need - 1,
+            1 => rng.from(0, need),
+            2..=4 => need,
+            _ => need + rng.from(1, 9),
+        });
+        // A harmed job may call for a table that is too large to compare.
+        let lengths = [lengths[0].min(40_000), lengths[1]];
+        let number = match &begun {
+            Err(number) => *number as u32,
+            Ok(_) => first_of(&[(lengths[0] < needs[0], 11), (lengths[1] < needs[1], 12)]),
+        };
+        let mut check = || -> Checked {
+            match &begun {
+                // Most lists that go well are left to other groups.
+                Ok((job, book)) if number == 0 => {
+                    if index % 8 > 0 {
+                        return Ok(());
+                    }
+                    let pins = pins_of(job, book);
+                    let listed = Listed::of(job, &pins, sizes_by_halves(job, &pins));
+                    check_listed_in(&mut rng, &ask, &listed, lengths)
+                }
+                _ => {
+                    check_unlisted(&mut rng, &ask, number, lengths)?;
+                    check_typed_sizes(&mut rng, &ask, None)
+                }
+            }
+        };
+        check()
+            .map_err(|trouble| format!("seed {seed}, input {index}: {}", ask.failed(&trouble)))?;
+        *tally.entry(number).or_default() += 1;
+    }
+    let counts = format!("{inputs} inputs by number ({})", by_number(&tally));
+    let often = |number: &u32| tally.get(number).is_some_and(|count| count * 300 > inputs);
+    let numbers = [0, 1, 2, 3, 4, 5, 6, 11, 12, 17];
+    ensure!(numbers.iter().all(often) || !asks, "too little in it: {counts}");
+    Ok(counts)
+}
+
+/// A larger decoder, a larger bucket of either, a larger drain of either: every plan that was
+/// admissible stays so, and what the library plans loses no more, for either aim.
+fn raised_group(seed: u64, asks: bool) -> Result<String, String> {
+    let mut rng = Rng(seed);
+    let (mut raised, mut plans, mut lower, mut new) = (0, 0, [0; 2], 0);
+    for index in 1..=scaled(150) {
+        let draft = match index % 3 {
+            0 => random_tiny_double(&mut rng),
+            1 => random_sized_job(&mut rng, &SIZED[0]),
+            _ => random_double_job(&mut rng, &Shape { units: (1, 2), ..DOUBLE[0] }),
+        };
+        let asked = Asked::new(&mut rng, &draft);
+        let held = admissible_plans(&asked.job, &asked.pins);
+        let before = AIMS.map(|aim| worst_and_total(&asked, aim));
+        let mut fields = vec![(DECODER, 255), (BUCKET, 255), (DRAIN, 4095)];
+        if asked.job.buckets.len() > 1 {
+            fields.extend([(SECOND, 63), (SECOND_DRAIN, 4095)]);
+        }
+        for (field, most) in fields {
+            let now = draft.header[field];
+            if now == most {
+                continue;
+            }
+            let more = rng.pick(&[1, 1, 2, 5]).min(most - now);
+            let larger = Asked::new(&mut rng, &draft.with(field, now + more));
+            let mut check = || -> Checked {
+                same("the pins", &asked.pins, &larger.pins)?;
+                for Judged { plan, total, .. } in held.iter().step_by(1 + held.len() / 20) {
+                    let entries = plan_bytes(plan);
+                    let (mut levels, mut values) = ([7; 64], [7; 7]);
+                    let (job, calls) = (&larger.bytes, &larger.calls);
+                    let found = numbers::replay(job, calls, &entries, &mut levels, &mut values);
+                    same("a plan that was admissible", [0, 0, *total as u64], {
+                        [found as u64, values[0], values[2]]
+                    })?;
+                    plans += 1;
+                }
+                for (which, aim) in AIMS.into_iter().enumerate() {
+                    let after = worst_and_total(&larger, aim);
+                    let [old, found] = [before[which], after].map(|of| match aim {
+                        Aim::Total => of.map(|of| of.1),
+                        Aim::Even => of.map(|of| of.0),
+                    });
+                    // No plan counts as more than any.
+                    let [old, found] = [old, found].map(|of| of.unwrap_or(u64::MAX));
+                    ensure!(found <= old, "{aim:?}: {old} rises to {found}");
+                    lower[which] += (found < old) as usize;
+                    new += (old == u64::MAX && found < old && which == 0) as usize;
+                }
+                Ok(())
+            };
+            check().map_err(|trouble| {
+                let what = format!("field {field} raised by {more}: {trouble}");
+                failed(seed, index, &what, &asked)
+            })?;
+            raised += 1;
+        }
+    }
+    let counts = format!(
+        "{raised} numbers raised, {plans} plans that stay; a lesser total {} times, a lesser \
+         greatest distortion {} times, a first plan {new} times",
+        lower[0], lower[1]
+    );
+    let worthwhile = lower.iter().all(|count| count * 20 > raised) && new * 100 > raised;
+    ensure!(worthwhile || !asks, "too little in it: {counts}");
+    Ok(counts)
+}
+
+/// The greatest distortion of a unit in the plan that the library gives for an aim, and the
+/// total; `None` where there is no plan.
+fn worst_and_total(asked: &Asked, aim: Aim) -> Option<(u64, u64)> {
+    let (number, _, entries, values) = planned_numbers_for(aim, Order::Early, asked);
+    if number > 0 {
+        return None;
+    }
+    let plan = read_plan(&asked.job, &entries).expect("a plan");
+    Some((greatest(&asked.job, &plan) as u64, values[0]))
+}
+
+/// Lists of trial jobs on lines that drain little and start filled, by tables. The last numbers
+/// are the state and the drain.
+fn large_sizes_group() -> Result<String, String> {
+    let few = Size { units: 48, delay: 8, decoder: 63, bucket: 100, rates: 8, choices: 8 };
+    let long = Size { units: 512, delay: 64, decoder: 31, bucket: 252, ..few };
+    let wide = Size { units: 8, bucket: 240, rates: 16, choices: 1000, ..few };
+    let sizes = [
+        ("a trial job", few, None, 1, 9),
+        ("many units", long, None, 70, 9),
+        ("large buffers", Size { units: 12, decoder: 255, bucket: 245, ..few }, None, 1, 5),
+        ("a thousand choices", wide, None, 1, 9),
+        (
+            "two buckets",
+            Size { units: 24, decoder: 31, bucket: 245, ..few },
+            Some([15, 14, 4]),
+            0,
+            9,
+        ),
+    ];
+    let mut rng = Rng(9);
+    let (mut words, mut numbers, mut fallen) = (0, 0, 0);
+    for (name, size, second, state, drain) in &sizes {
+        let mut check = || -> Checked {
+            let draft = large_trial(size, *second, *state)?;
+            let draft = draft.with(DRAIN, *drain).with(START_BUCKET, size.bucket as u16);
+            let asked = Asked::new(&mut rng, &draft);
+            let (job, pins) = (&asked.job, &asked.pins);
+            let totals = sizes_by_halves(job, pins);
+            ensure!(totals[0] > totals[totals.len() - 1], "a larger bucket brings nothing");
+            let listed = Listed::of(job, pins, totals);
+            let ask = Sizing::of(&mut rng, &asked, &book_of(pins));
+            check_listed(&mut rng, &ask, &listed)?;
+            let middle = rng.from(job.buckets[0].size as usize, 255) as i64;
+            let some = [job.buckets[0].size, middle, 255].into_iter();
+            check_each_size(&mut rng, &ask, &listed, some)?;
+            words += listed.table.len();
+            numbers += listed.totals.len();
+            fallen += falls(&listed.totals).len();
+            Ok(())
+        };
+        check().map_err(|trouble| format!("{name}: {trouble}"))?;
+    }
+    let jobs = sizes.len();
+    let counts = format!("{jobs} jobs, {numbers} numbers, {fallen} falls, {words} words");
+    Ok(counts)
+}
+
+// ---------------------------------------------------------------------------
 // Large jobs.
 // ---------------------------------------------------------------------------
 
@@ -10044,6 +10981,10 @@ fn run_all(new_seed: u64, with_full: bool, examples: Option<&Path>) -> bool {
         print_group("levels carried into a new contract", carried_levels_group()),
         print_group("changes after every interval", first_intervals_group()),
         print_group("lists of a change of every length", change_lengths_group()),
+        print_group("larger buckets by hand", sizes_by_hand_group()),
+        print_group("larger buckets from every size on", every_own_size_group()),
+        print_group("refusals of larger buckets in their order", size_order_group()),
+        print_group("lists of larger buckets of every length", size_lengths_group()),
     ];
     if let Some(directory) = examples {
         results.push(print_group("examples written again", examples_group(directory)));
@@ -10064,6 +11005,11 @@ fn run_all(new_seed: u64, with_full: bool, examples: Option<&Path>) -> bool {
     seeded("changes of contract, larger jobs", &[1], larger_changes_group);
     seeded("changes around a violation", &[1], violated_changes_group);
     seeded("harmed changes of contract", &[1], harmed_changes_group);
+    seeded("larger buckets, tiny jobs", &[1], tiny_sizes_group);
+    seeded("larger buckets, larger jobs", &[1], larger_sizes_group);
+    seeded("larger buckets in a sitting", &[1], size_sittings_group);
+    seeded("larger buckets, harmed jobs and sets", &[1], harmed_sizes_group);
+    seeded("larger sizes and drains", &[1], raised_group);
     seeded("harmed bytes", &[1], harmed_group);
     seeded("replay and report", &[1, 2], replay_group);
     seeded("jobs that never drain", &[1, 2], stored_group);
@@ -10104,6 +11050,7 @@ fn run_all(new_seed: u64, with_full: bool, examples: Option<&Path>) -> bool {
         results.push(print_group("even pictures, large jobs", even_large_group()));
         results.push(print_group("pin and see, large jobs", seen_large_group()));
         results.push(print_group("changes of contract, large jobs", large_changes_group()));
+        results.push(print_group("larger buckets, large jobs", large_sizes_group()));
     }
     if !small() && with_full {
         results.push(print_group("a job of the largest size", full_group()));

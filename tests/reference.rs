@@ -1,16 +1,18 @@
 //! What the test programs share: answers worked out straight from the product's
 //! paper, and the jobs they are asked of.
 //!
-//! The answers have nine parts: a reader that gives the first refusal due, an
+//! The answers have ten parts: a reader that gives the first refusal due, an
 //! enumeration of every plan (small jobs), a dynamic program that carries whole
 //! paths forward (the jobs too large to enumerate), both of these again for even
 //! pictures, with every word of the table, a reader of plans of either shape, a book of
 //! pins with the numbers of its set, changes of contract by trying every continuation and
-//! by making a job of the rest, a writer that gives a job's bytes or the first refusal due,
-//! and a generator that gives a trial job's. Each program uses a part of what stands here.
+//! by making a job of the rest, what a larger bucket brings by the size that each plan needs,
+//! a writer that gives a job's bytes or the first refusal due, and a generator that gives a
+//! trial job's. Each program uses a part of what stands here.
 
 use std::collections::btree_map::Entry as MapEntry;
 use std::collections::BTreeMap;
+use std::ops::RangeInclusive;
 use std::path::{Path, PathBuf};
 use std::time::{SystemTime, UNIX_EPOCH};
 
@@ -1339,6 +1341,136 @@ pub fn random_contract(
 }
 
 // ---------------------------------------------------------------------------
+// What a larger bucket brings: every plan by the size that it needs.
+// ---------------------------------------------------------------------------
+
+/// The sizes of the first bucket that are asked for: from the job's own to the largest.
+pub fn larger_sizes(job: &Job) -> RangeInclusive<i64> {
+    job.buckets[0].size..=LARGEST[0]
+}
+
+/// The job with a first bucket of this size, all else equal.
+pub fn enlarged(job: &Job, size: i64) -> Job {
+    job.with_bucket(0, |bucket| bucket.size = size)
+}
+
+/// The least size of the first bucket with which the plan is admissible, and its distortion;
+/// `None` where the size of this bucket is not what rules it out. It is followed with a bucket
+/// that is never over, and needs the highest level that this comes to.
+pub fn size_needed(job: &Job, pins: &Pins, plan: &Plan) -> Option<(i64, i64)> {
+    let mut highest = 0;
+    let endless = enlarged(job, i64::MAX);
+    let totals = replay(&endless, pins, plan, |_, levels| highest = highest.max(levels[0]))?;
+    Some((highest, totals.distortion))
+}
+
+/// The least total for each of the sizes, by following every plan in range once.
+pub fn sizes_by_plans(job: &Job, pins: &Pins) -> Vec<u32> {
+    let first = |t| (0, if t > job.delay { 0 } else { NO_CHOICE });
+    let mut plan: Plan = (1..=job.intervals()).map(first).collect();
+    // By the size that is needed.
+    let mut least: BTreeMap<i64, i64> = BTreeMap::new();
+    loop {
+        if let Some((size, distortion)) = size_needed(job, pins, &plan) {
+            let held = least.entry(size).or_insert(distortion);
+            *held = (*held).min(distortion);
+        }
+        if !next_plan(job, &mut plan) {
+            break;
+        }
+    }
+    let total = |size| least.range(..=size).map(|(_, distortion)| *distortion).min();
+    larger_sizes(job).map(|size| total(size).map_or(u32::MAX, |total| total as u32)).collect()
+}
+
+/// The least total with a first bucket of this size, by the dynamic program.
+pub fn size_by_paths(order: Order, job: &Job, pins: &Pins, size: i64) -> u32 {
+    let job = enlarged(job, size);
+    let plan = dynamic(order, &job, pins);
+    let totals = plan.and_then(|plan| replay(&job, pins, &plan, |_, _| ()));
+    totals.map_or(u32::MAX, |totals| totals.distortion as u32)
+}
+
+/// The shapes of jobs in which the first bucket's size decides: to enumerate, and for the
+/// dynamic program. `bucket` is the most room that the bucket has at the start.
+pub const SIZED: [Shape; 2] = [
+    Shape {
+        units: (2, 3),
+        delay: (0, 2),
+        decoder: 7,
+        bucket: 3,
+        rates: 3,
+        choices: 3,
+        grains: 0,
+        heavy: &[2, 6, 1000],
+        commands: 2,
+    },
+    Shape {
+        units: (5, 9),
+        delay: (0, 3),
+        decoder: 9,
+        bucket: 4,
+        rates: 4,
+        choices: 4,
+        grains: 0,
+        heavy: &[4, 20, 1000],
+        commands: 2,
+    },
+];
+
+/// A job in which the first bucket's size decides: it drains little, and distortions fall as
+/// the units grow, so that a good plan sends as much as the bucket takes. Its size is anywhere
+/// in the range, and mostly it starts so full that each of the next sizes counts. A second
+/// bucket drains somewhat more.
+pub fn random_sized_job(rng: &mut Rng, shape: &Shape) -> Draft {
+    let decoder = rng.from(3, shape.decoder);
+    let room = rng.from(0, shape.bucket);
+    let largest = LARGEST[0] as usize;
+    let size = match rng.from(0, 11) {
+        0 => largest,
+        1..=4 => largest - rng.from(1, shape.bucket),
+        5 => rng.from(0, largest),
+        6 => 0,
+        _ => room,
+    };
+    let levels = [
+        rng.from(shape.delay.0, shape.delay.1),
+        decoder,
+        size,
+        rng.from(1, decoder.div_ceil(4)),
+        rng.from(0, decoder / 3),
+        if rng.one_in(8) { rng.from(0, size) } else { size.saturating_sub(room) },
+    ];
+    let count = rng.from(2, shape.rates);
+    let mut rates = rng.rising(count, decoder);
+    if !rng.one_in(8) {
+        rates[0] = 0;
+    }
+    let count = rng.from(shape.units.0, shape.units.1);
+    let choices = rng.from(2, shape.choices);
+    let (steep, heavy) = (rng.pick(&[1, 7, 40, 65_536]), rng.pick(shape.heavy));
+    let mut units = Vec::new();
+    for _ in 0..count {
+        let mut unit: Vec<(u16, u32)> = Vec::new();
+        for choice in 1..=choices {
+            let light = choice == choices && !rng.one_in(heavy);
+            let taken = if light { 0 } else { rng.from(1, decoder) };
+            let distortion = (decoder - taken) * steep + rng.from(0, steep / 2);
+            unit.push((taken as u16, distortion as u32));
+        }
+        units.push(unit);
+    }
+    let mut draft = Draft::new(levels.map(|level| level as u16), &rates, &units);
+    draft.commands = random_commands(rng, &draft, shape.commands);
+    if rng.one_in(2) {
+        return draft;
+    }
+    let size = rng.from(0, 2 * shape.bucket);
+    let second = [size, rng.from(levels[3], decoder), rng.from(0, size / 2)];
+    draft.doubled(second.map(|number| number as u16))
+}
+
+// ---------------------------------------------------------------------------
 // Rules that a program might follow by mistake.
 // ---------------------------------------------------------------------------
 
@@ -1719,6 +1851,11 @@ impl Told {
     /// Whether each mistaken rule shows in one of `jobs` jobs or more often.
     pub fn each(&self, jobs: usize) -> bool {
         self.counts.values().all(|[told, asked]| told * jobs >= *asked)
+    }
+
+    /// Whether nothing was asked.
+    pub fn is_empty(&self) -> bool {
+        self.counts.is_empty()
     }
 
     pub fn show(&self) -> String {

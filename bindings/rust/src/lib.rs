@@ -24,14 +24,14 @@
 //!
 //! [`write()`] makes the bytes of a job from its header and lists, and [`trial`] those of
 //! a job to try things with, from its header and a starting state; [`open`],
-//! [`archive`], [`calls()`], [`plan`], [`replay`], [`report`], [`turn`] and [`change`] take
-//! these bytes and read them again. They fill lists that the caller lends; [`written`],
-//! [`trial_job`], [`called`], [`best_plan`], [`replayed`], [`turned`] and [`changed`] make
-//! the lists themselves. Nothing is kept between calls. A list that is filled may be longer than
-//! needed: what stands past the part named as written keeps its values. Wherever a job is
-//! read, its own refusals come first: 1 to 5, and for those that open it 17. A refusal
-//! writes nothing, except that [`Refusal::NoPlan`] comes after the search and leaves
-//! `table` written, and no other list.
+//! [`archive`], [`calls()`], [`plan`], [`replay`], [`report`], [`turn`], [`change`] and
+//! [`sizes`] take these bytes and read them again. They fill lists that the caller lends;
+//! [`written`], [`trial_job`], [`called`], [`best_plan`], [`replayed`], [`turned`], [`changed`]
+//! and [`larger_buckets`] make the lists themselves. Nothing is kept between calls. A list that
+//! is filled may be longer than needed: what stands past the part named as written keeps its
+//! values. Wherever a job is read, its own refusals come first: 1 to 5, and for those that open
+//! it 17. A refusal writes nothing, except that [`Refusal::NoPlan`] comes after the search and
+//! leaves `table` written, and no other list.
 //!
 //! An editor who pins and lifts, and wants to see each time what the best plan comes
 //! to, opens a [`Session`]. It keeps the pins and the table from click to click, and of
@@ -39,15 +39,15 @@
 //!
 //! A carrier may alter the [`Contract`] while the programme is sent. [`change`] keeps what
 //! was sent under the old one and plans the rest afresh under the new one, from the levels
-//! that were reached.
+//! that were reached. [`larger_buckets`] lists what a contract with a larger bucket would bring.
 //!
 //! A drain of 0 was once typed for a line without a limit, and says the opposite: what
 //! is sent stays in the bucket. Jobs with it, in either bucket, are refused with 17,
 //! directly after 3 and before the next record is looked at: by [`open`], [`calls()`],
-//! [`plan`], [`change`], [`write()`] and [`trial`], by [`called`], [`best_plan`],
-//! [`changed`], [`written`] and [`trial_job`], and by [`Session::open`]. Such jobs that are stored are opened by
-//! [`archive`], which takes all other jobs too; [`replay`], [`report`], [`turn`],
-//! [`replayed`] and [`turned`] take what it takes.
+//! [`plan`], [`change`], [`sizes`], [`write()`] and [`trial`], by [`called`], [`best_plan`],
+//! [`changed`], [`larger_buckets`], [`written`] and [`trial_job`], and by [`Session::open`].
+//! Such jobs that are stored are opened by [`archive`], which takes all other jobs too;
+//! [`replay`], [`report`], [`turn`], [`replayed`] and [`turned`] take what it takes.
 //!
 //! The work is done by the library `libupload.a`, whose code is proved to meet
 //! its contract. It takes no memory and reads and writes only what is lent to
@@ -104,6 +104,7 @@
 
 use std::error::Error;
 use std::fmt;
+use std::ops::RangeInclusive;
 
 pub mod numbers;
 
@@ -112,6 +113,9 @@ pub const NO_UNIT: u16 = 65_535;
 
 /// The word of a state from which no plan can be completed.
 pub const NEVER: u32 = u32::MAX;
+
+/// The largest size of a first bucket.
+pub const LARGEST_SIZE: u16 = 255;
 
 /// Why a job, a call or a list is refused.
 #[derive(Clone, Copy, Debug, PartialEq, Eq, Hash)]
@@ -536,13 +540,19 @@ pub struct Opened {
     pub table_words: usize,
     /// How many buckets the line has, 1 or 2.
     pub buckets: usize,
+    /// The bucket's size; where there are two, that of the first.
+    pub bucket: u16,
 }
+
+/// Where the size of the first bucket stands in a job, with a header of either kind.
+const JOB_BUCKET: usize = 10;
 
 impl Opened {
     /// From what opening or the archive wrote for a job.
     fn of(values: [u64; numbers::OPEN_VALUES], job: &[u8]) -> Opened {
         let [bytes, units, intervals, table_words] = values.map(|value| value as usize);
-        Opened { bytes, units, intervals, table_words, buckets: buckets_of(job) }
+        let bucket = u16::from_le_bytes([job[JOB_BUCKET], job[JOB_BUCKET + 1]]);
+        Opened { bytes, units, intervals, table_words, buckets: buckets_of(job), bucket }
     }
 
     /// How many bytes a plan has.
@@ -554,6 +564,18 @@ impl Opened {
     /// the decoder and one of each bucket.
     pub fn level_numbers(self) -> usize {
         Levels::numbers(self.buckets) * self.intervals
+    }
+
+    /// The sizes of the first bucket of which [`sizes`] tells: from the job's own to
+    /// [`LARGEST_SIZE`].
+    pub fn bucket_sizes(self) -> RangeInclusive<u16> {
+        self.bucket..=LARGEST_SIZE
+    }
+
+    /// The words that [`sizes`] needs for its table: those of the job with a first bucket of
+    /// [`LARGEST_SIZE`].
+    pub fn largest_table_words(self) -> usize {
+        self.table_words / (usize::from(self.bucket) + 1) * (usize::from(LARGEST_SIZE) + 1)
     }
 }
 
@@ -1041,6 +1063,47 @@ fn changed_with(
     let mut table = vec![0; contract.table_words(opened.intervals, decoder)];
     let totals = change_with(job, set, old, first, contract, order, &mut table, &mut entries)?;
     Ok(BestPlan { totals, entries, answers: Vec::new(), table })
+}
+
+/// Lists what a larger bucket would bring: the least total distortion for each size of the
+/// first bucket from the job's own to [`LARGEST_SIZE`], all else equal. It makes the calls as
+/// [`calls()`] does, and goes by the pins that stand at the end; [`calls()`] says what they
+/// met with.
+///
+/// - `table`: [`Opened::largest_table_words`] words are written: the table of the job with a
+///   first bucket of [`LARGEST_SIZE`], as [`plan`] writes it for [`Aim::Total`].
+/// - `totals`: a number for each of [`Opened::bucket_sizes`] is written, size after size: the
+///   least total distortion, or [`NEVER`] where no plan is admissible.
+///
+/// What a bucket takes a larger one takes too, so that no number exceeds the one before it. The
+/// starting levels stay, and so does a second bucket.
+///
+/// # Errors
+///
+/// In this order: 1 to 5 and 17 for the job; 11; 12 where `totals` is too short. That there is
+/// no plan is no error.
+pub fn sizes(
+    job: &[u8],
+    calls: &[Call],
+    table: &mut [u32],
+    totals: &mut [u32],
+) -> Result<(), Refusal> {
+    let (set, _) = set_after(job, calls)?;
+    checked(numbers::sizes(job, &set, table, totals))
+}
+
+/// The same with lists of its own: each size with its total, if there is a plan.
+fn larger_with(
+    job: &[u8],
+    opened: Opened,
+    set: &[u32],
+) -> Result<Vec<(u16, Option<u32>)>, Refusal> {
+    let sizes = opened.bucket_sizes();
+    let mut table = vec![0; opened.largest_table_words()];
+    let mut totals = vec![0; sizes.len()];
+    checked(numbers::sizes(job, set, &mut table, &mut totals))?;
+    let totals = totals.into_iter().map(|total| (total != NEVER).then_some(total));
+    Ok(sizes.zip(totals).collect())
 }
 
 fn met_with(answers: Vec<u8>) -> Vec<Result<(), Refusal>> {
@@ -1546,6 +1609,53 @@ impl<'a> Session<'a> {
         changed_with(self.job, self.opened, &self.set, old, first, contract, order)
     }
 
+    /// What a larger bucket would bring with the pins that stand, as [`larger_buckets`] says it
+    /// of those that calls leave: each size of the first bucket from the job's own on, and the
+    /// least total, if there is a plan. The first is the job's own and has
+    /// [`Session::best_total`]. The session stays with its bucket, and keeps [`Session::table`].
+    ///
+    /// # Examples
+    ///
+    /// Two grains at a time go into the bucket and one drains, so that four for unit 1 and two
+    /// for unit 2 need a bucket of three. Two for each can come in intervals 1 and 3, and for
+    /// them a bucket of one is enough.
+    ///
+    /// ```
+    /// use upload_planner::{written, Header, Refusal, Session};
+    ///
+    /// let header = Header {
+    ///     units: 2,
+    ///     delay: 1,
+    ///     decoder: 4,
+    ///     bucket: 1,
+    ///     drain: 1,
+    ///     level: 0,
+    ///     fill: 0,
+    ///     rates: 3,
+    ///     choices: 2,
+    ///     second: None,
+    /// };
+    /// let job = written(&header, &[0, 2, 4], &[4, 2, 5, 2], &[10, 30, 12, 40])?;
+    /// let mut session = Session::open(&job)?;
+    /// assert_eq!(session.best_total(), Some(30 + 40));
+    /// let free = session.larger_buckets();
+    /// assert_eq!(free[..3], [(1, Some(70)), (2, Some(70)), (3, Some(10 + 40))]);
+    ///
+    /// // Unit 1 is to have its four grains: until there is room for them there is no plan.
+    /// session.pin(1, 0)?;
+    /// let fine = session.larger_buckets();
+    /// assert_eq!(fine[..3], [(1, None), (2, None), (3, Some(50))]);
+    /// assert_eq!(session.best_total(), None);
+    ///
+    /// session.lift(1)?;
+    /// assert_eq!(session.larger_buckets(), free);
+    /// # Ok::<(), Refusal>(())
+    /// ```
+    pub fn larger_buckets(&self) -> Vec<(u16, Option<u32>)> {
+        let listed = larger_with(self.job, self.opened, &self.set);
+        listed.expect("a session's job and pins are taken, and its lists are long enough")
+    }
+
     /// The choice that a unit is pinned at; `None` where it is free, or the job has no
     /// such unit.
     pub fn pin_of(&self, unit: u16) -> Option<u16> {
@@ -1697,6 +1807,63 @@ pub fn changed(
     let (set, answers) = set_after(job, calls)?;
     let best = changed_with(job, opened, &set, old, first, contract, order)?;
     Ok(BestPlan { answers, ..best })
+}
+
+/// [`sizes`] with lists of its own: each size of the first bucket from the job's own to
+/// [`LARGEST_SIZE`], and the least total distortion with it; `None` where there is no plan.
+/// Whatever the job's own size, the table is as large as for the largest: up to 151 million
+/// bytes, and with two buckets 64 times as many.
+///
+/// # Errors
+///
+/// Numbers 1 to 5 and 17 for the job.
+///
+/// # Examples
+///
+/// The decoder holds four grains. They can come two at a time, which drain at once: a larger
+/// bucket brings nothing.
+///
+/// ```
+/// use upload_planner::{larger_buckets, written, Call, Header, Refusal};
+///
+/// let header = Header {
+///     units: 2,
+///     delay: 1,
+///     decoder: 4,
+///     bucket: 3,
+///     drain: 2,
+///     level: 0,
+///     fill: 0,
+///     rates: 3,
+///     choices: 2,
+///     second: None,
+/// };
+/// let job_of = |header: Header| {
+///     written(&header, &[0, 2, 4], &[4, 2, 5, 2], &[10, 30, 12, 40])
+/// };
+/// let sizes = larger_buckets(&job_of(header)?, &[])?;
+/// assert_eq!(sizes.len(), 256 - 3);
+/// assert_eq!((sizes[0], sizes[252]), ((3, Some(10 + 40)), (255, Some(10 + 40))));
+///
+/// // Where one grain drains, a bucket of nothing takes none. With one of 1 the intervals can
+/// // send 2, 0 and 2, and unit 1 loses 30; six grains leave 3 in it.
+/// let job = job_of(Header { bucket: 0, drain: 1, ..header })?;
+/// let mut sizes = larger_buckets(&job, &[])?;
+/// assert_eq!(sizes.len(), 256);
+/// sizes.dedup_by_key(|(_, total)| *total);
+/// assert_eq!(sizes, [(0, None), (1, Some(30 + 40)), (3, Some(10 + 40))]);
+///
+/// // Unit 1 is to lose 30 in any case.
+/// let coarse = [Call::Pin { unit: 1, choice: 1 }];
+/// let mut sizes = larger_buckets(&job, &coarse)?;
+/// sizes.dedup_by_key(|(_, total)| *total);
+/// assert_eq!(sizes, [(0, None), (1, Some(30 + 40))]);
+/// # Ok::<(), Refusal>(())
+/// ```
+pub fn larger_buckets(job: &[u8], calls: &[Call]) -> Result<Vec<(u16, Option<u32>)>, Refusal> {
+    let opened = open(job)?;
+    let (set, _) = set_after(job, calls)?;
+    larger_with(job, opened, &set)
 }
 
 /// [`turn`] with a list of its own, as long as the job needs.

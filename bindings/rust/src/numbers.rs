@@ -14,13 +14,14 @@
 //!
 //! A set of pins is [`SET_NUMBERS`] numbers that the caller keeps between calls: [`set`]
 //! writes the one without a pin, [`pin`], [`lift`], [`pin_and_see`] and [`lift_and_see`]
-//! bring it up to date, [`plan_set`], [`replay_set`] and [`change`] read it. Number 0 is the
-//! kind of the job's header, 1 or 8 for one bucket or two; then come twelve fields in the
-//! order of [`write()`], the last three 0 where there is one bucket; from [`SET_PINS`] on the
-//! pins of units 1 to 512, a choice or [`NO_PIN`]; from [`SET_TOTALS`] on the three values of
-//! [`calls`]. Each call reads all of them against the job again and refuses others with 6,
-//! right after the job's numbers. Numbers behind them are not looked at and keep their
-//! values. [`archive_set`] writes the set of a stored job whose line may never drain.
+//! bring it up to date, [`plan_set`], [`replay_set`], [`change`] and [`sizes`] read it.
+//! Number 0 is the kind of the job's header, 1 or 8 for one bucket or two; then come twelve
+//! fields in the order of [`write()`], the last three 0 where there is one bucket; from
+//! [`SET_PINS`] on the pins of units 1 to 512, a choice or [`NO_PIN`]; from [`SET_TOTALS`] on
+//! the three values of [`calls`]. Each call reads all of them against the job again and
+//! refuses others with 6, right after the job's numbers. Numbers behind them are not looked
+//! at and keep their values. [`archive_set`] writes the set of a stored job whose line may
+//! never drain.
 
 /// The first number of a call that pins.
 pub const PIN: u16 = 6;
@@ -249,6 +250,17 @@ extern "C" {
         values_len: usize,
     ) -> u32;
 
+    fn upload_sizes(
+        job: *const u8,
+        job_len: usize,
+        set: *const u32,
+        set_len: usize,
+        table: *mut u32,
+        table_len: usize,
+        totals: *mut u32,
+        totals_len: usize,
+    ) -> u32;
+
     fn upload_write(
         fields: *const u16,
         fields_len: usize,
@@ -275,7 +287,7 @@ extern "C" {
     ) -> u32;
 }
 
-// In all eighteen: a slice's pointer is aligned, never null, and good for the
+// In all nineteen: a slice's pointer is aligned, never null, and good for the
 // slice's length; slices that are written overlap no other. That is all the
 // library asks, and it reads and writes nothing else.
 
@@ -552,6 +564,24 @@ pub fn change(
             entries.len(),
             values.as_mut_ptr(),
             values.len(),
+        )
+    }
+}
+
+/// Lists what a larger bucket would bring, with the pins of a set: the least total for each
+/// size of the first bucket from the job's own to [`LARGEST_SIZE`](crate::LARGEST_SIZE), or
+/// [`NEVER`](crate::NEVER) where there is no plan.
+pub fn sizes(job: &[u8], set: &[u32], table: &mut [u32], totals: &mut [u32]) -> u32 {
+    unsafe {
+        upload_sizes(
+            job.as_ptr(),
+            job.len(),
+            set.as_ptr(),
+            set.len(),
+            table.as_mut_ptr(),
+            table.len(),
+            totals.as_mut_ptr(),
+            totals.len(),
         )
     }
 }

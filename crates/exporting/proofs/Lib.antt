@@ -6,3 +6,4 @@ pub mod SetRooms
 pub mod Exports
 pub mod Sets
 pub mod Changes
+pub mod Larger

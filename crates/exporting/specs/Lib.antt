@@ -4,3 +4,4 @@ pub mod Sets
 pub mod Claims
 pub mod SetClaims
 pub mod Changes
+pub mod Larger

@@ -1,9 +1,14 @@
--- A job over another line: what stays.
+-- A job over another line, and what stays: `OverLine`.
 use Prim.Native.Nat.{ℕ}
 use mathlib.Core.Path.{_≡_, refl}
 use mathlib.Core.Option.{Option, none, some}
 use Rattle.model.specs.Job.{Line, Job, on-line, intervals, codingAt, coding, ChoiceFits, waits, decodes}
 use Rattle.model.specs.Table.{Bounded}
+use Rattle.model.specs.Claims.{OverLine}
+
+pub over-line : OverLine
+unfolding on-line
+over-line j l = record { line = refl; delay = refl; start = refl; choices = refl; units = refl }
 
 pub own-line : (j : Job) → on-line j (j .line) ≡ j
 unfolding on-line

@@ -21,7 +21,8 @@ module _ (j : Job) (k : Open) (t : ℕ) (s : Levels) (bounded : Bounded j) (coun
   unfolding least-by
   below v e = distortions-small j k late bounded _+_ sum-combines (λ t s. t ≤ t) .values (intervals j - t) t s v (omega arith) (omega arith) e
 
-  word-means : (o : Option ℕ) → least-total j k t s ≡ o → WordClaim j k t s (encode 4294967295 o)
+  -- a least total as a word, by the plans
+  pub word-means : (o : Option ℕ) → least-total j k t s ≡ o → WordClaim j k t s (encode 4294967295 o)
   unfolding encode
   word-means none e = record {
     none-iff = (λ q. claim .none-iff .0 e, λ f. refl);

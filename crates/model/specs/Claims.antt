@@ -11,7 +11,7 @@ use lib.Signed.{_≤ℤ_}
 use Rattle.trellis.specs.Table.{first-at, marked-offer}
 use Rattle.trellis.specs.Trellis.{NoLater}
 use Rattle.trellis.specs.Limit.{UpTo}
-use Rattle.model.specs.Job.{Bucket, bucketAt, nothing, Levels, Job, Entry, distorts, intervals, EntryFits, PlanFits}
+use Rattle.model.specs.Job.{Bucket, Line, bucketAt, nothing, Levels, Job, on-line, Entry, distorts, intervals, EntryFits, PlanFits}
 use Rattle.model.specs.Levels.{entryOf, sent, taken, distorted, decoderLevel, bucketLevel, unusedDrain, sentAfter, effectiveBuffer, unitsTaken}
 use Rattle.base.specs.Lists.{sum}
 use Rattle.model.specs.Pins.{PinMap}
@@ -123,6 +123,14 @@ pub record UnitsClaim (j : Job) (p : List Entry) : Type 0 where
   -- and both are 0 up to interval d
   pub waits : PlanFits j 0 p → (t : ℕ) → t ≤ j .delay → (taken j 0 p t ≡ 0) × (distorted j 0 p t ≡ 0)
 
+-- a job over another line: the line is that one, all else is the job's
+pub record OverClaim (j : Job) (l : Line) (k : Job) : Type 0 where
+  pub line : k .line ≡ l
+  pub delay : k .delay ≡ j .delay
+  pub start : k .start ≡ j .start
+  pub choices : k .choices ≡ j .choices
+  pub units : k .units ≡ j .units
+
 -- what makes a plan for a whole job admissible, by unit: it is in shape, no interval violates a limit of decoder or bucket, and every pinned unit u has its pinned choice, in the entry of interval u + d
 pub record PinnedClaim (j : Job) (m : PinMap) (start : Levels) (p : List Entry) : Type 0 where
   pub shaped : PlanFits j 0 p
@@ -170,6 +178,10 @@ Units = (j : Job) (p : List Entry) → UnitsClaim j p
 
 abbrev pub PinnedUnits : Type 0
 PinnedUnits = (j : Job) (m : PinMap) (start : Levels) (p : List Entry) → Admissible j m 0 start p ↔ PinnedClaim j m start p
+
+-- a job over another line (document 02, E12 and E13)
+abbrev pub OverLine : Type 0
+OverLine = (j : Job) (l : Line) → OverClaim j l (on-line j l)
 
 -- E2, of a plan: in an interval the decoder keeps its limits exactly where B(n) + C(n + 1) is at most D and B(n + 1) at least 0
 abbrev pub DecoderRange : Type 0

@@ -5,6 +5,7 @@ ghost use Rattle.format.specs.JobBytes.{opening, archive};
 ghost use Rattle.model.specs.Pins.{pin, lift};
 ghost use Rattle.contract.specs.Answers.{contract};
 ghost use Rattle.exporting.specs.Changes.{change-export};
+ghost use Rattle.exporting.specs.Larger.{listed, sizes-export};
 ghost use Rattle.exporting.specs.Sets.{set-export, call-export, seen, see-export, set-planned, set-plan-export, set-replay-export};
 ghost use Rattle.exporting.specs.Exports.{opened, open-export, called, calls-export, planned, plan-export, replayed, replay-export, filled, report-export, turn-export, written, write-export, trial-export};
 use header::Door;
@@ -206,6 +207,19 @@ pub extern "C" fn upload_change(
         entries,
         values,
     )
+}
+
+// Lists the least total for each size of the first bucket from the job's own to 255, with the pins of a set: 256 - K numbers, the mark where there is no plan. The table ends as that of size 255.
+#[no_mangle]
+pub extern "C" fn upload_sizes(
+    job: &[u8],
+    set: &[u32],
+    table: &mut [u32],
+    totals: &mut [u32],
+) -> u32
+    ensures { λ r. ⌜ listed r (now (table .exit)) (now (totals .exit)) ≡ sizes-export (now (job .entry)) (now (set .entry)) (now (table .entry)) (now (totals .entry)) ⌝ }
+{
+    enlarged::least_totals(job, set, table, totals)
 }
 
 // Writes a job from the nine fields of its header, or twelve, its rates, and sizes and distortions by unit and choice, unit after unit. Values: how many bytes the job took. Another number of fields is no header.

@@ -1,0 +1,3 @@
+-- What is proved of the answers, for the proofs of crates that name this one.
+pub mod Listing
+pub mod Answering
