@@ -23,7 +23,8 @@
    A carrier may alter the contract, rates and buckets, while the programme is
    sent. upload_change keeps what was sent under the old one and plans the rest
    afresh under the new one, from the levels that were reached. upload_sizes lists
-   what larger buckets would bring.
+   what larger buckets would bring, upload_playlist plans programmes that are sent
+   back to back.
 
    The header says how many buckets there are: a job that opens has it in its
    byte 2, the kind of its first record, which is one of enum upload_header. With
@@ -35,7 +36,8 @@
    upload_write makes the bytes of a job from its header and lists, upload_trial
    those of a job to try things with, from its header and a starting state. Every
    other function takes these bytes and reads them again, by one of two doors (see
-   below); bytes after the job are not looked at. Nothing is kept between calls,
+   below); bytes after the job are not looked at, but for upload_playlist, which has
+   an entry for each job. Nothing is kept between calls,
    and no memory is taken: all that is written goes to lists that the caller
    lends. Calls from several threads are fine as long as no list that one writes
    is lent to another. Of the C library only memcpy and memset are used.
@@ -45,10 +47,12 @@
    values. A pointer is never null, also where the count is 0, and is aligned
    for its type. A list that is written overlaps no other list.
 
-   Each function answers 0, or the number of the refusal. Wherever a job is read,
-   its own numbers come first: 1 to 5, and by the door of opening 17, directly
-   after 3. A refusal writes nothing, with one exception: UPLOAD_NO_PLAN comes
-   after the search and leaves `table` written, and no other list.
+   Each function answers 0, or the number of the refusal; upload_playlist tells the
+   programme's place in the same number. Wherever a job is read, its own numbers
+   come first: 1 to 5, and by the door of opening 17, directly after 3. A refusal
+   writes nothing, with one exception: UPLOAD_NO_PLAN comes after the search and
+   leaves `table` written, and no other list. Of a playlist this is said of the
+   programme that is refused: what was written for those before it stays.
 
    A drain of 0 was once typed for a line without a limit, and says the opposite:
    what is sent stays in the bucket. A job with it, in either bucket, is refused
@@ -64,7 +68,8 @@
        upload_calls     opening    17
        upload_plan      opening    17
        upload_set, upload_pin, upload_lift, upload_pin_and_see,
-       upload_lift_and_see, upload_plan_set, upload_change, upload_sizes
+       upload_lift_and_see, upload_plan_set, upload_change, upload_sizes,
+       upload_playlist
                         opening    17
        upload_archive   archive    opened, with the values that another drain has
        upload_replay    archive    replayed without pins: each call is refused
@@ -122,9 +127,20 @@ enum upload_refusal {
     UPLOAD_NOT_WITHIN = 18,     /* upload_change: the interval after which the contract changes
                                    is not from 1 to T - 1 */
     UPLOAD_OLD_VIOLATION = 19,  /* upload_change: the old plan has a violation up to there */
-    UPLOAD_CARRIED_OVER = 20    /* upload_change: the level that a bucket has there is over its
-                                   new size */
+    UPLOAD_CARRIED_OVER = 20,   /* upload_change: the level that a bucket has there is over its
+                                   new size; upload_playlist: that it had at the last
+                                   programme's end is over its size in this one */
+    UPLOAD_NOT_A_LIST = 21,     /* upload_playlist: no entry, more than UPLOAD_PROGRAMMES, or an
+                                   odd count of numbers */
+    UPLOAD_PROGRAMME = 22       /* upload_playlist: an entry passes the bytes, bytes are left
+                                   behind its job, or it has another number of buckets than
+                                   the first one */
 };
+
+/* upload_playlist alone: the place of the programme that was refused, counted from 1,
+   or 0, and the number of its refusal. */
+#define UPLOAD_PLACE(answer) ((answer) / 256)
+#define UPLOAD_NUMBER(answer) ((answer) % 256)
 
 /* Calls are numbers, three a call: one of these kinds, the unit (1 to N), the
    choice (0 to M - 1). A lift does not look at its third number. */
@@ -167,6 +183,10 @@ enum upload_header {
 
 /* The largest size of a first bucket. */
 #define UPLOAD_LARGEST_SIZE 255
+
+/* The most entries of a playlist, and how many totals it gives for each. */
+#define UPLOAD_PROGRAMMES 64
+#define UPLOAD_PROGRAMME_TOTALS 5
 
 /* A set of pins as numbers: what an editor's tool keeps between its calls, in a
    list of its own. upload_set writes the set without a pin, and the calls that
@@ -528,6 +548,40 @@ uint32_t upload_sizes(const uint8_t *job, size_t job_len,
                       const uint32_t *set, size_t set_len,
                       uint32_t *table, size_t table_len,
                       uint32_t *totals, size_t totals_len);
+
+/* Plans the programmes of a playlist, which are sent back to back over one line: each
+   from the bucket levels at which the one before it ended, the first from its own;
+   the decoder starts at each job's own level. Each plan is the best for its programme
+   from there, as upload_plan_set gives it for UPLOAD_TOTAL and UPLOAD_LATE, without
+   pins; nothing is claimed for the list as a whole.
+
+   bytes:      the jobs; they may stand anywhere, and may overlap.
+   programmes: two numbers an entry, 1 to UPLOAD_PROGRAMMES entries: where the job's
+               first byte stands in `bytes`, counted from 0, and how many bytes it has.
+   table:      the words that each job needs, one planning after another; the last
+               one's stand in the end, and behind them what one before it left.
+   entries:    3 x T bytes a programme, one plan after another.
+   totals:     UPLOAD_PROGRAMME_TOTALS numbers a programme, in the order of the list:
+               distortion, source size, channel size, the unused drain of the bucket
+               and that of the second bucket, 0 where there is none.
+
+   Work stops at the first programme that is refused. The answer is then 256 x its
+   place, counted from 1, + the number (UPLOAD_PLACE and UPLOAD_NUMBER take it apart);
+   plans and totals of the programmes before it stay written, and so does the last
+   table. Of the refused programme nothing is written, but that UPLOAD_NO_PLAN leaves
+   its table. Two refusals have no place and write nothing: 21 where there is no entry,
+   more than UPLOAD_PROGRAMMES, or an odd count of numbers; then 12 where `totals` is
+   too short.
+
+   Refusals of an entry in order: 22 where it passes `bytes`; 1 to 5 for its job, with
+   17 directly after 3; 22 where bytes are left behind the job, or its number of
+   buckets is not the first one's; 20 where a level that is carried is above its
+   bucket's size; 11; 12 where its plan does not fit behind the others; 13. */
+uint32_t upload_playlist(const uint8_t *bytes, size_t bytes_len,
+                         const uint32_t *programmes, size_t programmes_len,
+                         uint32_t *table, size_t table_len,
+                         uint8_t *entries, size_t entries_len,
+                         uint64_t *totals, size_t totals_len);
 
 /* Writes a job's bytes from its header and lists: the record of the header, that
    of the rates, then one for each unit. What is written opens and holds this

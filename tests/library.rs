@@ -6,8 +6,10 @@
 //! are gone, of the report that a long delay takes little more time than a short one,
 //! of the archive that it takes what opening takes with another drain, of a sitting that it
 //! comes to the set, the table and the plans of a fresh one with its pins, of a change of
-//! contract that it plans the rest as a job of its own is planned, and of a list for larger
-//! buckets that each number is what planning gives for the job with that size.
+//! contract that it plans the rest as a job of its own is planned, of a list for larger
+//! buckets that each number is what planning gives for the job with that size, and of a
+//! playlist that each programme is planned as by itself from the levels at which the last one
+//! ended, and that all intervals keep their limits when they are followed in one go.
 //!
 //! Build and run, where DIR holds libupload.a:
 //!
@@ -3966,6 +3968,12 @@ fn check_no_sitting(
         numbers::sizes(bytes, set.held(), table.list(), totals.list()),
     ];
     same("calls that make or take a set", [number; 8], found)?;
+    // A list with the bytes as its only entry. The totals have room, or not even that.
+    let entry = [0, bytes.len() as u32];
+    let lists = (table.list(), entries.list(), values.list());
+    let due = if lists.2.len() < PROGRAMME_TOTALS { 12 } else { 256 + number };
+    let found = numbers::playlist(bytes, &entry, lists.0, lists.1, lists.2);
+    same("a playlist", due, found)?;
     set.kept("set")?;
     table.kept("table")?;
     entries.kept("entries")?;
@@ -3973,6 +3981,8 @@ fn check_no_sitting(
     values.kept("values")?;
     let found = upload_planner::larger_buckets(bytes, &[]).err().map(|refusal| refusal.number());
     same("an owned list of sizes", Some(number), found)?;
+    let found = upload_planner::playlist_plans(&[bytes]).err().map(|refused| refused.answer());
+    same("an owned playlist", Some(256 + number), found)?;
     let found = upload_planner::Session::open(bytes).err().map(|refusal| refusal.number());
     same("typed session", Some(number), found)
 }
@@ -4337,12 +4347,12 @@ fn job_a_group() -> Result<String, String> {
     same("drain 0 written", Err(Refusal::NeverDrains), refused)?;
     same("its number", 17, Refusal::NeverDrains.number())?;
 
-    for number in 1..=20 {
+    for number in 1..=22 {
         let refusal = Refusal::from_number(number).ok_or(format!("no refusal {number}"))?;
         same("a refusal's number", number, refusal.number())?;
         ensure!(!refusal.to_string().is_empty(), "refusal {number} has no words");
     }
-    same("refusals beyond", (None, None), (Refusal::from_number(0), Refusal::from_number(21)))?;
+    same("refusals beyond", (None, None), (Refusal::from_number(0), Refusal::from_number(23)))?;
     Ok("as written".to_string())
 }
 
@@ -10814,6 +10824,1422 @@ fn large_sizes_group() -> Result<String, String> {
 }
 
 // ---------------------------------------------------------------------------
+// A playlist: what is asked, and what is due.
+// ---------------------------------------------------------------------------
+
+/// What a playlist is asked of. Anything in it may be wrong.
+#[derive(Clone)]
+struct Listing {
+    bytes: Vec<u8>,
+    /// Two an entry: where a job begins in the bytes, and how many it has.
+    entries: Vec<u32>,
+}
+
+/// Lists that are long enough.
+const ENDLESS: [usize; 3] = [usize::MAX; 3];
+
+impl Listing {
+    fn of(mut bytes: Vec<u8>, mut entries: Vec<u32>) -> Listing {
+        bytes.shrink_to_fit();
+        entries.shrink_to_fit();
+        Listing { bytes, entries }
+    }
+
+    /// The jobs one behind another.
+    fn row(jobs: &[Vec<u8>]) -> Listing {
+        let (mut bytes, mut entries) = (Vec::new(), Vec::new());
+        for job in jobs {
+            entries.extend([bytes.len() as u32, job.len() as u32]);
+            bytes.extend_from_slice(job);
+        }
+        Listing::of(bytes, entries)
+    }
+
+    fn row_of(drafts: &[Draft]) -> Listing {
+        Listing::row(&drafts.iter().map(Draft::bytes).collect::<Vec<_>>())
+    }
+
+    /// The jobs in any order, with other bytes around them. One that is sent several times
+    /// mostly stands there once.
+    fn scattered(rng: &mut Rng, drafts: &[Draft]) -> Listing {
+        let jobs: Vec<Vec<u8>> = drafts.iter().map(Draft::bytes).collect();
+        let mut bytes: Vec<u8> = Vec::new();
+        let mut entries = vec![0; 2 * jobs.len()];
+        let mut left: Vec<usize> = (0..jobs.len()).collect();
+        let mut placed: Vec<(usize, u32)> = Vec::new();
+        while !left.is_empty() {
+            let index = left.swap_remove(rng.from(0, left.len() - 1));
+            let there = placed.iter().find(|of| jobs[of.0] == jobs[index] && !rng.one_in(4));
+            let first = match there {
+                Some(of) => of.1,
+                None => {
+                    let gap = rng.pick(&[0, 0, 1, 2, 40]);
+                    bytes.extend((0..gap).map(|_| rng.next() as u8).collect::<Vec<u8>>());
+                    bytes.extend_from_slice(&jobs[index]);
+                    (bytes.len() - jobs[index].len()) as u32
+                }
+            };
+            placed.push((index, first));
+            entries[2 * index..][..2].copy_from_slice(&[first, jobs[index].len() as u32]);
+        }
+        if rng.one_in(2) {
+            bytes.push(rng.next() as u8);
+        }
+        Listing::of(bytes, entries)
+    }
+
+    fn count(&self) -> usize {
+        self.entries.len() / 2
+    }
+
+    /// An entry's bytes, if it does not pass.
+    fn part(&self, entry: &[u32]) -> Option<&[u8]> {
+        self.bytes.get(entry[0] as usize..entry[0] as usize + entry[1] as usize)
+    }
+
+    /// What comes of it in lists of these lengths: table, entries, totals. The plans are read
+    /// off tables.
+    fn played(&self, room: [usize; 3]) -> Played {
+        play(&self.bytes, &self.entries, room, late_by_table)
+    }
+
+    /// The same by trying every plan, or by the dynamic program.
+    fn tried(&self, room: [usize; 3]) -> Played {
+        let plan = |job: &Job| best_plan(Order::Late, job, &free(job));
+        play(&self.bytes, &self.entries, room, plan)
+    }
+
+    /// The lengths that are needed to come as far as in endless lists.
+    fn needs(&self, played: &Played) -> [usize; 3] {
+        let words = played.searched().map(Job::words).max();
+        let entries = played.searched().map(|job| ENTRY_BYTES * job.intervals()).sum();
+        [words.unwrap_or(0), entries, PROGRAMME_TOTALS * self.count()]
+    }
+
+    /// What to type again to see a failure.
+    fn failed(&self, trouble: &str) -> String {
+        format!("{trouble}\n  bytes {}\n  entries {:?}", hex(&self.bytes), self.entries)
+    }
+}
+
+/// The late plan from a job's starting levels, without pins.
+fn late_by_table(job: &Job) -> Option<Plan> {
+    read_off_in(Order::Late, job, &free(job), &fast_table(job, &free(job)))
+}
+
+/// What stands in the lists at the end: table, entries, totals.
+struct Stands {
+    table: Vec<u32>,
+    entries: Vec<u8>,
+    totals: Vec<u64>,
+}
+
+impl Stands {
+    /// Each table is written over what the one before it left, and stays where the next is
+    /// shorter. Of a programme that is refused nothing is there but the table of 13.
+    fn of(played: &Played) -> Stands {
+        let mut table: Vec<u32> = Vec::new();
+        for job in played.searched() {
+            let words = fast_table(job, &free(job));
+            let behind = table.get(words.len()..).unwrap_or(&[]).to_vec();
+            table = [words, behind].concat();
+        }
+        let entries = played.sent.iter().flat_map(|sent| plan_bytes(&sent.plan)).collect();
+        let totals = played.sent.iter().flat_map(Sent::totals).collect();
+        Stands { table, entries, totals }
+    }
+}
+
+/// The lists that are lent, the entries of the list among them.
+struct PlaylistLists {
+    programmes: Lent<u32>,
+    table: Lent<u32>,
+    entries: Lent<u8>,
+    totals: Lent<u64>,
+}
+
+impl PlaylistLists {
+    /// `room`: table, entries, totals.
+    fn new(rng: &mut Rng, ask: &Listing, room: [usize; 3]) -> PlaylistLists {
+        PlaylistLists {
+            programmes: lent_with(rng, &ask.entries),
+            table: Lent::new(rng, room[0]),
+            entries: Lent::new(rng, room[1]),
+            totals: Lent::new(rng, room[2]),
+        }
+    }
+
+    fn play(&mut self, ask: &Listing) -> u32 {
+        let lists = (self.table.list(), self.entries.list(), self.totals.list());
+        numbers::playlist(&ask.bytes, self.programmes.held(), lists.0, lists.1, lists.2)
+    }
+
+    fn wrote(&self, ask: &Listing, stands: &Stands) -> Checked {
+        self.entries.wrote("entries", &stands.entries)?;
+        self.totals.wrote("totals", &stands.totals)?;
+        self.table.wrote("table", &stands.table)?;
+        self.programmes.wrote("the list itself", &ask.entries)
+    }
+}
+
+/// Place and number, to be read more easily than an answer.
+fn apart(answer: u32) -> (u32, u32) {
+    (answer / 256, answer % 256)
+}
+
+/// Asks for the playlist in lists of these lengths, and compares all that is written and all
+/// that is kept.
+fn check_played_in(rng: &mut Rng, ask: &Listing, room: [usize; 3], played: &Played) -> Checked {
+    let mut lent = PlaylistLists::new(rng, ask, room);
+    let what = format!("a playlist in lists of {room:?}, place and number");
+    same(&what, apart(played.answer()), apart(lent.play(ask)))?;
+    lent.wrote(ask, &Stands::of(played)).map_err(|trouble| format!("{what}: {trouble}"))
+}
+
+/// Asks with each of the lists one short, then with lists of just enough or somewhat more. Gives
+/// what comes of it in these.
+fn check_played(rng: &mut Rng, ask: &Listing) -> Result<Played, String> {
+    let played = ask.played(ENDLESS);
+    let needs = ask.needs(&played);
+    for which in 0..3 {
+        let Some(room) = one_short(needs, which) else { continue };
+        check_played_in(rng, ask, room, &ask.played(room))?;
+    }
+    let room = needs.map(|need| need + slack(rng));
+    check_played_in(rng, ask, room, &played)?;
+    Ok(played)
+}
+
+/// What the library leaves in lists that are just long enough.
+struct PlainLists {
+    answer: u32,
+    table: Vec<u32>,
+    entries: Vec<u8>,
+    totals: Vec<u64>,
+}
+
+impl PlainLists {
+    fn of(ask: &Listing, needs: [usize; 3]) -> PlainLists {
+        let [words, room, numbers] = needs;
+        let (mut table, mut entries, mut totals) =
+            (vec![7; words], vec![7; room], vec![7; numbers]);
+        let lists = (&mut table, &mut entries, &mut totals);
+        let answer = numbers::playlist(&ask.bytes, &ask.entries, lists.0, lists.1, lists.2);
+        PlainLists { answer, table, entries, totals }
+    }
+}
+
+/// By the library's other functions: the levels at which the last programme ended are put in the
+/// place of the job's own, and the job is planned by itself, in the late order and without pins.
+/// Its replay says at which levels it ends. So as far as there is a plan.
+fn check_one_by_one(ask: &Listing, played: &Played) -> Checked {
+    let found = PlainLists::of(ask, ask.needs(played));
+    let (mut entries, mut totals) = (&found.entries[..], &found.totals[..]);
+    let mut levels: Vec<u16> = Vec::new();
+    let mut last = Vec::new();
+    let searched = played.searched().count();
+    for (place, entry) in (1..=searched).zip(ask.entries.chunks(2)) {
+        let what = |name: &str| format!("programme {place} by itself: {name}");
+        let mut job = ask.part(entry).ok_or(what("it passes"))?.to_vec();
+        for ([.., start], level) in BUCKET_FIELDS.iter().zip(&levels) {
+            job = patched(&job, 4 + 2 * start, &level.to_le_bytes());
+        }
+        let (mut opened, mut set) = ([7; 4], vec![7; SET_NUMBERS]);
+        same(&what("opening"), 0, numbers::open(&job, &mut opened))?;
+        same(&what("its set"), 0, numbers::set(&job, &mut set))?;
+        let [bytes, _, intervals, words] = opened.map(|value| value as usize);
+        same(&what("its bytes"), job.len(), bytes)?;
+        let (mut table, mut plan) = (vec![7; words], vec![7; ENTRY_BYTES * intervals]);
+        let mut values = [0; PROGRAMME_TOTALS];
+        let lists = (&mut table, &mut plan, &mut values);
+        let number = numbers::plan_set(&job, &set, TOTAL, LATE, lists.0, lists.1, lists.2);
+        last = table;
+        if number == 13 {
+            same(&what("no plan"), (place as u32, 13), apart(found.answer))?;
+            break;
+        }
+        same(&what("planning"), 0, number)?;
+        let (of_this, behind) = entries.split_at(plan.len());
+        same(&what("entries"), &plan[..], of_this)?;
+        same(&what("totals"), &values[..], &totals[..PROGRAMME_TOTALS])?;
+        (entries, totals) = (behind, &totals[PROGRAMME_TOTALS..]);
+
+        let count = if job[2] == 8 { 2 } else { 1 };
+        let (mut seen, mut values) = (vec![7; (1 + count) * intervals], [7; 7]);
+        let number = numbers::replay_set(&job, &set, of_this, &mut seen, &mut values);
+        same(&what("replay"), (0, 0), (number, values[0]))?;
+        levels = seen[seen.len() - count..].to_vec();
+    }
+    ensure!(found.table[..last.len()] == last, "the table is not that of the last programme");
+    Ok(())
+}
+
+/// All intervals in one go, by what the library has written alone: each programme keeps its
+/// limits, and its totals are those that were told. The levels are the same by sums over all
+/// intervals, and every grain is accounted for.
+fn check_in_one_go(ask: &Listing, played: &Played) -> Checked {
+    let found = PlainLists::of(ask, ask.needs(played));
+    let (mut jobs, mut plans) = (Vec::new(), Vec::new());
+    let mut left = &found.entries[..];
+    for entry in ask.entries.chunks(2).take(played.sent.len()) {
+        let job = read_entry(&ask.bytes, entry).map_err(|number| format!("refused: {number}"))?;
+        let (plan, behind) = left.split_at(ENTRY_BYTES * job.intervals());
+        plans.push(read_plan(&job, plan).map_err(|_| "no plan of its job")?);
+        jobs.push(job);
+        left = behind;
+    }
+    let Some(first) = jobs.first() else { return Ok(()) };
+    let (totals, levels) = replay_on(&jobs, &plans).ok_or("a violation in one go")?;
+    let told = &found.totals[..PROGRAMME_TOTALS * totals.len()];
+    same("the totals in one go", &totals.concat()[..], told)?;
+
+    for (at, bucket) in first.buckets.iter().enumerate() {
+        // What each interval brings to the bucket, if it were never cut at 0.
+        let rises: Vec<i64> = jobs
+            .iter()
+            .zip(&plans)
+            .flat_map(|(job, plan)| plan.iter().map(|of| job.rates[of.0] - job.buckets[at].drain))
+            .collect();
+        for t in 1..=rises.len() {
+            let mut since: i64 = 0;
+            let cut = rises[..t].iter().rev().map(|rise| {
+                since += rise;
+                since
+            });
+            let most = cut.max().expect("an interval");
+            let level = most.max(0).max(bucket.start + since);
+            same("a level by sums", levels[t - 1][at], level)?;
+        }
+        let sum = |which: usize| totals.iter().map(|of| of[which] as i64).sum::<i64>();
+        let drains = jobs.iter().map(|job| job.intervals() as i64 * job.buckets[at].drain);
+        let last = levels[rises.len() - 1][at];
+        let come = bucket.start + sum(2) + sum(3 + at);
+        same("the balance of the whole list", drains.sum::<i64>() + last, come)?;
+    }
+    Ok(())
+}
+
+fn typed_refused(refused: Option<(usize, Refusal)>) -> Option<upload_planner::PlaylistRefusal> {
+    let (place, number) = refused?;
+    let refusal = upload_planner::Refusal::from_number(number as u32).expect("a refusal");
+    Some(upload_planner::PlaylistRefusal { place: (place > 0).then_some(place), refusal })
+}
+
+/// The typed functions give what the numbers give, in lists of these lengths and in lists of
+/// their own. An odd count of numbers cannot be asked of them, nor entries that pass of the
+/// second.
+fn check_typed_playlist(rng: &mut Rng, ask: &Listing, room: [usize; 3]) -> Checked {
+    if ask.entries.len() % 2 == 1 {
+        return Ok(());
+    }
+    let entry = |of: &[u32]| upload_planner::Programme { first: of[0], length: of[1] };
+    let programmes: Vec<_> = ask.entries.chunks(2).map(entry).collect();
+    let played = ask.played(room);
+    let mut lent = PlaylistLists::new(rng, ask, room);
+    let lists = (lent.table.list(), lent.entries.list(), lent.totals.list());
+    let found = upload_planner::playlist(&ask.bytes, &programmes, lists.0, lists.1, lists.2);
+    let refused = typed_refused(played.refused);
+    same("a typed playlist", refused, found.err())?;
+    if let Some(refused) = refused {
+        same("its answer", played.answer(), refused.answer())?;
+        let again = upload_planner::PlaylistRefusal::from_answer(refused.answer());
+        same("its answer read", Some(refused), again)?;
+        let place = refused.place.map_or(String::new(), |place| format!("programme {place}: "));
+        same("its words", format!("{place}{}", refused.refusal), refused.to_string())?;
+    }
+    lent.wrote(ask, &Stands::of(&played))?;
+
+    let jobs: Option<Vec<&[u8]>> = ask.entries.chunks(2).map(|entry| ask.part(entry)).collect();
+    let Some(jobs) = jobs else { return Ok(()) };
+    let played = ask.played(ENDLESS);
+    let typed = |sent: &Sent| {
+        let totals = &sent.totals()[..plan_values(&sent.job)];
+        let (totals, entries) = (typed_totals(totals), plan_bytes(&sent.plan));
+        upload_planner::ProgrammePlan { totals, entries }
+    };
+    let due = match typed_refused(played.refused) {
+        Some(refused) => Err(refused),
+        None => Ok(played.sent.iter().map(typed).collect()),
+    };
+    same("owned plans of a playlist", due, upload_planner::playlist_plans(&jobs))
+}
+
+// ---------------------------------------------------------------------------
+// Playlists by hand.
+// ---------------------------------------------------------------------------
+
+/// A job of one interval, whose unit may be sent at these rates and has these choices. `line`:
+/// size, drain and starting level of the bucket.
+fn in_one_interval(line: [u16; 3], rates: &[u16], choices: &[(u16, u32)]) -> Draft {
+    let [size, drain, level] = line;
+    let decoder = *rates.last().expect("a rate");
+    Draft::new([0, decoder, size, drain, 0, level], rates, &[choices.to_vec()])
+}
+
+/// What a programme comes to by hand: its plan and its totals.
+type ByHand = (Plan, [u64; PROGRAMME_TOTALS]);
+
+/// Job A sent as 0, 4 and 2 grains, with this much unused of each bucket.
+fn fine_a(unused: [u64; 2]) -> ByHand {
+    (vec![(0, NO_CHOICE), (2, 0), (1, 1)], [50, 6, 6, unused[0], unused[1]])
+}
+
+/// Job A sent as 0, 2 and 2 grains, of which unit 1 has two.
+fn coarse_a(unused: [u64; 2]) -> ByHand {
+    (vec![(0, NO_CHOICE), (1, 1), (1, 1)], [70, 4, 4, unused[0], unused[1]])
+}
+
+/// Playlists worked out by hand.
+fn playlists_by_hand_group() -> Result<String, String> {
+    let mut rng = Rng(1);
+    let rows = playlist_rows();
+    let (lists, mut programmes) = (rows.len(), 0);
+    for (drafts, planned, refused) in rows {
+        let ask = Listing::row_of(&drafts);
+        let mut check = || -> Checked {
+            let due: Vec<ByHand> =
+                ask.tried(ENDLESS).sent.iter().map(|of| (of.plan.clone(), of.totals())).collect();
+            same("by hand", &planned, &due)?;
+            let played = check_played(&mut rng, &ask)?;
+            same("by hand", refused, played.refused)?;
+            for job in played.searched().filter(|job| job.intervals() < 10) {
+                let table = brute_table(job, &free(job));
+                ensure!(table == fast_table(job, &free(job)), "another table");
+            }
+            check_one_by_one(&ask, &played)?;
+            check_in_one_go(&ask, &played)?;
+            check_typed_playlist(&mut rng, &ask, ask.needs(&played))?;
+            let scattered = Listing::scattered(&mut rng, &drafts);
+            check_played(&mut rng, &scattered).map(|_| ())
+        };
+        check().map_err(|trouble| ask.failed(&trouble))?;
+        programmes += planned.len();
+    }
+    check_tables_by_hand(&mut rng)?;
+    check_jobs_in_jobs(&mut rng)?;
+    Ok(format!("{lists} lists, {programmes} programmes planned"))
+}
+
+/// Jobs, what those come to that are planned, and the place and the number of one that is refused.
+type PlaylistRow = (Vec<Draft>, Vec<ByHand>, Option<(usize, Refusal)>);
+
+fn playlist_rows() -> Vec<PlaylistRow> {
+    let (a, slow) = (job_a(), slow_a(5, 0));
+    let two = |second: [u16; 3]| job_a().doubled(second);
+    // One takes two grains and loses nothing, or one and loses 1 or 100.
+    let [light, heavy] =
+        [1, 100].map(|lost| in_one_interval([1, 1, 0], &[1, 2], &[(2, 0), (1, lost)]));
+    let whole: ByHand = (vec![(1, 0)], [0, 2, 2, 0, 0]);
+    let halved = |lost: u64| -> ByHand { (vec![(0, 1)], [lost, 1, 1, 0, 0]) };
+    // Two of three grains stay in the decoder; then one comes, and a unit would take three.
+    let filler = in_one_interval([9, 9, 0], &[3], &[(1, 0)]);
+    let thirsty = in_one_interval([9, 9, 0], &[1], &[(3, 0), (1, 5)]).with(DECODER, 3);
+    let drunk: ByHand = (vec![(0, 0)], [0, 3, 1, 8, 0]);
+    let sipped: ByHand = (vec![(0, 1)], [5, 1, 1, 8, 0]);
+    // One grain comes and two drain: each level falls by one.
+    let falling =
+        |level: u16, second: u16| even_job(1, [0, 1, 9, 2, 0, level]).doubled([9, 2, second]);
+    let fallen = |unused: [u64; 2]| -> ByHand { (vec![(0, 0)], [1, 1, 1, unused[0], unused[1]]) };
+    let [steady, short] = [even_job(3, [1, 2, 5, 1, 0, 3]), even_job(2, [0, 1, 4, 1, 0, 0])];
+    // As much as can be lost, and all of the largest drain, but for what was in the buckets.
+    let units = vec![vec![(0, 1_000_000)]; 512];
+    let most = Draft::new([64, 0, 3, 4095, 0, 3], &[0], &units).doubled([2, 4095, 2]);
+    let lost = |[first, second]: [u64; 2]| -> ByHand {
+        let plan = [vec![(0, NO_CHOICE); 64], vec![(0, 0); 512]].concat();
+        (plan, [512_000_000, 0, 0, 576 * 4095 - first, 576 * 4095 - second])
+    };
+    vec![
+        (vec![most; 2], vec![lost([3, 2]), lost([0, 0])], None),
+        // A drain of 1: 0, 4 and 2 grains bring the bucket to 0, 3 and 4. From 4 it comes to 3,
+        // and four grains more would be 6; so 0, 2 and 2 bring it to 3, 4 and 5. From 5 only
+        // three grains go, and four are needed.
+        (vec![slow.clone()], vec![fine_a([1, 0])], None),
+        (vec![slow.clone(); 2], vec![fine_a([1, 0]), coarse_a([0, 0])], None),
+        (vec![slow.clone(); 3], vec![fine_a([1, 0]), coarse_a([0, 0])], Some((3, 13))),
+        (vec![slow.clone(); 4], vec![fine_a([1, 0]), coarse_a([0, 0])], Some((3, 13))),
+        // A drain of 2: the bucket has 0, 2 and 2, and from then on 2 at the start, so that the
+        // drain of the first interval finds something.
+        (vec![a.clone(); 3], vec![fine_a([2, 0]), fine_a([0, 0]), fine_a([0, 0])], None),
+        // The first starts from its own level, and the second from the one that is carried,
+        // whatever its own is.
+        (vec![slow_a(5, 4)], vec![coarse_a([0, 0])], None),
+        (vec![slow_a(5, 4), slow.clone()], vec![coarse_a([0, 0])], Some((2, 13))),
+        (vec![slow_a(5, 5)], vec![], Some((1, 13))),
+        (vec![slow_a(5, 5), a.clone()], vec![], Some((1, 13))),
+        (vec![a.clone(), slow_a(5, 5)], vec![fine_a([2, 0]), fine_a([0, 0])], None),
+        // The best for the first fills the bucket, and the second loses 100 for it. With 1 for
+        // the first the second would lose nothing; but nothing is claimed for the list.
+        (vec![light.clone(), heavy.clone()], vec![whole.clone(), halved(100)], None),
+        (
+            vec![heavy.clone(), light.clone(), heavy.clone()],
+            vec![whole, halved(1), halved(100)],
+            None,
+        ),
+        // The decoder starts from its own level, whatever was left in it.
+        (
+            vec![filler, thirsty.clone(), thirsty.with(START_DECODER, 2), thirsty.clone()],
+            vec![(vec![(0, 0)], [0, 1, 3, 6, 0]), sipped.clone(), drunk, sipped],
+            None,
+        ),
+        // Programmes of other lengths, delays and sizes. The bucket stays at 3, comes to 2, 3
+        // and 4, and stays at 4, for which a size of 3 is too small.
+        (
+            vec![steady, slow.clone(), short.clone(), short.with(BUCKET, 3)],
+            vec![
+                (vec![(0, NO_CHOICE), (0, 0), (0, 0), (0, 0)], [3, 3, 4, 0, 0]),
+                coarse_a([0, 0]),
+                (vec![(0, 0); 2], [2, 2, 2, 0, 0]),
+            ],
+            Some((4, 20)),
+        ),
+        // Both buckets of a line are carried. Of the drain of 2 one goes by where the level
+        // was 0.
+        (vec![falling(4, 7), falling(0, 0)], vec![fallen([0, 0]); 2], None),
+        (vec![falling(1, 0), falling(9, 9)], vec![fallen([0, 1]), fallen([1, 1])], None),
+        (
+            vec![falling(0, 2), falling(9, 9), falling(9, 9)],
+            vec![fallen([1, 0]), fallen([1, 0]), fallen([1, 1])],
+            None,
+        ),
+        (vec![two([2, 2, 0]); 2], vec![fine_a([2, 2]), fine_a([0, 0])], None),
+        // The second drains 1, and 0, 2 and 2 grains bring it to 0, 1 and 2. From 2 they would
+        // bring it to 3, and from 3 to 4. A drain of 4 leaves nothing in it.
+        (vec![two([2, 1, 0]); 2], vec![coarse_a([2, 1])], Some((2, 13))),
+        (
+            vec![two([2, 1, 0]), two([3, 1, 0]), two([3, 4, 3])],
+            vec![coarse_a([2, 1]), coarse_a([2, 0]), fine_a([2, 3])],
+            None,
+        ),
+        (
+            vec![two([3, 1, 0]); 2],
+            vec![(vec![(1, NO_CHOICE), (1, 0), (1, 1)], [50, 6, 6, 0, 0])],
+            Some((2, 13)),
+        ),
+        // A level that is carried: 4 in one bucket, or 2 in each of two.
+        (vec![slow.clone(), slow_a(4, 0)], vec![fine_a([1, 0])], Some((2, 13))),
+        (vec![slow.clone(), slow_a(3, 0)], vec![fine_a([1, 0])], Some((2, 20))),
+        (vec![slow, slow_a(0, 0)], vec![fine_a([1, 0])], Some((2, 20))),
+        (vec![two([2, 2, 0]), two([1, 2, 1])], vec![fine_a([2, 2])], Some((2, 20))),
+        (vec![two([2, 2, 0]), two([2, 2, 1]).with(BUCKET, 1)], vec![fine_a([2, 2])], Some((2, 20))),
+        (
+            vec![two([2, 2, 0]), two([2, 2, 1]).with(BUCKET, 2)],
+            vec![fine_a([2, 2]), fine_a([0, 0])],
+            None,
+        ),
+        // A line of one bucket is not one of two.
+        (vec![a.clone(), two([2, 2, 0])], vec![fine_a([2, 0])], Some((2, 22))),
+        (vec![two([2, 2, 0]), a.clone()], vec![fine_a([2, 2])], Some((2, 22))),
+        // A job's own level is wrong, though another stands in its place; or it never drains.
+        (vec![a.clone(), a.with(START_BUCKET, 4)], vec![fine_a([2, 0])], Some((2, 3))),
+        (vec![a.clone(), a.undrained(1), a], vec![fine_a([2, 0])], Some((2, 17))),
+        (vec![two([2, 2, 0]), two([2, 0, 0])], vec![fine_a([2, 2])], Some((2, 17))),
+    ]
+}
+
+/// Job A's table by hand, and over it that of a programme of one unit, of two words or six: it
+/// takes nothing and loses 5, or takes a grain that is not there. Where this has no plan its
+/// table stands all the same; where something else is wrong with it, nothing of it does.
+fn check_tables_by_hand(rng: &mut Rng) -> Checked {
+    let unit = |grains: u16| Draft::new(BARE, &[0], &[vec![(grains, 5)]]);
+    // Job A leaves 2 in the bucket.
+    let [takes_none, takes_one] = [0, 1].map(|grains| unit(grains).with(BUCKET, 2));
+    let a = TABLE_A.concat().concat();
+    let over_a = |first: [u32; 3]| [&first[..], &[0, 0, 0], &a[6..]].concat();
+    let rows = [
+        (vec![job_a()], (0, 0), a.clone()),
+        (vec![unit(0)], (0, 0), vec![5, 0]),
+        (vec![unit(1)], (1, 13), vec![NEVER, 0]),
+        (vec![unit(0), job_a()], (0, 0), a.clone()),
+        (vec![unit(1), job_a()], (1, 13), vec![NEVER, 0]),
+        (vec![job_a(), takes_none.clone()], (0, 0), over_a([5; 3])),
+        (vec![job_a(), takes_none.clone(), job_a()], (0, 0), a.clone()),
+        (vec![job_a(), takes_one.clone()], (2, 13), over_a([NEVER; 3])),
+        (vec![job_a(), takes_one, job_a()], (2, 13), over_a([NEVER; 3])),
+        (vec![job_a(), unit(0)], (2, 20), a.clone()),
+        (vec![job_a(), takes_none.with(DRAIN, 0)], (2, 17), a.clone()),
+        (vec![job_a(), takes_none.doubled([2, 1, 0])], (2, 22), a.clone()),
+    ];
+    for (drafts, answer, table) in rows {
+        let ask = Listing::row_of(&drafts);
+        let check = || -> Checked {
+            let played = check_played(rng, &ask)?;
+            let mut lent = PlaylistLists::new(rng, &ask, [90, 90, 90]);
+            same("by hand", answer, apart(lent.play(&ask)))?;
+            lent.wrote(&ask, &Stands { table, ..Stands::of(&played) })
+        };
+        check().map_err(|trouble| ask.failed(&trouble))?;
+    }
+    Ok(())
+}
+
+/// Entries may overlap: a job stands in the choices of another one's unit, each six of its bytes
+/// a choice.
+fn check_jobs_in_jobs(rng: &mut Rng) -> Checked {
+    let inner = in_one_interval([5, 1, 2], &[3], &[(3, 7)]).bytes();
+    let mut choices: Vec<(u16, u32)> = Vec::new();
+    for six in then(inner.clone(), &[0; 4]).chunks_exact(6) {
+        choices.push((u16_at(six, 0), u32_at(six, 2)));
+    }
+    let outer = Draft::new([1, 9, 6, 2, 0, 6], &[0, 1, 2], &vec![choices; 2]).bytes();
+    let first = outer.windows(inner.len()).position(|part| part == inner).ok_or("not in it")?;
+    let [outer_entry, inner_entry] = [[0, outer.len() as u32], [first as u32, inner.len() as u32]];
+    for order in [[0, 1, 0], [1, 0, 1], [0, 0, 1], [1, 1, 0]] {
+        let entry = |which: usize| [outer_entry, inner_entry][which];
+        let ask = Listing::of(outer.clone(), order.map(entry).concat());
+        let mut check = || -> Checked {
+            let played = check_played(rng, &ask)?;
+            // The bucket has room for two grains more of the one that is within at a time.
+            let twice = order == [1, 1, 0];
+            same("jobs in jobs", if twice { 2 * 256 + 13 } else { 0 }, played.answer())?;
+            check_one_by_one(&ask, &played)?;
+            check_in_one_go(&ask, &played)?;
+            check_typed_playlist(rng, &ask, ask.needs(&played))
+        };
+        check().map_err(|trouble| ask.failed(&trouble))?;
+    }
+    Ok(())
+}
+
+// ---------------------------------------------------------------------------
+// Entries, levels, lengths and refusals of a playlist.
+// ---------------------------------------------------------------------------
+
+/// One job among other bytes, and entries of every first byte and every length: by themselves and
+/// behind an entry that is right. Then entries whose two numbers pass 32 bits together.
+fn entries_group() -> Result<String, String> {
+    let mut rng = Rng(1);
+    let job = in_one_interval([3, 1, 0], &[0, 2], &[(2, 0), (0, 4)]).bytes();
+    let (before, behind) = (vec![20, 0, 1, 0, 1], vec![0, 3, 0]);
+    let bytes = [before.clone(), job.clone(), behind].concat();
+    let (at, whole, end) = (before.len() as u64, job.len() as u64, bytes.len() as u64);
+    let mut entries: Vec<[u64; 2]> = Vec::new();
+    for first in 0..=end + 3 {
+        entries.extend((0..=end + 3).map(|length| [first, length]));
+    }
+    // Of these the sum is one that does not pass, if its 33rd bit is lost.
+    let all = 1 << 32;
+    for sum in [0, 1, at, whole, at + whole, end - 1, end] {
+        entries.extend([1, 2, whole, end, end + 1].map(|back| [all - back, back + sum]));
+        entries.extend([sum + 1, sum + 2, end, end + 1].map(|first| [first, all - first + sum]));
+    }
+    let (most, half) = (all - 1, all / 2);
+    entries.extend([[most, 0], [most, 1], [most, most], [0, most], [at, most], [half, half]]);
+    entries.retain(|[first, length]| *first < all && *length < all);
+    let mut tally: BTreeMap<u32, usize> = BTreeMap::new();
+    let right = [at as u32, whole as u32];
+    for (index, &[first, length]) in entries.iter().enumerate() {
+        let near = |of: u64, to: u64| of + 1 >= to && of <= to + 1;
+        let telling = near(first, at) && near(length, whole) || near(first + length, end);
+        if small() && !telling && index % 31 > 0 {
+            continue;
+        }
+        let due = match (first + length > end, first == at, length.cmp(&whole)) {
+            (true, ..) => Some(22),
+            (_, true, std::cmp::Ordering::Less) => Some(1),
+            (_, true, std::cmp::Ordering::Equal) => Some(0),
+            (_, true, std::cmp::Ordering::Greater) => Some(22),
+            _ => None,
+        };
+        let entry = [first as u32, length as u32];
+        for place in 1..=2 {
+            let list = [right, entry][2 - place..].concat();
+            let ask = Listing::of(bytes.clone(), list);
+            let mut check = || -> Result<u32, String> {
+                let played = ask.played(ENDLESS);
+                let (found, number) = apart(played.answer());
+                ensure!(due.map_or(true, |due| due == number), "{number} in place of {due:?}");
+                ensure!(number == 0 || found == place as u32, "another place");
+                check_played_in(&mut rng, &ask, [40, 9, 10], &played)?;
+                if index % 13 == 0 || telling {
+                    check_typed_playlist(&mut rng, &ask, [40, 9, 10])?;
+                }
+                Ok(number)
+            };
+            let number = check().map_err(|trouble| ask.failed(&trouble))?;
+            *tally.entry(number).or_default() += 1;
+        }
+    }
+    let counts = by_number(&tally);
+    ensure!(tally.keys().eq(&[0, 1, 2, 3, 22]) || small(), "too little in it: {counts}");
+    Ok(format!("entries by number ({counts})"))
+}
+
+/// Lists of every count of numbers up to 140, and of more: 1 to 64 entries are a list. Of the
+/// totals a number is missing, or not.
+fn entry_counts_group() -> Result<String, String> {
+    let mut rng = Rng(1);
+    let mut tally: BTreeMap<u32, usize> = BTreeMap::new();
+    let job = in_one_interval([3, 1, 0], &[0, 2], &[(2, 0), (0, 4)]).bytes();
+    let more = [255, 256, 257, 258, 384, 511, 512, 514, 640, 65_536, 65_538, 131_072, 131_074];
+    for count in (0..=140).chain(more) {
+        if small() && ![0, 1, 2, 3, 127, 128, 129, 130, 514].contains(&count) {
+            continue;
+        }
+        let entries: Vec<u32> = [0, job.len() as u32].repeat(count / 2 + 1)[..count].to_vec();
+        let ask = Listing::of(job.clone(), entries);
+        let needed = PROGRAMME_TOTALS * (count / 2);
+        for totals in [needed.saturating_sub(1), needed, needed + 1, 0, 5, 320, 330] {
+            let list = count % 2 == 1 || count == 0 || count > 128;
+            let due = first_of(&[(list, 21), (totals < needed, 12)]);
+            let room = [40, ENTRY_BYTES * (count / 2), totals];
+            let mut check = || -> Checked {
+                let played = ask.played(room);
+                same("by count", due, played.answer())?;
+                check_played_in(&mut rng, &ask, room, &played)?;
+                check_typed_playlist(&mut rng, &ask, room)
+            };
+            check().map_err(|trouble| format!("{count} numbers, {totals} totals: {trouble}"))?;
+            *tally.entry(due).or_default() += 1;
+        }
+    }
+    let counts = by_number(&tally);
+    ensure!(tally.keys().eq(&[0, 12, 21]), "too little in it: {counts}");
+    Ok(format!("lists by number ({counts})"))
+}
+
+/// Every level of a bucket carried into a bucket that just holds it, and into one that just does
+/// not; of two buckets either, or both. A job that comes after starts from there again.
+fn carried_on_group() -> Result<String, String> {
+    let mut rng = Rng(1);
+    let mut tally: BTreeMap<(u32, u32), usize> = BTreeMap::new();
+    // A grain comes and a grain drains, so that a level stays. The job's own is any.
+    let draft = |rng: &mut Rng, sizes: &[i64], levels: Option<&[i64]>| {
+        let mut own = |at: usize| match levels {
+            Some(levels) => levels[at] as u16,
+            None => rng.from(0, sizes[at] as usize) as u16,
+        };
+        let draft = even_job(1, [0, 1, sizes[0] as u16, 1, 0, own(0)]);
+        match sizes.get(1) {
+            Some(&size) => draft.doubled([size as u16, 1, own(1)]),
+            None => draft,
+        }
+    };
+    for buckets in 1..=MOST_BUCKETS {
+        let largest = &LARGEST[..buckets];
+        for step in 0..=largest[0] {
+            if small() && step % 17 > 0 {
+                continue;
+            }
+            let levels = [step, if step <= 63 { step } else { rng.from(0, 63) as i64 }];
+            let levels = &levels[..buckets];
+            // Which of the buckets is one too small.
+            for bits in 0..1 << buckets {
+                let less = |at: usize| (bits >> at & 1) as i64;
+                let sizes: Vec<i64> = (0..buckets).map(|at| levels[at] - less(at)).collect();
+                if sizes.iter().any(|size| *size < 0) {
+                    continue;
+                }
+                let drafts = [
+                    draft(&mut rng, largest, Some(levels)),
+                    draft(&mut rng, levels, None),
+                    draft(&mut rng, &sizes, None),
+                    draft(&mut rng, largest, None),
+                ];
+                let ask = Listing::row_of(&drafts);
+                let mut check = || -> Checked {
+                    let due = if bits > 0 { 3 * 256 + 20 } else { 0 };
+                    let played = ask.played(ENDLESS);
+                    same("by hand", due, played.answer())?;
+                    for sent in &played.sent {
+                        same("the levels stay", levels, &sent.ended().1[..buckets])?;
+                    }
+                    check_played_in(&mut rng, &ask, ask.needs(&played), &played)?;
+                    if step % 16 == 0 {
+                        check_one_by_one(&ask, &played)?;
+                        check_in_one_go(&ask, &played)?;
+                        check_typed_playlist(&mut rng, &ask, ask.needs(&played))?;
+                    }
+                    Ok(())
+                };
+                check().map_err(|trouble| ask.failed(&trouble))?;
+                *tally.entry((buckets as u32, bits)).or_default() += 1;
+            }
+        }
+    }
+    let each: Vec<String> = tally
+        .iter()
+        .map(|((buckets, bits), count)| {
+            format!("{count} with {} of {buckets} over", bits.count_ones())
+        })
+        .collect();
+    Ok(each.join(", "))
+}
+
+/// Lists of every length for three programmes that need 20, 42 and 96 words: the first one that
+/// needs more is refused, and what was written before it stays.
+fn playlist_lengths_group() -> Result<String, String> {
+    let mut rng = Rng(1);
+    let mut tally: BTreeMap<(u32, u32), usize> = BTreeMap::new();
+    let unit = vec![(2, 0), (1, 3), (0, 7)];
+    let draft = |units: usize, delay: u16, decoder: u16| {
+        Draft::new([delay, decoder, 4, 1, 0, 1], &[0, 1, 2], &vec![unit.clone(); units])
+    };
+    let one = [draft(1, 0, 1), draft(2, 0, 2), draft(2, 1, 3)];
+    let two = one.clone().map(|draft| draft.doubled([2, 1, 0]));
+    for drafts in [one, two] {
+        let ask = Listing::scattered(&mut rng, &drafts);
+        let needs = ask.needs(&ask.played(ENDLESS));
+        for (which, need) in needs.into_iter().enumerate() {
+            for length in 0..=need + 2 {
+                if small() && length % 7 > 0 && length + 1 < need {
+                    continue;
+                }
+                // The others are as long as is needed, longer, or too short as well.
+                let mut room = needs.map(|need| need + slack(&mut rng));
+                if rng.one_in(8) {
+                    let other = (which + rng.from(1, 2)) % 3;
+                    room[other] = rng.from(0, needs[other] - 1);
+                }
+                room[which] = length;
+                let played = ask.played(room);
+                let checked = check_played_in(&mut rng, &ask, room, &played)
+                    .and_then(|_| check_typed_playlist(&mut rng, &ask, room));
+                checked.map_err(|trouble| ask.failed(&trouble))?;
+                *tally.entry(apart(played.answer())).or_default() += 1;
+            }
+        }
+    }
+    let each: Vec<String> = tally
+        .iter()
+        .map(|((place, number), count)| format!("{count} {number} at {place}"))
+        .collect();
+    let counts = each.join(", ");
+    let all = [0, 12]
+        .map(|number| (0, number))
+        .into_iter()
+        .chain((1..=3).flat_map(|place| [11, 12].map(|number| (place, number))));
+    ensure!(tally.keys().copied().eq(all) || small(), "too little in it: {counts}");
+    Ok(format!("lists by number and place ({counts})"))
+}
+
+/// What may be wrong with a programme: the number of its job, and a bit for each of the others:
+/// the entry passes; bytes are left behind the job; it has another number of buckets; a carried
+/// level is over; the table is too short, and what is left of the entries; there is no plan.
+type Defects = (Refusal, u32);
+
+/// How many bits these are.
+const DEFECTS: usize = 7;
+
+/// Three programmes, and every set of defects at each place; in most lists the others have some
+/// too. The first place with a defect counts, and there the first defect in order. What is wrong
+/// with the list as a whole comes before all.
+fn playlist_order_group() -> Result<String, String> {
+    let mut rng = Rng(1);
+    let mut tally: BTreeMap<(u32, u32), usize> = BTreeMap::new();
+    for buckets in 1..=MOST_BUCKETS {
+        for place in 0..3 {
+            for (wrong, bits) in [0, 1, 2, 3, 4, 5, 17]
+                .into_iter()
+                .flat_map(|wrong| (0..1 << DEFECTS).map(move |bits| (wrong, bits)))
+            {
+                if small() && (bits + wrong as u32) % 23 > 0 && bits.count_ones() != 1 {
+                    continue;
+                }
+                // What comes last is seldom the first; so it is tried again.
+                let last = if wrong == 0 { bits.trailing_zeros().min(DEFECTS as u32) } else { 0 };
+                for _ in 0..if small() { 1 } else { 1 + 4 * last } {
+                    let defects = other_defects(&mut rng, place, (wrong, bits));
+                    let of_list = rng.one_in(12).then(|| rng.from(1, 3)).unwrap_or(0);
+                    let answer = check_playlist_order(&mut rng, buckets, &defects, of_list)
+                        .map_err(|trouble| {
+                            let of = format!("defects {defects:?}, of the list {of_list}");
+                            format!("{buckets} buckets, {of}: {trouble}")
+                        })?;
+                    *tally.entry(apart(answer)).or_default() += 1;
+                }
+            }
+        }
+    }
+    let each: Vec<String> = tally
+        .iter()
+        .map(|((place, number), count)| format!("{count} {number} at {place}"))
+        .collect();
+    let counts = each.join(", ");
+    // Nothing is carried to the first.
+    let numbers = [1, 2, 3, 4, 5, 11, 12, 13, 17, 20, 22];
+    let at = |place: u32| numbers.map(|number| (place, number)).into_iter();
+    let due = [0, 12, 21].map(|number| (0, number)).into_iter();
+    let due = due.chain(at(1).filter(|of| of.1 != 20)).chain(at(2)).chain(at(3));
+    ensure!(tally.keys().copied().eq(due) || small(), "too little in it: {counts}");
+    Ok(format!("sets of defects by number and place ({counts})"))
+}
+
+/// These at one place, and in half of the lists some at another: mostly not at one before it.
+fn other_defects(rng: &mut Rng, place: usize, here: Defects) -> [Defects; 3] {
+    let mut defects = [(0, 0); 3];
+    for (other, defects) in defects.iter_mut().enumerate() {
+        if rng.one_in(2) && (other > place || rng.one_in(4)) {
+            let wrong = rng.pick(&[0, 0, 0, 0, 1, 2, 3, 4, 5, 17]);
+            *defects = (wrong, 1 << rng.from(0, DEFECTS - 1));
+        }
+    }
+    defects[place] = here;
+    defects
+}
+
+/// `of_list`: the lowest bit for what is no list, the next for totals that are too short.
+fn check_playlist_order(
+    rng: &mut Rng,
+    buckets: usize,
+    defects: &[Defects; 3],
+    of_list: usize,
+) -> Result<u32, String> {
+    let has = |place: usize, bit: usize| defects[place].1 >> bit & 1 == 1;
+    let (mut jobs, mut dues, mut words) = (Vec::new(), Vec::new(), Vec::new());
+    for (place, &(wrong, _)) in defects.iter().enumerate() {
+        let [_, behind, other, over, _, _, none] = std::array::from_fn(|bit| has(place, bit));
+        // Job A, which leaves 2 in each bucket. The decoders grow, and with them the tables, so
+        // that one is too short for the first time where that is asked for.
+        let decoder = [[4, 10, 22], [4, 20, 84]][buckets - 1][place];
+        let mut draft = job_a().with(DECODER, decoder);
+        if buckets > 1 {
+            draft = draft.doubled([3, 2, 0]);
+        }
+        if over && place > 0 {
+            let which = rng.from(1, (1 << buckets) - 1);
+            for at in (0..buckets).filter(|at| which >> at & 1 == 1) {
+                draft = draft.with(BUCKET_FIELDS[at][0], 1);
+            }
+        }
+        if none {
+            draft.units[0] = vec![(4095, 10), (4095, 30)];
+        }
+        words.push(draft.words());
+        if other && place > 0 {
+            draft = if buckets > 1 { draft.alone() } else { draft.doubled([63, 4095, 0]) };
+        }
+        if wrong == 17 {
+            let which = rng.from(1, (1 << draft.buckets().len()) - 1);
+            draft = draft.undrained(which);
+        }
+        // A job is cut by so much that it is cut with the bytes behind it too.
+        let mut bytes = wrong_job(&draft, wrong);
+        bytes.truncate(bytes.len() - if wrong == 1 { 9 } else { 0 });
+        let due = first_of(&[
+            (has(place, 0), 22),
+            (wrong > 0, wrong),
+            (behind, 22),
+            (other && place > 0, 22),
+            (over && place > 0, 20),
+            (has(place, 4), 11),
+            (has(place, 5), 12),
+            (none, 13),
+        ]);
+        dues.push(if due > 0 { 256 * (place as u32 + 1) + due } else { 0 });
+        jobs.push(bytes);
+    }
+
+    let gap = 4;
+    let parts: Vec<Vec<u8>> = jobs.iter().map(|job| then(job.clone(), &vec![0; gap])).collect();
+    let mut ask = Listing::row(&parts);
+    for (place, job) in jobs.iter().enumerate() {
+        let behind = if has(place, 1) { rng.from(1, gap) } else { 0 };
+        ask.entries[2 * place + 1] = (job.len() + behind) as u32;
+        if has(place, 0) {
+            let [first, length] = [ask.entries[2 * place], ask.entries[2 * place + 1]];
+            let end = ask.bytes.len() as u32;
+            // A number whose sum with this one has 33 bits.
+            let mut wraps = |number: u32| match number {
+                0 => u32::MAX,
+                _ => 0u32.wrapping_sub(rng.from(1, number as usize) as u32),
+            };
+            let passing = [
+                [first, end - first + 1],
+                [end + 1, 0],
+                [end - length + 1, length],
+                [wraps(length), length],
+                [first.max(1), wraps(first.max(1))],
+                [u32::MAX, u32::MAX],
+            ];
+            ask.entries[2 * place..][..2].copy_from_slice(&rng.pick(&passing));
+        }
+    }
+    // The most that leaves a list too short for one place and not for those before it, or less.
+    let short = |rng: &mut Rng, bit: usize, needs: &dyn Fn(usize) -> [usize; 2]| {
+        let [least, most] = (0..3).find(|&place| has(place, bit)).map(needs)?;
+        let most = most.max(least + 1) - 1;
+        Some(if rng.one_in(2) { most } else { rng.from(least, most) })
+    };
+    let before = |place: usize| words[..place].iter().copied().max().unwrap_or(0);
+    let table = short(rng, 4, &|place| [before(place), words[place]]);
+    let entries = short(rng, 5, &|place| [9 * place, 9 * place + 9]);
+    let mut room = [table.unwrap_or(before(3)), entries.unwrap_or(27), 15];
+    let mut due = dues.into_iter().find(|due| *due > 0).unwrap_or(0);
+    if of_list & 2 > 0 {
+        (room[2], due) = (rng.pick(&[0, 5, 14]), 12);
+    }
+    if of_list & 1 > 0 {
+        match rng.from(0, 2) {
+            0 => ask.entries.clear(),
+            1 => ask.entries.truncate(5),
+            _ => ask.entries = ask.entries.repeat(22)[..2 * rng.from(65, 66)].to_vec(),
+        }
+        ask.entries.shrink_to_fit();
+        due = 21;
+    }
+    let played = ask.played(room);
+    same("in order", apart(due), apart(played.answer()))?;
+    check_played_in(rng, &ask, room, &played)?;
+    if rng.one_in(8) {
+        check_typed_playlist(rng, &ask, room)?;
+    }
+    Ok(due)
+}
+
+// ---------------------------------------------------------------------------
+// Random playlists.
+// ---------------------------------------------------------------------------
+
+/// What playlists had in them.
+#[derive(Default)]
+struct Playlists {
+    lists: usize,
+    planned: usize,
+    /// Of these, with other levels at the start than the job's own; and with a plan or totals
+    /// that the own levels do not give.
+    carried: [usize; 2],
+    /// Lists of one entry and of 64, and with two buckets.
+    ends: [usize; 2],
+    two: usize,
+    /// How many came to each number; and at which places they were refused: the first, one in
+    /// the middle, and the last.
+    numbers: BTreeMap<u32, usize>,
+    places: [usize; 3],
+    told: Told,
+}
+
+impl Playlists {
+    fn count(&mut self, ask: &Listing, played: &Played) {
+        self.lists += 1;
+        self.planned += played.sent.len();
+        self.ends[0] += (ask.count() == 1) as usize;
+        self.ends[1] += (ask.count() == MOST_PROGRAMMES) as usize;
+        let (place, number) = apart(played.answer());
+        *self.numbers.entry(number).or_default() += 1;
+        if place > 0 {
+            let last = place as usize == ask.count();
+            self.places[if place == 1 { 0 } else { 1 + last as usize }] += 1;
+        }
+        let Some(first) = played.searched().next() else { return };
+        self.two += (first.buckets.len() > 1) as usize;
+        for (sent, entry) in played.sent.iter().zip(ask.entries.chunks(2)) {
+            let own = read_entry(&ask.bytes, entry).expect("a job that was planned");
+            if own.start_levels() == sent.job.start_levels() {
+                continue;
+            }
+            self.carried[0] += 1;
+            let alone = late_by_table(&own).map(|plan| Sent { job: own, plan });
+            let same = |alone: Sent| alone.plan == sent.plan && alone.totals() == sent.totals();
+            self.carried[1] += !alone.is_some_and(same) as usize;
+        }
+    }
+
+    fn show(&self) -> String {
+        let Playlists { lists, planned, carried, ends, two, numbers, places, told } = self;
+        format!(
+            "{lists} lists by number ({}), refused at the first place {}, between {} and at the \
+             last {}; {planned} programmes planned, {} from other levels than their own and {} \
+             otherwise for it; {} lists of one and {} of 64, {two} of two buckets{}",
+            by_number(numbers),
+            places[0],
+            places[1],
+            places[2],
+            carried[0],
+            carried[1],
+            ends[0],
+            ends[1],
+            if told.is_empty() { String::new() } else { told.show() }
+        )
+    }
+}
+
+/// Says of each mistaken rule whether something else comes of the list under it.
+fn playlist_mistakes(ask: &Listing, played: &Played) -> Vec<Mistake> {
+    let shown = |played: &Played| -> (u32, Vec<ByHand>) {
+        let each = played.sent.iter().map(|of| (of.plan.clone(), of.totals()));
+        (played.answer(), each.collect())
+    };
+    let due = shown(played);
+    type Start<'a> = &'a dyn Fn(&Job, &[Sent]) -> Result<Job, Refusal>;
+    let other = |start: Start, plan: &dyn Fn(&Job) -> Option<Plan>| {
+        shown(&play_by(start, &ask.bytes, &ask.entries, ENDLESS, plan)) != due
+    };
+    // With other levels in the place of those at the last one's end.
+    let levels = |of: &dyn Fn(&Job, &Sent) -> Levels| {
+        let start = |job: &Job, sent: &[Sent]| match sent.last() {
+            None => Ok(job.clone()),
+            Some(last) => {
+                let levels = of(job, last);
+                let holds = hold(job, &levels);
+                holds.then(|| started(job, &levels)).ok_or(20)
+            }
+        };
+        other(&start, &late_by_table)
+    };
+    let two = played.searched().next().is_some_and(|job| job.buckets.len() > 1);
+    let mut mistakes = vec![
+        ("levels not carried", levels(&|job, _| job.start_levels())),
+        ("the start carried", levels(&|_, last| last.job.start_levels())),
+        ("a level before the last", levels(&|_, last| last.after(last.plan.len() - 1).1)),
+        ("empty buckets", levels(&|_, _| [0; MOST_BUCKETS])),
+        ("the first one's end carried", {
+            let start = |job: &Job, sent: &[Sent]| sent_after(job, &sent[..sent.len().min(1)]);
+            other(&start, &late_by_table)
+        }),
+        ("the decoder carried", {
+            let start = |job: &Job, sent: &[Sent]| {
+                let mut job = sent_after(job, sent)?;
+                let level = sent.last().map(|last| last.ended().0);
+                job.start_decoder = level.unwrap_or(job.start_decoder).min(job.decoder_size);
+                Ok(job)
+            };
+            other(&start, &late_by_table)
+        }),
+        ("levels cut to the size", {
+            levels(&|job, last| {
+                let mut levels = last.ended().1;
+                for (level, bucket) in levels.iter_mut().zip(&job.buckets) {
+                    *level = (*level).min(bucket.size);
+                }
+                levels
+            })
+        }),
+        ("a full bucket refused", {
+            let start = |job: &Job, sent: &[Sent]| {
+                let job = sent_after(job, sent)?;
+                let full = job.buckets.iter().any(|bucket| bucket.start == bucket.size);
+                if full && !sent.is_empty() {
+                    return Err(20);
+                }
+                Ok(job)
+            };
+            other(&start, &late_by_table)
+        }),
+        ("early", {
+            let early = |job: &Job| {
+                read_off_in(Order::Early, job, &free(job), &fast_table(job, &free(job)))
+            };
+            other(&sent_after, &early)
+        }),
+        ("even", {
+            let even = |job: &Job| dynamic_even(Order::Late, job, &free(job));
+            other(&sent_after, &even)
+        }),
+    ];
+    if two {
+        for (at, name) in ["the first bucket's own", "the second bucket's own"].iter().enumerate() {
+            let own = |job: &Job, last: &Sent| {
+                let mut levels = last.ended().1;
+                levels[at] = job.start_levels()[at];
+                levels
+            };
+            mistakes.push((*name, levels(&own)));
+        }
+    }
+    mistakes
+}
+
+/// A list of one programme is planned as planning plans it late, without pins; what opening
+/// refuses is refused by the same number.
+fn alone_group(seed: u64, asks: bool) -> Result<String, String> {
+    let mut rng = Rng(seed);
+    let mut playlists = Playlists::default();
+    for index in 1..=scaled(400) {
+        let draft = match index % 6 {
+            0 => random_tiny_double(&mut rng),
+            1 => random_job(&mut rng, &TINY),
+            2 => random_equal_job(&mut rng, &EQUAL[0]),
+            3 => random_sized_job(&mut rng, &SIZED[0]),
+            4 => random_tight_job(&mut rng, &TIGHT[0]),
+            _ => random_double_job(&mut rng, &DOUBLE[0]),
+        };
+        let mut draft = random_stored(&mut rng, &draft, 20);
+        draft.commands.clear();
+        let mut bytes = draft.bytes();
+        if rng.one_in(10) {
+            harm(&mut rng, &mut bytes);
+        }
+        let ask = Listing::row(&[bytes]);
+        let mut check = || -> Result<Played, String> {
+            let played = check_played(&mut rng, &ask)?;
+            let tried = ask.tried(ENDLESS);
+            same("every plan tried", tried.answer(), played.answer())?;
+            check_one_by_one(&ask, &played)?;
+            let mut values = [0; 4];
+            let opened = numbers::open(&ask.bytes, &mut values);
+            if opened > 0 || values[0] as usize != ask.bytes.len() {
+                let number = if opened > 0 { opened } else { 22 };
+                same("opening", 256 + number, played.answer())?;
+            }
+            check_typed_playlist(&mut rng, &ask, ask.needs(&played))?;
+            Ok(played)
+        };
+        let played = check()
+            .map_err(|trouble| format!("seed {seed}, job {index}: {}", ask.failed(&trouble)))?;
+        playlists.count(&ask, &played);
+    }
+    let counts = playlists.show();
+    let often = |number: &u32| playlists.numbers.get(number).is_some_and(|count| *count > 2);
+    ensure!([0, 13, 17].iter().all(often) || !asks, "too little in it: {counts}");
+    Ok(counts)
+}
+
+/// Lists of 1 to 64 tiny jobs, by trying every plan of each from the levels that the one before
+/// it left.
+fn tiny_playlists_group(seed: u64, asks: bool) -> Result<String, String> {
+    let mut rng = Rng(seed);
+    let mut playlists = Playlists::default();
+    for index in 1..=scaled(300) {
+        let count = match index % 15 {
+            0 => MOST_PROGRAMMES,
+            1 => 1,
+            2 => rng.from(9, MOST_PROGRAMMES - 1),
+            _ => rng.from(2, 8),
+        };
+        let steady = if count > 8 { 400 } else { 6 };
+        let mut drafts = random_programmes(&mut rng, 0, count, steady);
+        if rng.one_in(6) {
+            harm_programme(&mut rng, &mut drafts[count - 1..]);
+        }
+        let ask = Listing::scattered(&mut rng, &drafts);
+        let mut check = || -> Result<Played, String> {
+            let played = check_played(&mut rng, &ask)?;
+            let tried = ask.tried(ENDLESS);
+            same("every plan tried", tried.refused, played.refused)?;
+            for (place, (one, other)) in (1..).zip(tried.sent.iter().zip(&played.sent)) {
+                let what = format!("every plan of programme {place} tried");
+                same(&what, (&one.plan, one.totals()), (&other.plan, other.totals()))?;
+            }
+            if let Some(last) = played.searched().last() {
+                let table = Stands::of(&played).table;
+                for _ in 0..2 {
+                    let at = rng.from(0, last.words() - 1);
+                    let word = word_by_completions(last, &free(last), at);
+                    same(&format!("every completion of word {at}"), word, table[at])?;
+                }
+            }
+            check_one_by_one(&ask, &played)?;
+            check_in_one_go(&ask, &played)?;
+            if index % 3 == 0 {
+                check_typed_playlist(&mut rng, &ask, ask.needs(&played))?;
+            }
+            Ok(played)
+        };
+        let played = check()
+            .map_err(|trouble| format!("seed {seed}, list {index}: {}", ask.failed(&trouble)))?;
+        playlists.count(&ask, &played);
+        if count > 1 && count < 9 {
+            playlists.told.add(&playlist_mistakes(&ask, &played));
+        }
+    }
+    let counts = playlists.show();
+    let Playlists { lists, planned, carried, ends, two, numbers, places, told } = &playlists;
+    let often = |number: &u32| numbers.get(number).is_some_and(|count| count * 40 > *lists);
+    let worthwhile = [0, 13, 20].iter().all(often)
+        && [&ends[..], &places[1..], &[*two]].concat().iter().all(|count| count * 30 > *lists)
+        && carried.iter().all(|count| count * 4 > *planned)
+        && told.each(25);
+    ensure!(worthwhile || !asks, "too little in it: {counts}");
+    Ok(counts)
+}
+
+/// Lists of jobs too large to try everything, by tables, and by the dynamic program where that is
+/// not too long.
+fn larger_playlists_group(seed: u64, asks: bool) -> Result<String, String> {
+    let mut rng = Rng(seed);
+    let mut playlists = Playlists::default();
+    for index in 1..=scaled(120) {
+        let count = rng.from(2, 6);
+        let drafts = random_programmes(&mut rng, 1, count, 15);
+        let ask = Listing::scattered(&mut rng, &drafts);
+        let mut check = || -> Result<Played, String> {
+            let played = check_played(&mut rng, &ask)?;
+            for sent in played.sent.iter().filter(|sent| sent.job.words() < 2500) {
+                let plan = dynamic(Order::Late, &sent.job, &free(&sent.job));
+                same("the dynamic program", Some(&sent.plan), plan.as_ref())?;
+            }
+            check_one_by_one(&ask, &played)?;
+            check_in_one_go(&ask, &played)?;
+            check_typed_playlist(&mut rng, &ask, ask.needs(&played))?;
+            Ok(played)
+        };
+        let played = check()
+            .map_err(|trouble| format!("seed {seed}, list {index}: {}", ask.failed(&trouble)))?;
+        playlists.count(&ask, &played);
+    }
+    let counts = playlists.show();
+    let Playlists { planned, carried, numbers, .. } = &playlists;
+    let worthwhile = carried[1] * 4 > *planned && numbers.get(&0).is_some_and(|count| *count > 5);
+    ensure!(worthwhile || !asks, "too little in it: {counts}");
+    Ok(counts)
+}
+
+/// Lists with something wrong in one place or a few: in a job's bytes, in its draft, in the two
+/// numbers of an entry or in their count; and lists of any length.
+fn harmed_playlists_group(seed: u64, asks: bool) -> Result<String, String> {
+    let mut rng = Rng(seed);
+    let mut playlists = Playlists::default();
+    let inputs = scaled(8000);
+    for index in 1..=inputs {
+        let count = rng.pick(&[1, 2, 2, 3, 3, 4, 6]);
+        let mut drafts = random_programmes(&mut rng, 0, count, 12);
+        let mut harms = rng.pick(&[0, 1, 1, 1, 2, 3]);
+        while harms > 0 && rng.one_in(3) {
+            harm_programme(&mut rng, &mut drafts);
+            harms -= 1;
+        }
+        let mut ask = Listing::scattered(&mut rng, &drafts);
+        for _ in 0..harms {
+            harm_listing(&mut rng, &mut ask);
+        }
+        let ask = Listing::of(ask.bytes, ask.entries);
+        let played = ask.played(ENDLESS);
+        let room = ask.needs(&played).map(|need| match rng.from(0, 11) {
+            0 => need.saturating_sub(1),
+            1 => rng.from(0, need),
+            2..=4 => need,
+            _ => need + rng.from(1, 9),
+        });
+        let played = ask.played(room);
+        let mut check = || -> Checked {
+            check_played_in(&mut rng, &ask, room, &played)?;
+            if index % 4 == 0 {
+                check_typed_playlist(&mut rng, &ask, room)?;
+            }
+            Ok(())
+        };
+        check()
+            .map_err(|trouble| format!("seed {seed}, input {index}: {}", ask.failed(&trouble)))?;
+        playlists.count(&ask, &played);
+    }
+    let counts = playlists.show();
+    let Playlists { lists, numbers, places, .. } = &playlists;
+    let often = |number: &u32| numbers.get(number).is_some_and(|count| count * 400 > *lists);
+    let due = [0, 1, 2, 3, 4, 5, 11, 12, 13, 17, 20, 21, 22];
+    let worthwhile = due.iter().all(often) && places.iter().all(|count| count * 12 > *lists);
+    ensure!(worthwhile || !asks, "too little in it: {counts}");
+    Ok(counts)
+}
+
+/// Something else in one of the drafts: a bucket that never drains, one bucket more or less, a
+/// smaller bucket, a level that is over, or a unit that takes too much.
+fn harm_programme(rng: &mut Rng, drafts: &mut [Draft]) {
+    let at = rng.from(0, drafts.len() - 1);
+    let draft = &mut drafts[at];
+    let count = draft.buckets().len();
+    let [size, _, start] = BUCKET_FIELDS[rng.from(0, count - 1)];
+    match rng.from(0, 5) {
+        0 => *draft = draft.undrained(rng.from(1, (1 << count) - 1)),
+        1 if count > 1 => *draft = draft.alone(),
+        1 => *draft = draft.doubled([7, 1, 0]),
+        2 => (draft.header[size], draft.header[start]) = (rng.from(0, 2) as u16, 0),
+        3 => draft.header[start] = draft.header[size] + rng.from(0, 1) as u16,
+        4 => draft.header[START_DECODER] = draft.header[DECODER] + rng.from(0, 1) as u16,
+        _ => draft.units[0].iter_mut().for_each(|coding| coding.0 = rng.pick(&[9, 4095, 4096])),
+    }
+}
+
+/// Something else in the bytes of a playlist or in its numbers.
+fn harm_listing(rng: &mut Rng, ask: &mut Listing) {
+    let at = rng.from(0, ask.entries.len() - 1);
+    let end = ask.bytes.len() as u32;
+    match rng.from(0, 11) {
+        0..=3 => {
+            // In a job or not far from its first byte.
+            let first = ask.entries[at / 2 * 2] as usize;
+            let near = if rng.one_in(2) { 40 } else { ask.bytes.len() };
+            let place = (first + rng.from(0, near)).min(ask.bytes.len() - 1);
+            ask.bytes[place] = match rng.from(0, 3) {
+                0 => rng.next() as u8,
+                1 => ask.bytes[place].wrapping_add(1),
+                2 => ask.bytes[place].wrapping_sub(1),
+                _ => rng.pick(&[0, 1, 2, 3, 15, 16, 17, 255]),
+            };
+        }
+        4 => ask.bytes.truncate(rng.from(ask.bytes.len() / 2, ask.bytes.len())),
+        5 | 6 => ask.entries[at] = ask.entries[at].wrapping_add(rng.pick(&[1, u32::MAX, 256])),
+        7 => ask.entries[at] = rng.pick(&[0, 1, end, end + 1, u32::MAX, u32::MAX - end]),
+        8 => ask.entries.swap(at, at / 2 * 2),
+        9 => drop(ask.entries.remove(at)),
+        10 => ask.entries.push(rng.from(0, ask.bytes.len()) as u32),
+        _ => {
+            let count = rng.pick(&[0, 2 * MOST_PROGRAMMES, 2 * MOST_PROGRAMMES + 2]);
+            ask.entries = ask.entries.repeat(count / ask.entries.len() + 1)[..count].to_vec();
+        }
+    }
+    if ask.entries.is_empty() {
+        // No list, which no second harm can be done to.
+        ask.entries.push(0);
+    }
+    if ask.bytes.is_empty() {
+        ask.bytes.push(0);
+    }
+}
+
+/// Playlists of trial jobs, by tables: 64 of them, long ones, many choices, two buckets. Each
+/// programme has a size and a state. The states of the long ones are some from which there is a
+/// plan, found by trying: with a first rate above 0 a delay of 64 fills the decoder.
+fn large_playlists_group() -> Result<String, String> {
+    let few = Size { units: 8, delay: 2, decoder: 63, bucket: 63, rates: 8, choices: 8 };
+    let long = Size { units: 512, delay: 64, decoder: 31, bucket: 31, choices: 16, ..few };
+    let wide = Size { units: 6, rates: 16, choices: 1000, ..few };
+    let fine = Size { decoder: 31, bucket: 31, choices: 31, ..few };
+    let lists: [(&str, Vec<(Size, u32)>, Option<[u16; 3]>); 4] = [
+        ("64 programmes", (1..=64).map(|state| (few, state)).collect(), None),
+        ("long programmes", vec![(long, 4), (fine, 2), (long, 7)], None),
+        ("a thousand choices", vec![(wide, 1), (few, 2), (wide, 3), (wide, 4)], None),
+        ("two buckets", (1..=6).map(|state| (fine, state)).collect(), Some([31, 21, 5])),
+    ];
+    let mut rng = Rng(5);
+    let (mut programmes, mut words) = (0, 0);
+    for (name, list, second) in &lists {
+        let mut check = || -> Checked {
+            let mut drafts = Vec::new();
+            for (size, state) in list {
+                let fields = size.header(*second);
+                let draft = trial_lists(&fields, *state).draft();
+                ensure!(draft.bytes() == trial_of(&fields, *state)?, "another trial job");
+                drafts.push(draft);
+            }
+            let ask = Listing::row_of(&drafts);
+            let played = ask.played(ENDLESS);
+            same("a list that can be sent", (0, 0), apart(played.answer()))?;
+            let room = ask.needs(&played).map(|need| need + slack(&mut rng));
+            check_played_in(&mut rng, &ask, room, &played)?;
+            check_one_by_one(&ask, &played)?;
+            check_in_one_go(&ask, &played)?;
+            programmes += list.len();
+            words += played.searched().map(Job::words).sum::<usize>();
+            Ok(())
+        };
+        check().map_err(|trouble| format!("{name}: {trouble}"))?;
+    }
+    check_largest_programme(&mut rng).map_err(|trouble| format!("the largest job: {trouble}"))?;
+    Ok(format!("{} lists, {programmes} programmes, {words} words", lists.len()))
+}
+
+/// The job of the most bytes, by itself and with other bytes behind it, however many they are.
+fn check_largest_programme(rng: &mut Rng) -> Checked {
+    let unit: Vec<(u16, u32)> =
+        (0..1000).map(|choice| (choice % 3, 1000 - choice as u32)).collect();
+    let rates: Vec<u16> = (0..16).collect();
+    let draft = Draft::new([64, 2, 2, 1, 0, 0], &rates, &vec![unit; 512]).doubled([2, 1, 0]);
+    let job = draft.bytes();
+    same("its bytes", 3_074_112, job.len())?;
+    for behind in [0, 1, 2, job.len(), 5_000_000] {
+        let bytes = then(job.clone(), &vec![0; behind]);
+        let ask = Listing::of(bytes.clone(), vec![0, bytes.len() as u32, 0, job.len() as u32]);
+        let played = ask.played(ENDLESS);
+        let due = if behind > 0 { (1, 22) } else { (0, 0) };
+        same(&format!("{behind} bytes behind it"), due, apart(played.answer()))?;
+        let needs = ask.needs(&played);
+        check_played_in(rng, &ask, needs, &played)?;
+        check_typed_playlist(rng, &ask, needs)?;
+    }
+    Ok(())
+}
+
+// ---------------------------------------------------------------------------
 // Large jobs.
 // ---------------------------------------------------------------------------
 
@@ -10985,6 +12411,12 @@ fn run_all(new_seed: u64, with_full: bool, examples: Option<&Path>) -> bool {
         print_group("larger buckets from every size on", every_own_size_group()),
         print_group("refusals of larger buckets in their order", size_order_group()),
         print_group("lists of larger buckets of every length", size_lengths_group()),
+        print_group("playlists by hand", playlists_by_hand_group()),
+        print_group("entries of a playlist", entries_group()),
+        print_group("playlists of every count", entry_counts_group()),
+        print_group("levels carried to the next programme", carried_on_group()),
+        print_group("lists of a playlist of every length", playlist_lengths_group()),
+        print_group("refusals of a playlist in their order", playlist_order_group()),
     ];
     if let Some(directory) = examples {
         results.push(print_group("examples written again", examples_group(directory)));
@@ -11010,6 +12442,10 @@ fn run_all(new_seed: u64, with_full: bool, examples: Option<&Path>) -> bool {
     seeded("larger buckets in a sitting", &[1], size_sittings_group);
     seeded("larger buckets, harmed jobs and sets", &[1], harmed_sizes_group);
     seeded("larger sizes and drains", &[1], raised_group);
+    seeded("playlists of one programme", &[1], alone_group);
+    seeded("playlists, tiny jobs", &[1, 2], tiny_playlists_group);
+    seeded("playlists, larger jobs", &[1], larger_playlists_group);
+    seeded("harmed playlists", &[1], harmed_playlists_group);
     seeded("harmed bytes", &[1], harmed_group);
     seeded("replay and report", &[1, 2], replay_group);
     seeded("jobs that never drain", &[1, 2], stored_group);
@@ -11051,6 +12487,7 @@ fn run_all(new_seed: u64, with_full: bool, examples: Option<&Path>) -> bool {
         results.push(print_group("pin and see, large jobs", seen_large_group()));
         results.push(print_group("changes of contract, large jobs", large_changes_group()));
         results.push(print_group("larger buckets, large jobs", large_sizes_group()));
+        results.push(print_group("playlists, large jobs", large_playlists_group()));
     }
     if !small() && with_full {
         results.push(print_group("a job of the largest size", full_group()));

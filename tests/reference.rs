@@ -1,12 +1,13 @@
 //! What the test programs share: answers worked out straight from the product's
 //! paper, and the jobs they are asked of.
 //!
-//! The answers have ten parts: a reader that gives the first refusal due, an
+//! The answers have eleven parts: a reader that gives the first refusal due, an
 //! enumeration of every plan (small jobs), a dynamic program that carries whole
 //! paths forward (the jobs too large to enumerate), both of these again for even
 //! pictures, with every word of the table, a reader of plans of either shape, a book of
 //! pins with the numbers of its set, changes of contract by trying every continuation and
 //! by making a job of the rest, what a larger bucket brings by the size that each plan needs,
+//! playlists by one such search after another, each from the levels that the last one left,
 //! a writer that gives a job's bytes or the first refusal due, and a generator that gives a
 //! trial job's. Each program uses a part of what stands here.
 
@@ -1471,6 +1472,255 @@ pub fn random_sized_job(rng: &mut Rng, shape: &Shape) -> Draft {
 }
 
 // ---------------------------------------------------------------------------
+// A playlist: each programme from the levels that the one before it left.
+// ---------------------------------------------------------------------------
+
+/// The most entries of a playlist, and how many totals each programme has.
+pub const MOST_PROGRAMMES: usize = 64;
+pub const PROGRAMME_TOTALS: usize = 5;
+
+/// No pins.
+pub fn free(job: &Job) -> Pins {
+    vec![None; job.units.len()]
+}
+
+/// The job with its buckets at these levels at the start.
+pub fn started(job: &Job, levels: &Levels) -> Job {
+    let mut job = job.clone();
+    for (bucket, level) in job.buckets.iter_mut().zip(levels) {
+        bucket.start = *level;
+    }
+    job
+}
+
+/// A programme that was planned: its job, with the levels from which it starts in the place of
+/// its own, and its plan.
+#[derive(Clone, Debug)]
+pub struct Sent {
+    pub job: Job,
+    pub plan: Plan,
+}
+
+impl Sent {
+    /// What decoder and buckets hold after so many of its intervals.
+    pub fn after(&self, intervals: usize) -> (i64, Levels) {
+        let levels = carried(&self.job, &free(&self.job), &self.plan, intervals);
+        levels.expect("an admissible plan")
+    }
+
+    /// What they hold at its end.
+    pub fn ended(&self) -> (i64, Levels) {
+        self.after(self.job.intervals())
+    }
+
+    /// Five numbers on either line: a second bucket that is not there leaves nothing unused.
+    pub fn totals(&self) -> [u64; PROGRAMME_TOTALS] {
+        let totals = replay(&self.job, &free(&self.job), &self.plan, |_, _| ());
+        let mut numbers = [0; PROGRAMME_TOTALS];
+        for (number, total) in numbers.iter_mut().zip(totals.expect("admissible").numbers()) {
+            *number = total as u64;
+        }
+        numbers
+    }
+}
+
+/// What comes of a playlist.
+#[derive(Clone, Debug, Default)]
+pub struct Played {
+    /// The programmes that were planned, in the order of the list.
+    pub sent: Vec<Sent>,
+    /// The job of the one after them, where it was searched and has no plan.
+    pub planless: Option<Job>,
+    /// The place of the first that is refused, from 1, or 0 for the list itself; and the number.
+    pub refused: Option<(usize, Refusal)>,
+}
+
+impl Played {
+    pub fn answer(&self) -> u32 {
+        self.refused.map_or(0, |(place, number)| 256 * place as u32 + number as u32)
+    }
+
+    /// The jobs whose tables were filled, one after another.
+    pub fn searched(&self) -> impl Iterator<Item = &Job> {
+        self.sent.iter().map(|sent| &sent.job).chain(&self.planless)
+    }
+}
+
+/// The job of an entry, if nothing is wrong with the entry by itself.
+pub fn read_entry(bytes: &[u8], entry: &[u32]) -> Result<Job, Refusal> {
+    let [first, length] = [entry[0] as usize, entry[1] as usize];
+    let mut reader = Reader { rest: bytes.get(first..first + length).ok_or(22)? };
+    let job = read_job(&mut reader)?;
+    if !reader.rest.is_empty() {
+        return Err(22);
+    }
+    Ok(job)
+}
+
+/// The rule: the bucket levels at the end of the last programme replace the job's own, if they
+/// are within its buckets. The decoder starts at the job's own level.
+pub fn sent_after(job: &Job, sent: &[Sent]) -> Result<Job, Refusal> {
+    let Some(last) = sent.last() else { return Ok(job.clone()) };
+    let (_, levels) = last.ended();
+    if !hold(job, &levels) {
+        return Err(20);
+    }
+    Ok(started(job, &levels))
+}
+
+/// In the words of document 02, in lists of these lengths: table, entries, totals. `plan` gives
+/// the plan that is due from a job's starting levels.
+pub fn play(
+    bytes: &[u8],
+    numbers: &[u32],
+    room: [usize; 3],
+    plan: impl Fn(&Job) -> Option<Plan>,
+) -> Played {
+    play_by(sent_after, bytes, numbers, room, plan)
+}
+
+/// The same, where another rule may say how a job starts after those that were sent before it.
+pub fn play_by(
+    start: impl Fn(&Job, &[Sent]) -> Result<Job, Refusal>,
+    bytes: &[u8],
+    numbers: &[u32],
+    [words, mut room, totals]: [usize; 3],
+    plan: impl Fn(&Job) -> Option<Plan>,
+) -> Played {
+    let mut played = Played::default();
+    let count = numbers.len() / 2;
+    if numbers.len() % 2 == 1 || count == 0 || count > MOST_PROGRAMMES {
+        played.refused = Some((0, 21));
+        return played;
+    }
+    if totals < PROGRAMME_TOTALS * count {
+        played.refused = Some((0, 12));
+        return played;
+    }
+    for (place, entry) in (1..).zip(numbers.chunks(2)) {
+        let mut next = || -> Result<(), Refusal> {
+            let job = read_entry(bytes, entry)?;
+            let first = played.sent.first();
+            if first.is_some_and(|first| first.job.buckets.len() != job.buckets.len()) {
+                return Err(22);
+            }
+            let job = start(&job, &played.sent)?;
+            if words < job.words() {
+                return Err(11);
+            }
+            if room < ENTRY_BYTES * job.intervals() {
+                return Err(12);
+            }
+            let Some(plan) = plan(&job) else {
+                played.planless = Some(job);
+                return Err(13);
+            };
+            room -= ENTRY_BYTES * job.intervals();
+            played.sent.push(Sent { job, plan });
+            Ok(())
+        };
+        if let Err(number) = next() {
+            played.refused = Some((place, number));
+            break;
+        }
+    }
+    played
+}
+
+/// Follows the plans of several programmes in one go: the buckets run on from interval to
+/// interval, whichever programme it belongs to, by the drains and sizes of that programme; the
+/// decoder starts anew with each. Gives each one's five totals, and the bucket levels after
+/// each interval; `None` at a violation.
+pub fn replay_on(
+    jobs: &[Job],
+    plans: &[Plan],
+) -> Option<(Vec<[u64; PROGRAMME_TOTALS]>, Vec<Levels>)> {
+    let mut levels = jobs.first()?.start_levels();
+    let (mut totals, mut seen) = (Vec::new(), Vec::new());
+    for (job, plan) in jobs.iter().zip(plans) {
+        let mut sums = [0; PROGRAMME_TOTALS];
+        let mut decoder = job.start_decoder;
+        for (t, &(rate, choice)) in (1..).zip(plan) {
+            let sent = job.rates[rate];
+            decoder += sent;
+            if decoder > job.decoder_size {
+                return None;
+            }
+            if t > job.delay {
+                let Choice { grains, distortion } = job.units[t - job.delay - 1][choice];
+                decoder -= grains;
+                sums[0] += distortion as u64;
+                sums[1] += grains as u64;
+            }
+            if decoder < 0 {
+                return None;
+            }
+            sums[2] += sent as u64;
+            for (at, bucket) in job.buckets.iter().enumerate() {
+                let level = levels[at] + sent - bucket.drain;
+                levels[at] = level.max(0);
+                sums[3 + at] += (levels[at] - level) as u64;
+                if level > bucket.size {
+                    return None;
+                }
+            }
+            seen.push(levels);
+        }
+        totals.push(sums);
+    }
+    Some((totals, seen))
+}
+
+/// The jobs of a playlist, most of which can be sent one after another: their lines have as many
+/// buckets, and sizes and drains that change now and then. They drain little and most units are
+/// the better the more they take, so that what one programme leaves in the buckets counts for the
+/// next. One job in `steady` may have no plan, and one bucket in as many a smaller size. `size`:
+/// 0 for tiny jobs, 1 for larger ones.
+pub fn random_programmes(rng: &mut Rng, size: usize, count: usize, steady: usize) -> Vec<Draft> {
+    let buckets = rng.from(1, MOST_BUCKETS);
+    let mut line: Vec<[usize; 2]> =
+        (0..buckets).map(|_| [rng.from(0, 7), rng.from(1, 3)]).collect();
+    let mut drafts: Vec<Draft> = Vec::new();
+    for _ in 0..count {
+        // Now and then the same is sent again.
+        if !drafts.is_empty() && rng.one_in(8) {
+            let again = drafts[rng.from(0, drafts.len() - 1)].clone();
+            drafts.push(again);
+            continue;
+        }
+        let mut draft = match rng.from(0, 7) {
+            0 => random_job(rng, [&TINY, &MEDIUM][size]),
+            1 | 2 => random_equal_job(rng, &EQUAL[size]),
+            _ => random_sized_job(rng, &SIZED[size]),
+        };
+        draft = draft.alone();
+        draft.commands.clear();
+        if !rng.one_in(steady) {
+            draft.rates[0] = 0;
+            draft.units.iter_mut().for_each(|unit| unit.last_mut().expect("a choice").0 = 0);
+        }
+        for [size, drain] in &mut line {
+            match rng.from(0, 11) {
+                _ if rng.one_in(steady) => *size = rng.from(0, *size),
+                0 => *size = (*size + rng.from(0, 2)).min(60),
+                1 => *drain = rng.from(1, 4),
+                _ => (),
+            }
+        }
+        let with_level = |rng: &mut Rng, [size, drain]: [usize; 2]| {
+            [size, drain, rng.from(0, size)].map(|number| number as u16)
+        };
+        let [size, drain, level] = with_level(rng, line[0]);
+        draft = draft.with(BUCKET, size).with(DRAIN, drain).with(START_BUCKET, level);
+        if let Some(second) = line.get(1) {
+            draft = draft.doubled(with_level(rng, *second));
+        }
+        drafts.push(draft);
+    }
+    drafts
+}
+
+// ---------------------------------------------------------------------------
 // Rules that a program might follow by mistake.
 // ---------------------------------------------------------------------------
 
@@ -2003,6 +2253,14 @@ impl Draft {
     /// Whether the drain of a bucket is 0.
     pub fn never_drains(&self) -> bool {
         self.buckets().iter().any(|bucket| bucket.drain == 0)
+    }
+
+    /// The words of its table.
+    pub fn words(&self) -> usize {
+        let fields = &self.header;
+        let width: i64 = self.buckets().iter().map(|bucket| bucket.size + 1).product();
+        let rows = (fields[UNITS] + fields[DELAY] + 1) as usize * (fields[DECODER] + 1) as usize;
+        rows * width as usize
     }
 
     /// The job with its two buckets in the other order.

@@ -24,14 +24,15 @@
 //!
 //! [`write()`] makes the bytes of a job from its header and lists, and [`trial`] those of
 //! a job to try things with, from its header and a starting state; [`open`],
-//! [`archive`], [`calls()`], [`plan`], [`replay`], [`report`], [`turn`], [`change`] and
-//! [`sizes`] take these bytes and read them again. They fill lists that the caller lends;
-//! [`written`], [`trial_job`], [`called`], [`best_plan`], [`replayed`], [`turned`], [`changed`]
-//! and [`larger_buckets`] make the lists themselves. Nothing is kept between calls. A list that
-//! is filled may be longer than needed: what stands past the part named as written keeps its
-//! values. Wherever a job is read, its own refusals come first: 1 to 5, and for those that open
-//! it 17. A refusal writes nothing, except that [`Refusal::NoPlan`] comes after the search and
-//! leaves `table` written, and no other list.
+//! [`archive`], [`calls()`], [`plan`], [`replay`], [`report`], [`turn`], [`change`], [`sizes`]
+//! and [`playlist`] take these bytes and read them again. They fill lists that the caller lends;
+//! [`written`], [`trial_job`], [`called`], [`best_plan`], [`replayed`], [`turned`], [`changed`],
+//! [`larger_buckets`] and [`playlist_plans`] make the lists themselves. Nothing is kept between
+//! calls. A list that is filled may be longer than needed: what stands past the part named as
+//! written keeps its values. Wherever a job is read, its own refusals come first: 1 to 5, and for
+//! those that open it 17. A refusal writes nothing, except that [`Refusal::NoPlan`] comes after
+//! the search and leaves `table` written, and no other list. Of a playlist this is said of the
+//! programme that is refused; what the programmes before it have written stays.
 //!
 //! An editor who pins and lifts, and wants to see each time what the best plan comes
 //! to, opens a [`Session`]. It keeps the pins and the table from click to click, and of
@@ -41,13 +42,17 @@
 //! was sent under the old one and plans the rest afresh under the new one, from the levels
 //! that were reached. [`larger_buckets`] lists what a contract with a larger bucket would bring.
 //!
+//! Programmes that are sent back to back over one line are a playlist. [`playlist_plans`] plans
+//! each from the bucket levels at which the one before it ended.
+//!
 //! A drain of 0 was once typed for a line without a limit, and says the opposite: what
 //! is sent stays in the bucket. Jobs with it, in either bucket, are refused with 17,
 //! directly after 3 and before the next record is looked at: by [`open`], [`calls()`],
-//! [`plan`], [`change`], [`sizes`], [`write()`] and [`trial`], by [`called`], [`best_plan`],
-//! [`changed`], [`larger_buckets`], [`written`] and [`trial_job`], and by [`Session::open`].
-//! Such jobs that are stored are opened by [`archive`], which takes all other jobs too;
-//! [`replay`], [`report`], [`turn`], [`replayed`] and [`turned`] take what it takes.
+//! [`plan`], [`change`], [`sizes`], [`playlist`], [`write()`] and [`trial`], by [`called`],
+//! [`best_plan`], [`changed`], [`larger_buckets`], [`playlist_plans`], [`written`] and
+//! [`trial_job`], and by [`Session::open`]. Such jobs that are stored are opened by [`archive`],
+//! which takes all other jobs too; [`replay`], [`report`], [`turn`], [`replayed`] and [`turned`]
+//! take what it takes.
 //!
 //! The work is done by the library `libupload.a`, whose code is proved to meet
 //! its contract. It takes no memory and reads and writes only what is lent to
@@ -117,6 +122,9 @@ pub const NEVER: u32 = u32::MAX;
 /// The largest size of a first bucket.
 pub const LARGEST_SIZE: u16 = 255;
 
+/// The most programmes of a playlist.
+pub const PROGRAMMES: usize = 64;
+
 /// Why a job, a call or a list is refused.
 #[derive(Clone, Copy, Debug, PartialEq, Eq, Hash)]
 #[non_exhaustive]
@@ -173,12 +181,19 @@ pub enum Refusal {
     /// 19: the old plan has a violation up to the interval after which the contract
     /// changes.
     OldViolation,
-    /// 20: the level that a bucket has when the contract changes is over its new size.
+    /// 20: the level that a bucket has when the contract changes is over its new size. In a
+    /// [`playlist`]: the level that a bucket had at the end of the programme before is over its
+    /// size in this one.
     CarriedOver,
+    /// 21: a [`playlist`] has no entry, or more than [`PROGRAMMES`].
+    NotAList,
+    /// 22: an entry of a [`playlist`] passes the bytes, bytes are left behind its job, or its
+    /// line has another number of buckets than the first one's.
+    Programme,
 }
 
 impl Refusal {
-    const ALL: [Refusal; 20] = [
+    const ALL: [Refusal; 22] = [
         Refusal::Cut,
         Refusal::WrongRecord,
         Refusal::Header,
@@ -199,6 +214,8 @@ impl Refusal {
         Refusal::NotWithin,
         Refusal::OldViolation,
         Refusal::CarriedOver,
+        Refusal::NotAList,
+        Refusal::Programme,
     ];
 
     /// The refusal's number, from 1.
@@ -241,7 +258,14 @@ impl fmt::Display for Refusal {
             Refusal::NeverDrains => "the drain of a bucket is 0, so that the line never drains",
             Refusal::NotWithin => "the contract does not change within the programme",
             Refusal::OldViolation => "the old plan has a violation before the contract changes",
-            Refusal::CarriedOver => "the level of a bucket is over its size in the new contract",
+            Refusal::CarriedOver => {
+                "the level of a bucket is over its size in the new contract or the next programme"
+            }
+            Refusal::NotAList => "the playlist has no entry, or more than 64",
+            Refusal::Programme => {
+                "an entry passes the bytes, bytes are left behind its job, or it has another \
+                 number of buckets than the first"
+            }
         })
     }
 }
@@ -603,7 +627,7 @@ pub struct Totals {
     /// and the drain less the bucket's level before it less what it sends. The
     /// bucket's starting level + channel grains + unused grains = T × drain + its
     /// last level; where the contract [changes](change), each interval counts with its own
-    /// drain.
+    /// drain. In a [`playlist`] the starting level is the last level of the programme before.
     pub unused_grains: u64,
     /// The same of the second bucket, where the line has one.
     pub second_unused: Option<u64>,
@@ -615,6 +639,38 @@ impl Totals {
         let [distortion, source_grains, channel_grains, unused_grains, second] = values;
         let second_unused = (buckets == 2).then_some(second);
         Totals { distortion, source_grains, channel_grains, unused_grains, second_unused }
+    }
+
+    /// The totals programme by programme in a list that [`playlist`] filled, on a line of so
+    /// many buckets ([`Opened::buckets`]).
+    ///
+    /// # Panics
+    ///
+    /// Where `buckets` is neither 1 nor 2.
+    ///
+    /// # Examples
+    ///
+    /// ```
+    /// use upload_planner::Totals;
+    ///
+    /// let numbers = [50, 6, 6, 1, 0, 70, 4, 4, 0, 0];
+    /// let one: Vec<Totals> = Totals::each(&numbers, 1).collect();
+    /// assert_eq!((one[0].distortion, one[0].unused_grains, one[0].second_unused), (50, 1, None));
+    /// assert_eq!((one[1].distortion, one[1].source_grains, one[1].channel_grains), (70, 4, 4));
+    ///
+    /// // With two buckets the fifth number is the second one's.
+    /// let two: Vec<Totals> = Totals::each(&numbers[..5], 2).collect();
+    /// assert_eq!(two[0].second_unused, Some(0));
+    /// ```
+    pub fn each(
+        totals: &[u64],
+        buckets: usize,
+    ) -> impl DoubleEndedIterator<Item = Totals> + ExactSizeIterator + '_ {
+        assert!(buckets == 1 || buckets == 2, "a line has one bucket or two");
+        totals.chunks_exact(numbers::PROGRAMME_TOTALS).map(move |of| {
+            let of = of.try_into().expect("a programme's numbers are as many as planning's");
+            Totals::of(of, buckets)
+        })
     }
 }
 
@@ -1104,6 +1160,170 @@ fn larger_with(
     checked(numbers::sizes(job, set, &mut table, &mut totals))?;
     let totals = totals.into_iter().map(|total| (total != NEVER).then_some(total));
     Ok(sizes.zip(totals).collect())
+}
+
+/// An entry of a playlist: where its job stands in the bytes.
+#[derive(Clone, Copy, Debug, PartialEq, Eq, Hash)]
+pub struct Programme {
+    /// The job's first byte, counted from 0.
+    pub first: u32,
+    /// How many bytes it has.
+    pub length: u32,
+}
+
+impl Programme {
+    /// The entry as the two numbers that the library takes.
+    pub fn numbers(self) -> [u32; 2] {
+        [self.first, self.length]
+    }
+}
+
+/// Why a playlist is refused, and where.
+#[derive(Clone, Copy, Debug, PartialEq, Eq, Hash)]
+pub struct PlaylistRefusal {
+    /// The place of the programme that is refused, counted from 1; `None` where that is the
+    /// list: for 21, and for 12 where it is the totals that have no room.
+    pub place: Option<usize>,
+    /// Why it is.
+    pub refusal: Refusal,
+}
+
+impl PlaylistRefusal {
+    /// The refusal as the library answers it: 256 × the place + the number, or the number alone.
+    pub fn answer(self) -> u32 {
+        256 * self.place.unwrap_or(0) as u32 + self.refusal.number()
+    }
+
+    /// The refusal that [`numbers::playlist`] answers so, if it is one.
+    ///
+    /// # Examples
+    ///
+    /// ```
+    /// use upload_planner::{PlaylistRefusal, Refusal};
+    ///
+    /// let refused = PlaylistRefusal { place: Some(3), refusal: Refusal::NoPlan };
+    /// assert_eq!(refused.answer(), 3 * 256 + 13);
+    /// assert_eq!(PlaylistRefusal::from_answer(781), Some(refused));
+    /// assert_eq!(refused.to_string(), "programme 3: no plan is admissible");
+    ///
+    /// let list = PlaylistRefusal { place: None, refusal: Refusal::NotAList };
+    /// assert_eq!(PlaylistRefusal::from_answer(21), Some(list));
+    /// assert_eq!(PlaylistRefusal::from_answer(0), None);
+    /// ```
+    pub fn from_answer(answer: u32) -> Option<PlaylistRefusal> {
+        let (place, number) = (answer as usize / 256, answer % 256);
+        let refusal = Refusal::from_number(number)?;
+        Some(PlaylistRefusal { place: (place > 0).then_some(place), refusal })
+    }
+}
+
+impl fmt::Display for PlaylistRefusal {
+    fn fmt(&self, f: &mut fmt::Formatter) -> fmt::Result {
+        match self.place {
+            Some(place) => write!(f, "programme {place}: {}", self.refusal),
+            None => self.refusal.fmt(f),
+        }
+    }
+}
+
+impl Error for PlaylistRefusal {}
+
+/// Plans the programmes of a playlist, which are sent back to back over one line. Each starts
+/// from the bucket levels at which the one before it ended, the first from its own; the decoder
+/// starts at each job's own level.
+///
+/// - `bytes`: the jobs. They may stand anywhere in it, and may overlap.
+/// - `programmes`: an entry for each, 1 to [`PROGRAMMES`] of them, in the order in which they are
+///   sent.
+/// - `table`: room for the most words that one of the jobs needs ([`Opened::table_words`]). One
+///   planning after another writes its table there, as [`plan`] does, and the last one's stands
+///   in the end. Behind it may be words of a longer one before it.
+/// - `entries`: 3 × T bytes for each programme are written, one plan after another, as [`plan`]
+///   writes them for [`Aim::Total`] and [`Order::Late`].
+/// - `totals`: [`numbers::PROGRAMME_TOTALS`] numbers for each programme are written, in the order
+///   of the list: distortion, source grains, channel grains, the unused grains of the bucket and
+///   those of the second, 0 where there is none. [`Totals::each`] names them.
+///
+/// Each plan is the best for its programme from those levels, without pins. Nothing is claimed
+/// for the list as a whole.
+///
+/// Work stops at the first programme that is refused. The plans and totals of those before it stay
+/// written, and so does the last table. Of the refused one nothing is written, except that 13
+/// leaves its table.
+///
+/// # Errors
+///
+/// Without a place: 21 where there is no entry or more than [`PROGRAMMES`]; then 12 where `totals`
+/// is too short, and nothing is written.
+///
+/// Of a programme, in this order: 22 where its entry passes `bytes`; 1 to 5 and 17 for its job;
+/// 22 where bytes are left behind the job, or its line has another number of buckets than the
+/// first one's; 20 where the level that a bucket had at the end of the programme before is over
+/// its size; 11; 12 where its plan does not fit behind the others; 13.
+///
+/// # Examples
+///
+/// A programme that is sent twice stands in the bytes once. It is the one of [`playlist_plans`],
+/// where the plans are worked out.
+///
+/// ```
+/// use upload_planner::{numbers, open, playlist, written, Header, PlaylistRefusal, Programme};
+/// use upload_planner::{Refusal, Totals};
+///
+/// let header = Header {
+///     units: 2,
+///     delay: 1,
+///     decoder: 4,
+///     bucket: 5,
+///     drain: 1,
+///     level: 0,
+///     fill: 0,
+///     rates: 3,
+///     choices: 2,
+///     second: None,
+/// };
+/// let job = written(&header, &[0, 2, 4], &[4, 2, 5, 2], &[10, 30, 12, 40])?;
+/// let opened = open(&job)?;
+/// let once = Programme { first: 0, length: job.len() as u32 };
+///
+/// let mut table = vec![0; opened.table_words];
+/// let mut entries = vec![0; 3 * opened.plan_bytes()];
+/// let mut totals = vec![0; 3 * numbers::PROGRAMME_TOTALS];
+/// playlist(&job, &[once; 2], &mut table, &mut entries, &mut totals)?;
+/// assert_eq!(entries[..9], [0, 255, 255, 2, 0, 0, 1, 1, 0]);
+/// assert_eq!(entries[9..18], [0, 255, 255, 1, 1, 0, 1, 1, 0]);
+/// assert_eq!(totals, [50, 6, 6, 1, 0, 70, 4, 4, 0, 0, 0, 0, 0, 0, 0]);
+/// let lost: u64 = Totals::each(&totals[..10], opened.buckets).map(|of| of.distortion).sum();
+/// assert_eq!(lost, 50 + 70);
+///
+/// // A third time there is no plan. The other two are planned all the same.
+/// let (mut entries, mut totals) = (vec![7; 27], vec![7; 15]);
+/// let found = playlist(&job, &[once; 3], &mut table, &mut entries, &mut totals);
+/// assert_eq!(found, Err(PlaylistRefusal { place: Some(3), refusal: Refusal::NoPlan }));
+/// assert_eq!((totals[5], totals[10]), (70, 7));
+/// assert_eq!((entries[15], entries[18]), (1, 7));
+///
+/// // A byte is missing, or the list has no room for the second plan.
+/// let past = Programme { first: 1, ..once };
+/// let found = playlist(&job, &[once, past], &mut table, &mut entries, &mut totals);
+/// assert_eq!(found, Err(PlaylistRefusal { place: Some(2), refusal: Refusal::Programme }));
+/// let found = playlist(&job, &[once; 2], &mut table, &mut entries[..17], &mut totals);
+/// assert_eq!(found, Err(PlaylistRefusal { place: Some(2), refusal: Refusal::ListTooShort }));
+/// # Ok::<(), Box<dyn std::error::Error>>(())
+/// ```
+pub fn playlist(
+    bytes: &[u8],
+    programmes: &[Programme],
+    table: &mut [u32],
+    entries: &mut [u8],
+    totals: &mut [u64],
+) -> Result<(), PlaylistRefusal> {
+    let programmes: Vec<u32> = programmes.iter().flat_map(|entry| entry.numbers()).collect();
+    match numbers::playlist(bytes, &programmes, table, entries, totals) {
+        0 => Ok(()),
+        answer => Err(PlaylistRefusal::from_answer(answer)
+            .unwrap_or_else(|| panic!("the library answered {answer}, which is no refusal"))),
+    }
 }
 
 fn met_with(answers: Vec<u8>) -> Vec<Result<(), Refusal>> {
@@ -1864,6 +2084,115 @@ pub fn larger_buckets(job: &[u8], calls: &[Call]) -> Result<Vec<(u16, Option<u32
     let opened = open(job)?;
     let (set, _) = set_after(job, calls)?;
     larger_with(job, opened, &set)
+}
+
+/// The plan of a programme in a playlist.
+#[derive(Clone, Debug, PartialEq, Eq)]
+pub struct ProgrammePlan {
+    /// What the plan comes to.
+    pub totals: Totals,
+    /// Three bytes for each interval, which [`Entry::each`] names.
+    pub entries: Vec<u8>,
+}
+
+/// [`playlist`] with lists of its own, as long as the jobs need: puts the jobs behind each other
+/// and gives the plan of each, in the order in which they are sent.
+///
+/// Where a programme is refused, `playlist_plans(&jobs[..place - 1])` gives the plans of those
+/// before it; [`playlist`] leaves them in the lists that it is lent.
+///
+/// # Errors
+///
+/// Number 21 without a place where there is no job or more than [`PROGRAMMES`]. Of a programme, in
+/// this order: 1 to 5 and 17 for its job; 22 where bytes are left behind the job, or its line has
+/// another number of buckets than the first one's; 20; 13.
+///
+/// # Examples
+///
+/// Each programme takes four grains for unit 1 by interval 2, which lose 10, or two, which lose
+/// 30. Then it takes two for unit 2, which lose 40. One grain drains from a bucket of five.
+///
+/// The first time it is sent as 0, 4 and 2 grains, which bring the bucket to 0, 3 and 4. So the
+/// second time it starts at 4. Nothing in interval 1 leaves 3 there; four grains would make 6 of
+/// it, and two make 4. Another two in interval 3 make 5, and the bucket is full: so unit 1 has two.
+///
+/// ```
+/// use upload_planner::{best_plan, playlist_plans, replayed, written, Aim, Bucket, Header};
+/// use upload_planner::{Levels, Order, PlaylistRefusal, Refusal, Replayed};
+///
+/// let header = Header {
+///     units: 2,
+///     delay: 1,
+///     decoder: 4,
+///     bucket: 5,
+///     drain: 1,
+///     level: 0,
+///     fill: 0,
+///     rates: 3,
+///     choices: 2,
+///     second: None,
+/// };
+/// let job_of = |header: Header| {
+///     written(&header, &[0, 2, 4], &[4, 2, 5, 2], &[10, 30, 12, 40])
+/// };
+/// let job = job_of(header)?;
+/// let plans = playlist_plans(&[&job, &job])?;
+/// assert_eq!(plans[0].entries, [0, 255, 255, 2, 0, 0, 1, 1, 0]);
+/// assert_eq!(plans[0].totals.distortion, 10 + 40);
+/// assert_eq!(plans[1].entries, [0, 255, 255, 1, 1, 0, 1, 1, 0]);
+/// assert_eq!(plans[1].totals.distortion, 30 + 40);
+///
+/// // The first is what it is by itself; the second is that of a job that starts at 4.
+/// let alone = best_plan(&job, &[], Aim::Total, Order::Late)?;
+/// assert_eq!((&alone.entries, alone.totals), (&plans[0].entries, plans[0].totals));
+/// let again = job_of(Header { fill: 4, ..header })?;
+/// let (levels, found) = replayed(&again, &[], &plans[1].entries)?;
+/// assert_eq!(levels[2], Levels { decoder: 0, bucket: 5, second: None });
+/// assert_eq!(found, Replayed::Clean(plans[1].totals));
+///
+/// // From a full bucket at most three grains can go in three intervals, and four are needed.
+/// let refused = |place, refusal| Err(PlaylistRefusal { place, refusal });
+/// assert_eq!(playlist_plans(&[&job, &job, &job]), refused(Some(3), Refusal::NoPlan));
+///
+/// // A bucket of four holds what the first programme leaves in it, one of three does not.
+/// let [four, three] = [4, 3].map(|bucket| job_of(Header { bucket, ..header }));
+/// assert_eq!(playlist_plans(&[&job, &four?]), refused(Some(2), Refusal::NoPlan));
+/// assert_eq!(playlist_plans(&[&job, &three?]), refused(Some(2), Refusal::CarriedOver));
+///
+/// // A line has one bucket or two throughout; and nothing to send is no list.
+/// let second = Some(Bucket { size: 5, drain: 1, level: 0 });
+/// let two = job_of(Header { second, ..header })?;
+/// assert_eq!(playlist_plans(&[&job, &two]), refused(Some(2), Refusal::Programme));
+/// assert_eq!(playlist_plans(&[]), refused(None, Refusal::NotAList));
+/// # Ok::<(), Box<dyn std::error::Error>>(())
+/// ```
+pub fn playlist_plans(jobs: &[&[u8]]) -> Result<Vec<ProgrammePlan>, PlaylistRefusal> {
+    let (mut bytes, mut programmes) = (Vec::new(), Vec::new());
+    // One job too many is refused as many are, and one byte behind the largest job as many are.
+    for job in jobs.iter().take(PROGRAMMES + 1) {
+        let job = &job[..job.len().min(LARGEST_JOB + 1)];
+        programmes.push(Programme { first: bytes.len() as u32, length: job.len() as u32 });
+        bytes.extend_from_slice(job);
+    }
+    // The library plans no further than to a job that does not open, or is of another line.
+    let opened = jobs.iter().take(PROGRAMMES).map_while(|job| open(job).ok());
+    let mut opened: Vec<Opened> = opened.collect();
+    let buckets = opened.first().map_or(1, |first| first.buckets);
+    let same = opened.iter().take_while(|job| job.buckets == buckets).count();
+    opened.truncate(same);
+
+    let words = opened.iter().map(|job| job.table_words).max();
+    let mut table = vec![0; words.unwrap_or(0)];
+    let mut entries = vec![0; opened.iter().map(|job| job.plan_bytes()).sum()];
+    let mut totals = vec![0; numbers::PROGRAMME_TOTALS * programmes.len()];
+    playlist(&bytes, &programmes, &mut table, &mut entries, &mut totals)?;
+    let mut left = &entries[..];
+    let plans = opened.iter().zip(Totals::each(&totals, buckets)).map(|(job, totals)| {
+        let (plan, behind) = left.split_at(job.plan_bytes());
+        left = behind;
+        ProgrammePlan { totals, entries: plan.to_vec() }
+    });
+    Ok(plans.collect())
 }
 
 /// [`turn`] with a list of its own, as long as the job needs.

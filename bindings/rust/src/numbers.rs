@@ -1,12 +1,13 @@
 //! The library's functions as they are in C, with a slice for each pointer and
 //! count. Each answers 0 or a refusal's number; what each list holds stands at
-//! the functions of the same names in the crate's root.
+//! the functions of the same names in the crate's root. [`playlist`] answers 256 × the place
+//! of the programme that it refuses + the number.
 //!
 //! Calls are numbers, three a call: [`PIN`] or [`LIFT`], the unit, the choice,
 //! which a lift does not look at. A call of another kind is refused with 2, then
 //! a last call that is cut with 1, both right after the job's numbers, which come
-//! first: 1 to 5, and of [`open`], [`calls`], [`plan`], [`set`] and all that take a set
-//! but [`replay_set`] also 17. An aim that is neither [`TOTAL`] nor [`EVEN`] is refused
+//! first: 1 to 5, and of [`open`], [`calls`], [`plan`], [`playlist`], [`set`] and all that take
+//! a set but [`replay_set`] also 17. An aim that is neither [`TOTAL`] nor [`EVEN`] is refused
 //! with 2 too, right after the job's numbers and before the calls', or after the set's 6,
 //! and so is an order that is neither [`EARLY`] nor [`LATE`], right after the aim, or where
 //! there is none in its place. A `values` list is one of those to be filled: where it is too
@@ -77,6 +78,10 @@ pub const WRITE_VALUES: usize = 1;
 /// How many values [`pin_and_see`] and [`lift_and_see`] write: the least total distortion,
 /// or [`NEVER`](crate::NEVER) where no plan holds the pins.
 pub const SEE_VALUES: usize = 1;
+
+/// How many totals [`playlist`] writes for each programme: the values that [`plan`] writes for
+/// two buckets, the last 0 where there is one.
+pub const PROGRAMME_TOTALS: usize = 5;
 
 /// How many levels [`replay`] writes for each interval of a job with one bucket:
 /// the decoder's, then the bucket's.
@@ -261,6 +266,19 @@ extern "C" {
         totals_len: usize,
     ) -> u32;
 
+    fn upload_playlist(
+        bytes: *const u8,
+        bytes_len: usize,
+        programmes: *const u32,
+        programmes_len: usize,
+        table: *mut u32,
+        table_len: usize,
+        entries: *mut u8,
+        entries_len: usize,
+        totals: *mut u64,
+        totals_len: usize,
+    ) -> u32;
+
     fn upload_write(
         fields: *const u16,
         fields_len: usize,
@@ -287,7 +305,7 @@ extern "C" {
     ) -> u32;
 }
 
-// In all nineteen: a slice's pointer is aligned, never null, and good for the
+// In all twenty: a slice's pointer is aligned, never null, and good for the
 // slice's length; slices that are written overlap no other. That is all the
 // library asks, and it reads and writes nothing else.
 
@@ -580,6 +598,37 @@ pub fn sizes(job: &[u8], set: &[u32], table: &mut [u32], totals: &mut [u32]) -> 
             set.len(),
             table.as_mut_ptr(),
             table.len(),
+            totals.as_mut_ptr(),
+            totals.len(),
+        )
+    }
+}
+
+/// Plans the programmes of a playlist one after another, each from the bucket levels at which the
+/// one before it ended, in the order [`LATE`]. `programmes` has two numbers an entry: where the
+/// job's first byte stands in `bytes`, and how many bytes it has. An odd count of them is refused
+/// with 21, as no entry is and more than [`PROGRAMMES`](crate::PROGRAMMES).
+///
+/// Answers 0, or 256 × the place of the programme that is refused, counted from 1, + the number:
+/// [`PlaylistRefusal::from_answer`](crate::PlaylistRefusal::from_answer) takes it apart. 21 has no
+/// place, nor has 12 where `totals` is too short.
+pub fn playlist(
+    bytes: &[u8],
+    programmes: &[u32],
+    table: &mut [u32],
+    entries: &mut [u8],
+    totals: &mut [u64],
+) -> u32 {
+    unsafe {
+        upload_playlist(
+            bytes.as_ptr(),
+            bytes.len(),
+            programmes.as_ptr(),
+            programmes.len(),
+            table.as_mut_ptr(),
+            table.len(),
+            entries.as_mut_ptr(),
+            entries.len(),
             totals.as_mut_ptr(),
             totals.len(),
         )

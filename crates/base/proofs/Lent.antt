@@ -1,10 +1,11 @@
 -- Laws of a list that is lent: what stands where, and what a refusal leaves.
-use Prim.Native.Nat.{ℕ, _+_, _<_, _≤_}
+use Prim.Native.Nat.{ℕ, _+_, _-_, _<_, _≤_}
 use mathlib.Core.Path.{_≡_, refl, sym, ap, _∙_}
-use mathlib.Core.List.{List, _++_, append-assoc}
+use mathlib.Core.List.{List, _++_, append-assoc, append-nil}
 use native.Mathlib.Omega.{arith}
-use lib.ListN.{length, getD, take, drop, length-append, length-drop, List·getD-append}
-use lib.Seq.{take-at, drop-at, drop-drop, length-take-le, sets, sets-eq}
+use lib.ListN.{length, getD, take, drop, length-append, length-drop, drop-of-length-le, List·getD-append}
+use lib.Seq.{take-all, take-at, drop-at, drop-drop, length-take-le, sets, sets-eq}
+use borrow.Rule.Slice.PartMut.{putMid, post-is}
 use Rattle.base.specs.Answer.{Answer, refused, gives}
 use Rattle.base.specs.Lent.{over, over-at, refuse, put, Keeping}
 use Rattle.base.proofs.Answers.{not-refused}
@@ -59,3 +60,10 @@ module _ {A : Type 0} (list : List ℕ) where
 
   pub gives-keeps : (a : A) (l : List ℕ) → Keeping list (record { answer = gives a; list = l })
   gives-keeps a l n e = absurd (not-refused e)
+
+-- the part of a list from a place on, lent and given back
+pub part-all : (l : List ℕ) (a : ℕ) → take (length l - a) (drop a l) ≡ drop a l
+part-all l a = take-all (length l - a) (drop a l) (omega (arith, length-drop a l))
+
+pub put-back : (l ys : List ℕ) (a : ℕ) → a ≤ length l → putMid a (length l - a) l ys ≡ take a l ++ ys
+put-back l ys a h = let z : length l ≤ length l = omega arith in ap (λ (t : List ℕ). take a l ++ (ys ++ t)) (post-is a (length l) l h ∙ drop-of-length-le l z) ∙ ap (λ (t : List ℕ). take a l ++ t) (append-nil ys)

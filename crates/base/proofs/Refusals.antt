@@ -1,4 +1,4 @@
--- Tests that say what conditions say refuse in the conditions' order: `in-order`; and what a call answers is a refusal or its work: `guarded-is`.
+-- Tests that say what conditions say refuse in the conditions' order: `in-order`, and `in-turn` where a test may rely on the conditions before it; and what a call answers is a refusal or its work: `guarded-is`.
 use Prim.Native.Nat.{ℕ}
 use mathlib.Core.Path.{_≡_, refl, ap, _∙_}
 use mathlib.Core.Logic.{_↔_}
@@ -78,6 +78,19 @@ pub decides-join : {ts us : List Test} {cs ds : List Condition} → Decides ts c
 decides-join no-more e = e
 decides-join (one-more p q d) e = one-more p q (decides-join d e)
 
+-- the same where each test may rely on the conditions before it
+pub data Following : List Test → List Condition → Type 1 where
+  none-left : Following [] []
+  then-one : {t : Test} {c : Condition} {ts : List Test} {cs : List Condition} → t .number ≡ c .number → (t .passes ≡ true) ↔ c .Holds → (c .Holds → Following ts cs) → Following (t ∷ ts) (c ∷ cs)
+
+pub decided : {ts : List Test} {cs : List Condition} → Decides ts cs → Following ts cs
+decided no-more = none-left
+decided (one-more p q d) = then-one p q (λ h. decided d)
+
+pub following-join : {ts us : List Test} {cs ds : List Condition} → Following ts cs → Following us ds → Following (ts ++ us) (cs ++ ds)
+following-join none-left e = e
+following-join (then-one p q d) e = then-one p q (λ h. following-join (d h) e)
+
 abbrev pub AllHold : List Condition → Type 0
 AllHold [] = Unit {0}
 AllHold (c ∷ cs) = c .Holds × AllHold cs
@@ -105,13 +118,16 @@ module _ {R : Type 0} (refuse : ℕ → R) where
   guarded-last t r e = guarded-past t [] r e ∙ guarded-none r
 
   -- what is said of the work is said of the call where every condition holds
-  pub in-order : {ts : List Test} {cs : List Condition} → Decides ts cs → (Else : R → Type 0) (r q : R) → q ≡ guarded refuse ts r → (AllHold cs → Else r) → InOrder q refuse cs (Else q)
-  in-order no-more Else r q e h = rw (e ∙ guarded-none r) (h tt)
-  in-order (one-more {t} {c} {ts} {cs} p d s) Else r q e h = (fails (t .passes) refl, λ k. in-order s Else r q (e ∙ guarded-past t ts r (d .1 k)) (λ rest. h (k, rest)))
+  pub in-turn : {ts : List Test} {cs : List Condition} → Following ts cs → (Else : R → Type 0) (r q : R) → q ≡ guarded refuse ts r → (AllHold cs → Else r) → InOrder q refuse cs (Else q)
+  in-turn none-left Else r q e h = rw (e ∙ guarded-none r) (h tt)
+  in-turn (then-one {t} {c} {ts} {cs} p d s) Else r q e h = (fails (t .passes) refl, λ k. in-turn (s k) Else r q (e ∙ guarded-past t ts r (d .1 k)) (λ rest. h (k, rest)))
     where
       fails : (b : Bool) → t .passes ≡ b → (c .Holds → ⊥) → q ≡ refuse (c .number)
       fails true w g = absurd (g (d .0 w))
       fails false w g = e ∙ guarded-here t ts r w ∙ ap refuse p
+
+  pub in-order : {ts : List Test} {cs : List Condition} → Decides ts cs → (Else : R → Type 0) (r q : R) → q ≡ guarded refuse ts r → (AllHold cs → Else r) → InOrder q refuse cs (Else q)
+  in-order d = in-turn (decided d)
 
   -- of every answer: a refusal, or the work where all tests pass
   pub data Guarded (r : R) : R → Type 0 where

@@ -2,21 +2,20 @@
 use Prim.Native.Nat.{ℕ, zero, suc, _<_, _≤_}
 use mathlib.Core.Path.{_≡_, refl, sym, _∙_}
 use mathlib.Core.Option.{Option, none, some}
-use mathlib.Core.List.{List, [], _∷_, map}
+use mathlib.Core.List.{List, [], _∷_}
 use native.Mathlib.Omega.{arith}
 use lib.Dec.{eqb}
 use lib.ListN.{length, drop, length-drop}
 use borrow.Author.Tests.{le-leb, lt-leb, eqb-true, eqb-false}
 use Rattle.base.specs.Refusals.{unless}
 use Rattle.base.proofs.Refusals.{unless-some, unless-none, guarded-here, guarded-last}
-use Rattle.model.specs.Job.{Job}
 use Rattle.model.specs.Best.{early, total}
 use Rattle.model.specs.Pins.{Call}
 use Rattle.base.proofs.Tests.{branch}
 use Rattle.format.specs.Parser as P
 use Rattle.format.specs.Parser.{took, done, on-took}
 use Rattle.format.specs.Records.{record-either}
-use Rattle.format.specs.JobBytes.{header-in, parse, opening}
+use Rattle.format.specs.JobBytes.{header-in}
 use Rattle.format.proofs.Parsing.{bound, done-is}
 use Rattle.format.proofs.Either.{either-size}
 use Rattle.pinning.specs.PinSet.{PinSet, fresh}

@@ -1,6 +1,6 @@
 -- A job with a bucket that never drains is refused by every call that goes by the door of opening: `Never`.
 use mathlib.Core.Path.{_≡_, refl, _∙_, ap}
-use mathlib.Core.Option.{Option, some}
+use mathlib.Core.Option.{some}
 use Rattle.format.specs.Parser as P
 use Rattle.format.specs.JobBytes.{opening, parse}
 use Rattle.format.proofs.Bounds.{two-doors}

@@ -1,28 +1,24 @@
 -- The command record: in which order it is refused, what is read, and that exactly the records of calls are taken: `CommandRecords`, `CommandReadsBack` and `CommandWritesBack`.
-use Prim.Native.Nat.{ℕ, _+_, _≤_, _<_}
-use mathlib.Core.Path.{_≡_, refl, sym, _∙_, ap}
+use Prim.Native.Nat.{ℕ, _≤_}
+use mathlib.Core.Path.{_≡_, refl, sym}
 use mathlib.Core.Logic.{_⊎_, inl, inr}
-use mathlib.Core.Bool.{Bool, true, false}
 use mathlib.Core.List.{List, [], _∷_}
 use native.Mathlib.Omega.{arith}
-use lib.Dec.{eqb}
-use lib.ListN.{length, getD, take, drop, replicate}
+use lib.ListN.{length, drop}
 use lib.Seq.{drop-drop}
-use borrow.Author.Tests.{eq-eqb, ne-eqb}
 use Rattle.base.specs.If.{if_then_else_}
 use Rattle.model.specs.Pins.{Call, pin, lift}
-use Rattle.format.specs.Fields.{number, total, fields, Fit, Bytes}
+use Rattle.format.specs.Fields.{total, fields, Fit}
 use Rattle.format.specs.Fields as F
-use Rattle.format.specs.Parser.{took}
-use Rattle.format.specs.Records.{Form, Filled, filled, head-widths, head-values, form-for, plain-form, record-either, filled-bytes}
-use Rattle.format.specs.Claims.{u16-at, Due, BodyOrder}
+use Rattle.format.specs.Records.{Filled, filled, head-widths, head-values, form-for, plain-form, record-either}
+use Rattle.format.specs.Claims.{u16-at, Due}
 use Rattle.format.proofs.Fields.{two-at}
 use Rattle.format.proofs.RoundTrip.{head-fit}
-use Rattle.format.proofs.Exact.{Exact, RecordGood, exact-map}
+use Rattle.format.proofs.Exact.{Exact, exact-map}
 use Rattle.format.proofs.Orders.{head-mapped, body-mapped, revalued}
 use Rattle.format.proofs.Either.{FilledGood, exact-either, either-form, either-head, first-body, second-body}
 use Rattle.calling.specs.Commands.{pin-form, lift-form, call-of, record-of, command, command-bytes}
-use Rattle.calling.specs.Claims.{InTwoBytes, CommandTaken, CommandRecords, CommandReadsBack, CommandWritesBack}
+use Rattle.calling.specs.Claims.{InTwoBytes, CommandRecords, CommandReadsBack, CommandWritesBack}
 
 apart : pin-form .kind ≡ lift-form .kind → ⊥
 unfolding pin-form lift-form plain-form

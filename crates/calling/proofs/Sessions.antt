@@ -10,11 +10,11 @@ use lib.Dec.{leb}
 use lib.ListN.{length}
 use borrow.Author.Tests.{leb-true, le-leb}
 use Rattle.base.specs.If.{if_then_else_}
-use Rattle.base.specs.Answer.{Answer, refused, gives}
+use Rattle.base.specs.Answer.{refused, gives}
 use Rattle.base.specs.Refusals.{Test, refusal, unless, condition, guarded, InOrder}
-use Rattle.base.specs.Lent.{Ended, over, put}
+use Rattle.base.specs.Lent.{Ended, over}
 use Rattle.base.specs.Lent as lent
-use Rattle.base.proofs.Refusals.{not-none, some-same, refusal-join, first-none, unless-some, unless-none, unless-first, Decides, no-more, one-more, decides-join, in-order, Guarded, was-refused, was-done, guarded-is}
+use Rattle.base.proofs.Refusals.{not-none, some-same, refusal-join, first-none, unless-some, unless-none, unless-first, Decides, no-more, one-more, decides-join, Guarded, was-refused, was-done, guarded-is}
 use Rattle.base.proofs.Lent.{put-given, put-refused}
 use Rattle.base.proofs.Lent as lent-laws
 use Rattle.model.specs.Job.{Job, intervals}

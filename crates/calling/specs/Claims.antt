@@ -7,12 +7,12 @@ use mathlib.Core.List.{List, [], _∷_, _++_, map}
 use lib.ListN.{length, getD, take, drop}
 use Rattle.base.specs.If.{if_then_else_}
 use Rattle.base.specs.Answer.{refused, gives}
-use Rattle.base.specs.Refusals.{condition, InOrder}
-use Rattle.base.specs.Lent.{Ended, over}
+use Rattle.base.specs.Refusals.{condition}
+use Rattle.base.specs.Lent.{over}
 use Rattle.base.specs.Lent as lent
 use Rattle.model.specs.Job.{Job, intervals}
 use Rattle.model.specs.Pins as book
-use Rattle.model.specs.Pins.{Call, PinTotals, no-pins, pins-after, pin-totals}
+use Rattle.model.specs.Pins.{Call, no-pins, pins-after, pin-totals}
 use Rattle.model.specs.Best.{late, early, total, even}
 use Rattle.model.specs.Table.{words}
 use Rattle.format.specs.Fields.{Bytes}
@@ -25,9 +25,8 @@ use Rattle.pinning.specs.PinSet.{PinSet}
 use Rattle.pinning.specs.Calls as pinning
 use Rattle.pinning.specs.Calls.{Handed, open-call, call, run}
 use Rattle.replaying.specs.Entries.{plan-of}
-use Rattle.replaying.specs.Calls.{Replayed}
 use Rattle.replaying.specs.Claims.{InShape, DemandTwo}
-use Rattle.planning.specs.Calls.{Planned, plan-call}
+use Rattle.planning.specs.Calls.{plan-call}
 use Rattle.planning.specs.Calls as plan
 use Rattle.planning.specs.Claims.{PlanClaim, Keeping}
 use Rattle.calling.specs.Commands.{command, command-bytes, commands-call, calls-of}

@@ -1,6 +1,5 @@
 -- The cases of larger buckets, computed.
 use mathlib.Core.Path.{refl}
-use lib.ListN.{set}
 use Rattle.trellis.specs.Table.{encode}
 use Rattle.model.specs.Evaluate.{evaluate}
 use Rattle.model.specs.Job.{on-line}

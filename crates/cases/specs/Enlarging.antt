@@ -1,7 +1,7 @@
 -- Cases of larger buckets (document 02, E13), worked out by hand: Job A with a decoder of size 8 and first buckets from size 0 on. Plans of three intervals that send 2 2 2, 2 2 4 and 2 4 4 leave at most 0, 2 and 4 in a bucket that drains 2; they carry 6, 8 and 10 grains, enough for choices 0 and 1, 1 and 0, and 0 and 0.
 use Prim.Native.Nat.{ℕ}
 use mathlib.Core.Path.{_≡_}
-use mathlib.Core.Option.{Option, none, some}
+use mathlib.Core.Option.{none, some}
 use mathlib.Core.List.{List, [], _∷_, map}
 use Rattle.model.specs.Job.{Bucket, Job}
 use Rattle.model.specs.Pins.{PinMap}

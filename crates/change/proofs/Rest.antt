@@ -2,11 +2,10 @@
 use Prim.Native.Nat.{ℕ, _+_, _-_, _*_, _≤_, _<_}
 use mathlib.Core.Path.{_≡_, refl, sym, ap, _∙_}
 use mathlib.Core.Option.{Option, none, some}
-use mathlib.Core.List.{List, _++_, append-nil}
+use mathlib.Core.List.{List, _++_}
 use native.Mathlib.Omega.{arith}
-use lib.ListN.{length, getD, take, drop, length-drop, take-append-drop, drop-of-length-le}
-use lib.Seq.{length-take-le, take-all, drop-at, getD-take}
-use borrow.Rule.Slice.PartMut.{putMid, post-is}
+use lib.ListN.{length, getD, take, drop, take-append-drop}
+use lib.Seq.{length-take-le, drop-at, getD-take}
 use Rattle.base.specs.Answer.{refused, gives}
 use Rattle.base.proofs.Answers.{not-refused, gives-same}
 use Rattle.model.specs.Job as model
@@ -35,13 +34,6 @@ use Rattle.planner.specs.Answers.{answered, planned}
 use Rattle.changing.specs.Calls.{both-totals, all-entries, behind}
 use Rattle.changing.proofs.Small.{distortion-small, source-small, channel-small, unused-small}
 use Rattle.change.specs.Answers.{Adds, Continues}
-
--- the part of a list from a place on, lent and given back
-pub part-all : (l : List ℕ) (a : ℕ) → take (length l - a) (drop a l) ≡ drop a l
-part-all l a = take-all (length l - a) (drop a l) (omega (arith, length-drop a l))
-
-pub put-back : (l ys : List ℕ) (a : ℕ) → a ≤ length l → putMid a (length l - a) l ys ≡ take a l ++ ys
-put-back l ys a h = let z : length l ≤ length l = omega arith in ap (λ (t : List ℕ). take a l ++ (ys ++ t)) (post-is a (length l) l h ∙ drop-of-length-le l z) ∙ ap (λ (t : List ℕ). take a l ++ t) (append-nil ys)
 
 -- a search that is refused keeps the entries
 kept : (j : Job) (k : Open) (o : Order) (s : ℕ) (at : model.Levels) (v : Option ℕ) (table entries : List ℕ) (n : ℕ) → searched j k o s at v table entries .answer ≡ refused n → searched j k o s at v table entries .entries ≡ entries

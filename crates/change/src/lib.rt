@@ -152,7 +152,7 @@ fn rest_verdict(
         Front::Breaks => Verdict::Refused(refusal::VIOLATION),
         Front::Leads { at, sum: _ } => {
             if !carried_fits(line.buffers, at) {
-                return Verdict::Refused(refusal::CARRIED);
+                return Verdict::Refused(planner::refusal::LEVELS);
             }
             if table < table::words_over(header, line.buffers) {
                 return Verdict::Refused(planner::refusal::TABLE);

@@ -2,18 +2,18 @@
 use Prim.Native.Nat.{ℕ, _+_, _-_, _*_, _≤_, _<_}
 use mathlib.Core.Path.{_≡_, refl, sym, ap, ap₂, _∙_, subst}
 use mathlib.Core.Logic.{_↔_}
-use mathlib.Core.Bool.{Bool, true, false}
+use mathlib.Core.Bool.{true}
 use mathlib.Core.Option.{Option, none, some}
-use mathlib.Core.List.{List, [], _∷_, _++_}
+use mathlib.Core.List.{List, _++_}
 use native.Mathlib.Omega.{arith}
 use lib.ListN.{length, take, drop, length-append, length-drop}
 use lib.Seq.{length-take-le, take-append-add, drop-append-add, drop-drop}
 use lib.Dec.{leb}
 use borrow.Author.Tests.{leb-true, le-leb}
 use Rattle.base.specs.Answer.{Answer, refused, gives}
-use Rattle.base.specs.Refusals.{Test, Condition, guarded, InOrder}
+use Rattle.base.specs.Refusals.{guarded, InOrder}
 use Rattle.base.proofs.Answers.{not-refused}
-use Rattle.base.proofs.Refusals.{guarded-past, guarded-here, guarded-none, AllHold}
+use Rattle.base.proofs.Refusals.{Following, none-left, then-one, in-turn}
 use Rattle.model.specs.Job.{Levels, Job, on-line, intervals}
 use Rattle.model.specs.Levels.{bucketLevels}
 use Rattle.model.specs.Pins.{PinMap}
@@ -49,20 +49,6 @@ use Rattle.changing.proofs.Conditions.{offers-iff, draining-iff, rising
 use Rattle.changing.proofs.Front.{entries-take, read-both, count, sound-iff, carried-shows, carried-inside}
 use Rattle.changing.proofs.Unders.{unders}
 use Rattle.changing.proofs.Counted.{counted}
-
--- tests that say what conditions say, where each may rely on the conditions before it
-pub data Following : List Test → List Condition → Type 1 where
-  no-more : Following [] []
-  one-more : {t : Test} {c : Condition} {ts : List Test} {cs : List Condition} → t .number ≡ c .number → (t .passes ≡ true) ↔ c .Holds → (c .Holds → Following ts cs) → Following (t ∷ ts) (c ∷ cs)
-
-module _ {R : Type 0} (refuse : ℕ → R) where
-  pub in-turn : {ts : List Test} {cs : List Condition} → Following ts cs → (Else : R → Type 0) (r q : R) → q ≡ guarded refuse ts r → (AllHold cs → Else r) → InOrder q refuse cs (Else q)
-  in-turn no-more Else r q e h = rw (e ∙ guarded-none refuse r) (h tt)
-  in-turn (one-more {t} {c} {ts} {cs} p d s) Else r q e h = (fails (t .passes) refl, λ k. in-turn (s k) Else r q (e ∙ guarded-past refuse t ts r (d .1 k)) (λ rest. h (k, rest)))
-    where
-      fails : (b : Bool) → t .passes ≡ b → (c .Holds → ⊥) → q ≡ refuse (c .number)
-      fails true w g = absurd (g (d .0 w))
-      fails false w g = e ∙ guarded-here refuse t ts r w ∙ ap refuse p
 
 -- room for so much, as a test
 room-iff : (n k : ℕ) → (leb n k ≡ true) ↔ (n ≤ k)
@@ -194,15 +180,15 @@ module _ (j : Job) (l : InLimits j) (m : PinMap) (old : List ℕ) (s : ℕ) (c :
   pub follows : Following (change-tests j m old s c (length table) (length entries)) (Asks j m old s c table entries)
   unfolding change-tests rest-tests
   follows =
-      one-more refl (shapes j few-choices (omega (arith, l .rates)) .shaped-iff old)
-      (λ shape. one-more refl (offers-iff n some-bucket few-buckets c)
-      (λ offers. one-more refl (draining-iff n some-bucket few-buckets c offers)
-      (λ drains. one-more refl (rising-iff c)
-      (λ rises. one-more refl (within-iff (intervals j) s some-interval)
-      (λ within. one-more refl (sound-iff j m old s (within .0) (within .1))
-      (λ sound. one-more refl (carried-iff (shown within sound))
-      (λ fits. one-more refl (room-iff _ _)
-      (λ room. one-more refl (room-iff _ _) (λ space. no-more)))))))))
+      then-one refl (shapes j few-choices (omega (arith, l .rates)) .shaped-iff old)
+      (λ shape. then-one refl (offers-iff n some-bucket few-buckets c)
+      (λ offers. then-one refl (draining-iff n some-bucket few-buckets c offers)
+      (λ drains. then-one refl (rising-iff c)
+      (λ rises. then-one refl (within-iff (intervals j) s some-interval)
+      (λ within. then-one refl (sound-iff j m old s (within .0) (within .1))
+      (λ sound. then-one refl (carried-iff (shown within sound))
+      (λ fits. then-one refl (room-iff _ _)
+      (λ room. then-one refl (room-iff _ _) (λ space. none-left)))))))))
 
   pub asked : (q : Planned) → q ≡ guarded (refuse table entries) (change-tests j m old s c (length table) (length entries)) (change-in j (under j c) m old s o table entries) → InOrder q (refuse table entries) (Asks j m old s c table entries) (ChangeClaim j m old s c o table entries q)
   asked q e = in-turn (refuse table entries) follows (ChangeClaim j m old s c o table entries) (change-in j (under j c) m old s o table entries) q e

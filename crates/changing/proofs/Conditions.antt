@@ -18,7 +18,7 @@ use Rattle.format.specs.JobBytes.{Policed, largest-sizes, bucket-limits, openin
 use Rattle.format.proofs.Limits.{not-true, is-kept, of-kept, all-fit, fit-all}
 use Rattle.format.proofs.Bounds.{rates-within, rate-most-from, rising-from}
 use Rattle.changing.specs.Contracts.{Contract, policed-under, contract-limits}
-use Rattle.changing.specs.Calls.{carried, is-clean, none-over}
+use Rattle.changing.specs.Calls.{is-clean, none-over}
 use Rattle.changing.specs.Claims.{Offers, Draining, Rising}
 
 -- limits that are kept, as a test

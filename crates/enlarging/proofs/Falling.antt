@@ -13,7 +13,7 @@ use Rattle.model.specs.Job.{Bucket, Line, bucketAt, Levels, Job, on-line, inter
 use Rattle.model.specs.Pins.{PinMap}
 use Rattle.model.specs.Best.{late, Open, unlimited, least-by, least-total}
 use Rattle.model.specs.Table.{mark, bound, span, tops, words, Bounded}
-use Rattle.model.proofs.Lines.{intervals-on, bounded-on}
+use Rattle.model.proofs.Lines.{bounded-on}
 use Rattle.model.proofs.Tables.{distortions-small}
 use Rattle.enlarging.specs.Larger.{Larger, with-bucket, with-size}
 use Rattle.enlarging.specs.Calls.{sized, least-at}

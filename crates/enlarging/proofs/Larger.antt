@@ -1,16 +1,16 @@
 -- A line with more room keeps every admissible plan and raises neither the least total nor the least greatest distortion: `LargerLaw`. Its trellis allows what the other's allows, from levels of which the decoder's is the same and no bucket's is more.
 use Prim.Native.Nat.{ℕ, suc, _+_, _-_, _≤_, max}
-use mathlib.Core.Path.{_≡_, refl, sym, ap, _∙_}
+use mathlib.Core.Path.{_≡_, refl, sym, ap}
 use mathlib.Core.Bool.{Bool, true, false}
 use mathlib.Core.Option.{Option, none, some, Option·map, Option·none-ne-some}
-use mathlib.Core.List.{List, [], _∷_, zipWith, map, List·Memᴰ}
+use mathlib.Core.List.{List, [], _∷_, zipWith, map}
 use native.Mathlib.Omega.{arith}
 use native.Mathlib.Nat.{le-refl}
 use lib.ListN.{length, getD}
 use lib.Dec.{ltb}
 use borrow.Author.Tests.{ltb-false, le-ltb}
 use Rattle.trellis.specs.Minimum.{AtMost}
-use Rattle.trellis.specs.Trellis.{Monotone, Walk, least, Simulates}
+use Rattle.trellis.specs.Trellis.{Monotone, Simulates}
 use Rattle.trellis.specs.Limit.{no-limit, keeps-to, only, limited}
 use Rattle.trellis.proofs.Optimality.{sum-combines, greatest-combines}
 use Rattle.trellis.proofs.Simulation.{walk-follows, least-follows}

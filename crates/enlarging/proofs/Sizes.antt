@@ -7,19 +7,18 @@ use mathlib.Core.Option.{Option, none, some}
 use mathlib.Core.List.{List, [], _∷_}
 use native.Mathlib.Omega.{arith}
 use lib.Dec.{leb}
-use lib.ListN.{length, getD, drop}
+use lib.ListN.{length, getD}
 use borrow.Author.Tests.{leb-true, le-leb}
 use Rattle.trellis.specs.Table.{encode}
-use Rattle.base.specs.Answer.{refused, gives}
+use Rattle.base.specs.Answer.{refused}
 use Rattle.base.specs.If.{if_then_else_}
 use Rattle.base.specs.Refusals.{test, refusal, unless, guarded}
-use Rattle.base.specs.Lists.{build}
 use Rattle.base.specs.Lent.{over}
 use Rattle.base.proofs.Answers.{refused-same, not-refused, gives-same}
 use Rattle.base.proofs.Builds.{build-length, build-at}
 use Rattle.base.proofs.Lent.{over-length, over-here, over-rest}
 use Rattle.base.proofs.Refusals.{Decides, no-more, one-more, in-order, Guarded, was-refused, was-done, guarded-is}
-use Rattle.model.specs.Job.{bucketAt, Job, on-line, intervals}
+use Rattle.model.specs.Job.{Job, on-line}
 use Rattle.model.specs.Pins.{PinMap}
 use Rattle.model.specs.Best.{Order, total, unlimited, least-total, open-for}
 use Rattle.model.specs.Table.{mark, words, Bounded}
@@ -31,7 +30,6 @@ use Rattle.model.proofs.Planning.{planning}
 use Rattle.model.proofs.TableWords.{word-means}
 use Rattle.format.specs.Parser.{Result, refused, took, on-read}
 use Rattle.format.specs.JobBytes.{opening}
-use Rattle.format.specs.Claims.{InLimits}
 use Rattle.format.proofs.Bounds.{limited, bounded}
 use Rattle.format.proofs.Places.{well-read}
 use Rattle.pinning.specs.PinSet.{lines}

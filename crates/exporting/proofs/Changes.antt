@@ -5,8 +5,7 @@ use mathlib.Core.Logic.{inl}
 use mathlib.Core.List.{List, [], _∷_, _++_}
 use lib.ListN.{length}
 use Rattle.base.specs.Refusals.{Test, Condition, condition, guarded}
-use Rattle.base.proofs.Refusals.{Decides, AllHold}
-use Rattle.base.proofs.Refusals as base
+use Rattle.base.proofs.Refusals.{AllHold, Following, decided, following-join, in-turn}
 use Rattle.model.specs.Job.{Job}
 use Rattle.format.specs.Parser.{Looks, on-read}
 use Rattle.format.specs.Parser as P
@@ -20,8 +19,7 @@ use Rattle.planning.specs.Calls.{refuse}
 use Rattle.planning.specs.Seeing.{pins-of}
 use Rattle.changing.specs.Contracts.{Contract}
 use Rattle.changing.specs.Claims.{Asks, ChangeClaim}
-use Rattle.changing.proofs.Changes.{Following, in-turn, follows, change-calls}
-use Rattle.changing.proofs.Changes as changing
+use Rattle.changing.proofs.Changes.{follows, change-calls}
 use Rattle.calling.specs.Sessions.{order-named}
 use Rattle.calling.specs.Claims.{Either}
 use Rattle.calling.proofs.Sessions.{named-decide}
@@ -31,15 +29,6 @@ use Rattle.exporting.specs.Sets.{SetPlanned, set-planned, after-plan}
 use Rattle.exporting.specs.Changes.{change-asked, set-change-refusal, change-export, Changing, ChangeConditions, Changes}
 use Rattle.exporting.proofs.Exports.{room-decides, whole, all-tests, of-job, counted, given-zero, number-iff, number-kept, number-else, totals-put}
 use Rattle.exporting.proofs.Sets.{where-all}
-
--- tests that rely on none before them, and tests behind others
-decided : {ts : List Test} {cs : List Condition} → Decides ts cs → Following ts cs
-decided base.no-more = changing.no-more
-decided (base.one-more p q d) = changing.one-more p q (λ h. decided d)
-
-following-join : {ts us : List Test} {cs ds : List Condition} → Following ts cs → Following us ds → Following (ts ++ us) (cs ++ ds)
-following-join changing.no-more e = e
-following-join (changing.one-more p q d) e = changing.one-more p q (λ h. following-join (d h) e)
 
 module _ (set old : List ℕ) (s : ℕ) (c : Contract) (order : ℕ) (table entries values : List ℕ) where
   abbrev out : ℕ → SetPlanned

@@ -1,12 +1,10 @@
 -- How many numbers the totals have that a call gives: one for each bucket of the job's line beside those that every job has.
 use Prim.Native.Nat.{ℕ, _≤_}
 use mathlib.Core.Path.{_≡_, refl, sym, _∙_, ap, subst}
-use mathlib.Core.Bool.{Bool, true, false}
 use mathlib.Core.Option.{Option, none, some}
 use mathlib.Core.List.{List, [], _∷_, zipWith}
 use native.Mathlib.Omega.{arith}
 use lib.ListN.{length}
-use Rattle.base.specs.If.{if_then_else_}
 use Rattle.base.specs.Answer.{Answer, refused, gives}
 use Rattle.base.specs.Refusals.{Test, guarded}
 use Rattle.base.specs.Lent as lent
@@ -23,7 +21,7 @@ use Rattle.format.specs.JobBytes.{Door, opening, archive, parse}
 use Rattle.format.proofs.Places.{well-read}
 use Rattle.format.proofs.Opened.{held-job}
 use Rattle.pinning.specs.PinSet.{PinSet, lines}
-use Rattle.pinning.specs.Check.{checked, accept, fits}
+use Rattle.pinning.specs.Check.{checked}
 use Rattle.model.proofs.Drains.{zip-length}
 use Rattle.replaying.specs.Calls.{Replayed, totals-are, replayed, played, replay-call}
 use Rattle.replaying.specs.Entries.{plan-of}

@@ -7,3 +7,4 @@ pub mod Exports
 pub mod Sets
 pub mod Changes
 pub mod Larger
+pub mod Playlists

@@ -1,32 +1,25 @@
 -- Where a call with a set as numbers is taken, the list that holds the set is long enough for it; and what a call that sees exports, whether it was refused or not.
 use Prim.Native.Nat.{ℕ, _<_, _≤_}
 use mathlib.Core.Path.{_≡_, refl, sym, _∙_, ap}
-use mathlib.Core.Bool.{true, false}
 use mathlib.Core.Option.{Option, none, some}
-use mathlib.Core.List.{List, [], _∷_}
-use native.Mathlib.Omega.{arith}
-use lib.Dec.{leb}
+use mathlib.Core.List.{List}
 use lib.ListN.{length}
-use borrow.Author.Tests.{lt-leb, le-leb, le-ltb, lt-ltb}
+use borrow.Author.Tests.{lt-leb, le-leb}
 use Rattle.base.specs.Answer.{Answer, refused, gives}
-use Rattle.base.specs.If.{if_then_else_}
-use Rattle.base.specs.Refusals.{test, refusal, unless, first, guarded}
-use Rattle.base.proofs.Answers.{not-refused, refused-same}
-use Rattle.base.proofs.Refusals.{not-none, refusal-here, refusal-last, refusal-join, unless-some, unless-none}
+use Rattle.base.specs.Refusals.{refusal, unless, first}
+use Rattle.base.proofs.Refusals.{not-none, refusal-here, refusal-last, unless-some, unless-none}
 use Rattle.model.specs.Job.{Job}
 use Rattle.model.specs.Pins.{Call, sees}
-use Rattle.model.specs.Table.{words}
 use Rattle.format.specs.Parser as P
 use Rattle.format.specs.Parser.{Result, took, on-read}
-use Rattle.format.specs.JobBytes.{header-in, opening}
-use Rattle.pinning.specs.PinSet.{PinSet}
+use Rattle.format.specs.JobBytes.{opening}
 use Rattle.pinning.specs.Check.{checked}
-use Rattle.pinning.specs.Calls.{Handed, refuse, called, call-in, call, click-tests, click-in, click}
+use Rattle.pinning.specs.Calls.{Handed, refuse, call-in, call, click-in, click}
 use Rattle.pinning.specs.Numbers.{set-in}
 use Rattle.pinning.proofs.Agree.{checked-parsed}
 use Rattle.pinning.proofs.Numbers.{sets-taken}
 use Rattle.planning.specs.See as sight
-use Rattle.planning.specs.See.{keep, unit-of, see-in, see-call}
+use Rattle.planning.specs.See.{see-call}
 use Rattle.planning.specs.Seeing.{refused-by}
 use Rattle.planning.proofs.Seeing.{see-clicks, see-keeps}
 use Rattle.exporting.specs.Exports.{room-for}

@@ -5,3 +5,4 @@ pub mod Claims
 pub mod SetClaims
 pub mod Changes
 pub mod Larger
+pub mod Playlists

@@ -5,7 +5,7 @@ use mathlib.Core.Logic.{_↔_}
 use mathlib.Core.List.{List, [], _∷_, _++_}
 use lib.ListN.{length}
 use Rattle.base.specs.Answer.{gives}
-use Rattle.base.specs.Refusals.{condition, InOrder}
+use Rattle.base.specs.Refusals.{condition}
 use Rattle.base.specs.Lent.{Ended, over}
 use Rattle.model.specs.Job.{Job, Entry, intervals}
 use Rattle.model.specs.Pins.{Call}
@@ -29,7 +29,7 @@ use Rattle.planning.specs.See as sight
 use Rattle.planning.specs.Seeing.{pins-of, SeeClaim}
 use Rattle.calling.specs.Sessions.{aim-named, order-named}
 use Rattle.calling.specs.Claims.{Either}
-use Rattle.exporting.specs.Exports.{Filled, filled, Played, replayed, after-replay}
+use Rattle.exporting.specs.Exports.{filled, Played, replayed, after-replay}
 use Rattle.exporting.specs.Claims.{ReplayTold}
 use Rattle.exporting.specs.Sets.{set-export, call-export, Seen, seen, see-export, SetPlanned, set-planned, after-plan, set-plan-export, set-replay-export}
 

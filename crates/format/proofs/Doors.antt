@@ -1,6 +1,6 @@
 -- Limits on a value that was read, looked at before anything else is: a header's drains, by either door.
-use Prim.Native.Nat.{ℕ, zero, suc, _+_, _≤_, _<_}
-use mathlib.Core.Path.{_≡_, refl, sym, _∙_, ap}
+use Prim.Native.Nat.{ℕ, zero, suc, _≤_, _<_}
+use mathlib.Core.Path.{_≡_, refl, sym, _∙_}
 use mathlib.Core.Option.{Option, none, some}
 use mathlib.Core.List.{List, [], _∷_}
 use native.Mathlib.Omega.{arith}
@@ -10,7 +10,7 @@ use lib.ListN.{length, getD, drop}
 use Rattle.format.specs.Limits.{AllKept, broken}
 use Rattle.format.specs.Parser.{refused, took, unless-refused}
 use Rattle.format.specs.JobBytes.{Policed, Header, no-bucket, Door, opening, archive, drain-limits, header-read, draining, header-parser}
-use Rattle.format.specs.Claims.{Idle, DrainOrder}
+use Rattle.format.specs.Claims.{DrainOrder}
 use Rattle.format.proofs.Limits.{AllOf, none-broken, all-kept, broken-one}
 use Rattle.format.proofs.Parsing.{not-took, bind-refused, bind-took, bind-later, bound}
 

@@ -11,9 +11,9 @@ use Rattle.model.specs.Job.{Coding}
 use Rattle.format.specs.Fields.{number, fields}
 use Rattle.format.specs.Limits.{AllKept}
 use Rattle.format.specs.Parser.{refused, took, done, many}
-use Rattle.format.specs.Records.{Filled, record-due, record-either}
+use Rattle.format.specs.Records.{record-due, record-either}
 use Rattle.format.specs.JobBytes.{Policed, Header, policed-by, largest-sizes, bucket-limits, header-limits, rate-limits, coding-limits, header-of, codings, bucket-widths, header-kind, header-form, rates-form, unit-form, job-of, header-parser, unit-parser, parse, no-bucket, Door, header-read}
-use Rattle.format.specs.Claims.{u16-at, Due, BodyOrder, one-bucket-at, two-buckets-at, RecordOrders, Units, no-more, one-more, OpeningOrder, Refusals}
+use Rattle.format.specs.Claims.{u16-at, Due, one-bucket-at, two-buckets-at, RecordOrders, Units, no-more, one-more, OpeningOrder, Refusals}
 use Rattle.format.proofs.Fields.{two-at}
 use Rattle.format.proofs.Limits.{AllOf}
 use Rattle.format.proofs.Header.{header-from, header-fields, header-known}

@@ -10,7 +10,7 @@ use Rattle.format.specs.JobBytes.{Policed, Header, further-buckets, buck
 use Rattle.format.proofs.Doors.{header-by, by-header}
 use Rattle.format.specs.Fields.{total, Fit}
 use Rattle.format.specs.Fields as F
-use Rattle.format.specs.Limits.{limit, AllKept}
+use Rattle.format.specs.Limits.{AllKept}
 use Rattle.format.specs.Parser.{done, _>>=_, many, all-bytes, Each}
 use Rattle.format.specs.Parser as P
 use Rattle.format.specs.Records.{Form, head-widths, head-values, record-due, form-for, Filled, filled, filled-bytes, record-bytes}

@@ -1,5 +1,5 @@
 -- A job as bytes: `parse` reads one, `encode` writes one, and `WellFormed` says which can be written (document 01, "The job's bytes"; document 02, E5 and E8). What is claimed of them stands in `Claims`.
-use Prim.Native.Nat.{ℕ, zero, suc, _-_, _≤_}
+use Prim.Native.Nat.{ℕ, zero, suc, _-_}
 use mathlib.Core.Path.{_≡_}
 use mathlib.Core.Bool.{Bool, true, false, _&&_}
 use mathlib.Core.List.{List, [], _∷_, _++_, map, zipWith}

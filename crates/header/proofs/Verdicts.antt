@@ -8,10 +8,10 @@ use borrow.Author.Tests.{leb-true, leb-false}
 use lib.Dec.{leb}
 use lib.ListN.{length}
 use Rattle.base.specs.If.{if_then_else_, one-if}
-use Rattle.format.specs.Limits.{Limit, limit, kept, both-kept, each-kept, broken, AllKept}
+use Rattle.format.specs.Limits.{Limit, limit, both-kept, each-kept, broken, AllKept}
 use Rattle.format.specs.JobBytes.{Policed, Header, largest-sizes, bucket-limits, header-limits}
 use Rattle.format.proofs.Opening.{header-number}
-use Rattle.format.proofs.Limits.{Kept, AllOf, not-true, is-kept, of-kept, not-kept, none-broken, broken-one, all-fit, fit-all, not-all}
+use Rattle.format.proofs.Limits.{Kept, AllOf, not-true, is-kept, not-kept, none-broken, broken-one, all-fit, fit-all, not-all}
 use Rattle.header.specs.declared.Verdict.the-variants.{Fits, Refused}
 use Rattle.header.specs.declared.Header as code
 use Rattle.header.specs.Answers.{policed-of, plain, verdict}

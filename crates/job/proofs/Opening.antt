@@ -3,7 +3,7 @@ use Rattle.base.proofs.Refusals.{first-none}
 use Rattle.base.specs.Refusals.{unless}
 use Rattle.format.proofs.Doors.{by-header}
 use Rattle.format.proofs.Limits.{all-kept}
-use Prim.Native.Nat.{ℕ, zero, suc, _+_, _*_, _-_, _≤_, _<_}
+use Prim.Native.Nat.{ℕ, suc, _+_, _*_, _-_, _≤_, _<_}
 use mathlib.Core.Path.{_≡_, refl, sym, ap, _∙_}
 use mathlib.Core.Bool.{Bool, true, false}
 use mathlib.Core.Option.{none, some, Option}
@@ -17,7 +17,7 @@ use Rattle.model.specs.Job.{Coding, Job}
 use Rattle.format.specs.Fields.{total, fields}
 use Rattle.format.specs.Limits.{AllKept, broken}
 use Rattle.format.specs.Parser.{Result, refused, took, Parser, done, further, onward, _>>=_, many, refusal-of, with-value, unless-refused}
-use Rattle.format.specs.Records.{record-due, form-for, record-either}
+use Rattle.format.specs.Records.{record-due, record-either}
 use Rattle.format.specs.JobBytes.{Header, header-of, header-limits, codings, header-kind, header-form, rates-form, unit-form, job-of, header-in, header-parser, unit-parser, parse, Door, drain-limits, header-read, draining}
 use Rattle.base.specs.If.{if_then_else_}
 use Rattle.format.specs.Places.{field-at, header-size}

@@ -1,14 +1,14 @@
 -- The greatest distortion of a plan, the least greatest that an admissible plan has, and the best plan by either aim: `Greatest`, `Evenness`, `Aims`.
-use Prim.Native.Nat.{ℕ, zero, suc, _+_, _-_, _<_, _≤_, max}
+use Prim.Native.Nat.{ℕ, zero, suc, _-_, _<_, _≤_, max}
 use mathlib.Core.Path.{_≡_, refl, sym, _∙_, ap}
-use mathlib.Core.Logic.{_↔_, _⊎_, inl, inr, ⊎-elim}
+use mathlib.Core.Logic.{_↔_, _⊎_, inl, inr}
 use mathlib.Core.Option.{Option, none, some, Option·none-ne-some}
 use mathlib.Core.List.{List}
 use native.Mathlib.Decide.{decLt}
 use native.Mathlib.Omega.{arith}
 use lib.ListN.{length}
 use Rattle.trellis.specs.Trellis.{NoLater, best, Optimal}
-use Rattle.trellis.specs.Limit.{UpTo, no-limit, up-to}
+use Rattle.trellis.specs.Limit.{no-limit, up-to}
 use Rattle.trellis.proofs.Optimality.{greatest-combines, none-iff, best-optimal}
 use Rattle.trellis.proofs.Limit.{up-to-some}
 use Rattle.base.specs.Lists.{gathered, greatest}
@@ -17,8 +17,8 @@ use Rattle.model.specs.Levels.{distorted}
 use Rattle.model.specs.Pins.{PinMap}
 use Rattle.model.specs.Admissible.{Admissible}
 use Rattle.model.specs.Replay.{total-distortion, greatest-distortion}
-use Rattle.model.specs.Best.{Order, Before, late, Open, unlimited, trellis-of, least-by, least-total, least-greatest, best-plan, Aim, total, even, open-for}
-use Rattle.model.specs.Claims.{BestOf, GreatestClaim, kept-open, EvennessClaim, AimClaim, Permits, PlanningClaim, Greatest, Evenness, Aims}
+use Rattle.model.specs.Best.{Order, Before, late, Open, unlimited, trellis-of, least-by, least-total, least-greatest, total, even, open-for}
+use Rattle.model.specs.Claims.{BestOf, kept-open, EvennessClaim, AimClaim, Permits, PlanningClaim, Greatest, Evenness, Aims}
 use Rattle.model.proofs.Walks.{max-distortion}
 use Rattle.model.proofs.Planning.{walk-permitted, permitted-walk, planning}
 

@@ -1,6 +1,5 @@
 -- The order of entries is strict, so that a set of plans has at most one best: `OneBest`.
 use Prim.Native.Nat.{ℕ}
-use mathlib.Core.Path.{_≡_}
 use mathlib.Core.Logic.{inl, inr}
 use mathlib.Core.Option.{Option}
 use mathlib.Core.List.{List}

@@ -1,11 +1,10 @@
 -- The best plans in two orders are as good as each other: `Orders`.
 use Prim.Native.Nat.{ℕ}
 use mathlib.Core.Path.{_≡_}
-use mathlib.Core.Logic.{_⊎_, inl, inr}
+use mathlib.Core.Logic.{inl, inr}
 use mathlib.Core.List.{List}
 use native.Mathlib.Omega.{arith}
 use Rattle.model.specs.Job.{Job, Entry}
-use Rattle.model.specs.Replay.{total-distortion, greatest-distortion}
 use Rattle.model.specs.Best.{Aim, total, even}
 use Rattle.model.specs.Claims.{NoWorse, OrderClaim, Orders}
 

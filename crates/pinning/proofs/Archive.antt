@@ -5,7 +5,7 @@ use mathlib.Core.Option.{Option, some}
 use mathlib.Core.List.{List, [], _∷_, map}
 use Rattle.model.specs.Job.{Job}
 use Rattle.model.specs.Pins.{Call}
-use Rattle.format.specs.Parser.{refused, took, on-read}
+use Rattle.format.specs.Parser.{took, on-read}
 use Rattle.format.specs.JobBytes.{opening, archive, parse}
 use Rattle.format.specs.Claims.{Drains}
 use Rattle.format.proofs.Places.{well-read}

@@ -20,7 +20,7 @@ use Rattle.model.specs.Pins.{PinMap, PinTotals, no-pins, pinOf, Call, pin, lift
 use Rattle.model.specs.Table.{words}
 use Rattle.model.proofs.PinTotals.{totals-same, totals-filled, totals-emptied, totals-none}
 use Rattle.format.specs.Parser.{took, on-read}
-use Rattle.format.specs.JobBytes.{Header, header-in, opening, archive, parse}
+use Rattle.format.specs.JobBytes.{Header, header-in, opening, parse}
 use Rattle.format.specs.Claims.{InLimits}
 use Rattle.format.proofs.Places.{well-read}
 use Rattle.format.proofs.Bounds.{limited}

@@ -4,7 +4,7 @@ use mathlib.Core.Path.{_≡_}
 use mathlib.Core.List.{List, [], _∷_, _++_}
 use lib.ListN.{length, getD, take}
 use Rattle.model.specs.Job.{Job}
-use Rattle.format.specs.JobBytes.{Header, Policed, Door, parse}
+use Rattle.format.specs.JobBytes.{Policed, Door, parse}
 use Rattle.format.specs.Parser.{refused, took}
 use Rattle.pinning.specs.PinSet.{PinSet}
 use Rattle.pinning.specs.Check.{Matches, checked}

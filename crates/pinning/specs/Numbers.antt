@@ -7,7 +7,7 @@ use lib.ListN.{length, getD, take, drop, replicate}
 use Rattle.base.specs.If.{if_then_else_}
 use Rattle.base.specs.All.{all-below}
 use Rattle.model.specs.Pins.{PinTotals}
-use Rattle.format.specs.JobBytes.{Header, header-kind, header-values, header-of, no-header}
+use Rattle.format.specs.JobBytes.{header-kind, header-values, header-of, no-header}
 use Rattle.pinning.specs.PinSet.{PinSet, fresh}
 
 -- how many numbers a set has, and where its parts begin

@@ -22,7 +22,6 @@ use Rattle.pinning.specs.Check.{checked}
 use Rattle.pinning.specs.Numbers.{set-in}
 use Rattle.pinset.proofs.Answering.{ready, ready-took}
 use Rattle.replaying.specs.Entries.{entry-size}
-use Rattle.interval.specs.declared.Totals.{Totals}
 use Rattle.interval.specs.Answers.{totals-of}
 use Rattle.table.specs.Answers.{table-words}
 use Rattle.table.proofs.Words.{words-are}

@@ -1,8 +1,9 @@
 -- What planning answers and leaves, from what the check, the tests and the search answered.
 use Prim.Native.Nat.{ℕ, _+_, _-_, _*_, _<_, _≤_, max}
 use mathlib.Core.Path.{_≡_, refl, sym, _∙_, ap}
+use mathlib.Core.Bool.{Bool, true, false, _&&_, not}
 use mathlib.Core.Option.{Option, none, some}
-use mathlib.Core.List.{List, [], _∷_}
+use mathlib.Core.List.{List, [], _∷_, map}
 use native.Mathlib.Omega.{arith}
 use native.Mathlib.Nat.{add-mul, one-mul, mul-le-mul-right}
 use lib.ListN.{length}
@@ -11,20 +12,21 @@ use borrow.Author.Tests.{lt-leb, le-leb}
 use Rattle.trellis.specs.Trellis.{Combines}
 use Rattle.trellis.specs.Table.{encode}
 use Rattle.trellis.proofs.Optimality.{sum-combines, greatest-combines}
+use Rattle.base.specs.If.{if_then_else_, one-if}
 use Rattle.base.specs.Refusals.{test, guarded}
 use Rattle.base.proofs.Refusals.{guarded-here, guarded-past, guarded-last}
 use Rattle.base.specs.Answer.{refused, gives}
-use Rattle.model.specs.Job.{Levels, Job, on-line, intervals}
+use Rattle.model.specs.Job.{Bucket, Levels, Job, on-line, intervals}
 use Rattle.model.specs.Pins.{PinMap}
 use Rattle.model.specs.Best.{Order, late, Open, unlimited, least-by, least-total, Aim, total, even, open-for}
-use Rattle.model.specs.Table.{mark, bound, layerWords, words, layerOf, wordIn, InLayer, Bounded}
+use Rattle.model.specs.Table.{mark, bound, sizes, layerWords, words, layerOf, wordIn, InLayer, Bounded}
 use Rattle.model.proofs.Tables.{distortions-small}
 use Rattle.model.proofs.Lines.{own-line, intervals-on, bounded-on}
 use Rattle.format.specs.Parser as P
 use Rattle.format.specs.Parser.{on-read}
-use Rattle.format.specs.JobBytes.{Header, opening, job-in, Opens}
+use Rattle.format.specs.JobBytes.{Policed, Header, bucket-of, opening, job-in}
 use Rattle.format.proofs.Bounds.{bounded, start-inside}
-use Rattle.format.proofs.Opened.{job-formed, job-limits, units-are, intervals-are, few-intervals, start-is}
+use Rattle.format.proofs.Opened.{job-formed, job-limits, units-are, intervals-are, few-intervals, buckets-are, start-is}
 use Rattle.pinning.specs.PinSet.{PinSet, lines}
 use Rattle.pinning.specs.Check.{checked, Ready}
 use Rattle.interval.specs.declared.Totals as replay
@@ -33,6 +35,8 @@ use Rattle.line.proofs.Sizes.{layer-size, each-small}
 use Rattle.replaying.specs.Entries.{entry-size}
 use Rattle.planning.specs.Words.{table-from}
 use Rattle.planning.specs.Calls.{Planned, refuse, searched, search-in, plan-tests, plan-in, plan-all, plan-call}
+use Rattle.starting.specs.Calls.{levels-fit, start-with, level-tests, plan-with, levels-call}
+use Rattle.starting.proofs.Starting.{fits-iff}
 use Rattle.planning.proofs.Layers.{word-of, from-before, from-rest, from-length, from-layer}
 use Rattle.line.specs.declared.Line.{Line}
 use Rattle.line.specs.Answers.{line-is, WordAsked}
@@ -217,20 +221,87 @@ module _ (b : List ℕ) (h : Header) (l : Line) (pins : List ℕ) (first : ℕ) 
       pub from-searched : search-in (job-on b l) m a o first s table entries ≡ plan-in (job-on b l) m a o first s table entries
       from-searched = sym (past-11 ∙ guarded-last (refuse table entries) _ work (le-leb (entry-size * (intervals (job-on b l) - first)) (length entries) (omega (arith, counted-on))))
 
--- all of a job that the set matches, over its own line, from its starting levels
-module _ (b : List ℕ) (h : Header) (s : PinSet) (r : Ready b h s) (l : Line) (is : LineOf b l) (start : Levels) (e : start ≡ start-of h) where
-  begins : start ≡ job-in b .start
-  unfolding start-of
-  begins = e ∙ sym (start-is b h (r .opens))
+-- all of a job that the set matches, over its own line, from levels within it
+module _ (b : List ℕ) (h : Header) (s : PinSet) (r : Ready b h s) where
+  module _ (l : Line) (is : LineOf b l) (start : Levels) (inside : InLayer (job-in b .line) start) where
+    pub plans-from : (pins : List ℕ) → length pins ≡ 512 → PlansFrom b h l pins 0 start
+    plans-from pins n = record {
+      starts = record { opens = r .opens; line = is .fits; pins-size = n };
+      few = omega arith;
+      inside = rw (is .is) inside;
+    }
 
-  pub plans-from : (pins : List ℕ) → length pins ≡ 512 → PlansFrom b h l pins 0 start
-  plans-from pins n = record {
-    starts = record { opens = r .opens; line = is .fits; pins-size = n };
-    few = omega arith;
-    inside = rw (is .is, begins) (start-inside (job-in b) (job-limits b h (r .opens)));
-  }
+    pub plan-on : (a : Aim) (o : Order) (table entries : List ℕ) → plan-in (job-on b l) (lines (h .units) (s .pins)) a o 0 start table entries ≡ plan-in (job-in b) (lines (length (job-in b .units)) (s .pins)) a o 0 start table entries
+    plan-on a o table entries =
+        let own : job-on b l ≡ job-in b = ap (on-line (job-in b)) (is .is) ∙ own-line (job-in b) in
+        rw (own, units-are b h (r .opens))
 
-  pub plan-from-start : (a : Aim) (o : Order) (table entries : List ℕ) → plan-in (job-on b l) (lines (h .units) (s .pins)) a o 0 start table entries ≡ plan-all (job-in b) s a o table entries
-  plan-from-start a o table entries =
-      let own : job-on b l ≡ job-in b = ap (on-line (job-in b)) (is .is) ∙ own-line (job-in b) in
-      rw (own, begins, units-are b h (r .opens))
+  -- from its own starting levels
+  module _ (start : Levels) (e : start ≡ start-of h) where
+    begins : start ≡ job-in b .start
+    unfolding start-of
+    begins = e ∙ sym (start-is b h (r .opens))
+
+    pub starts-inside : InLayer (job-in b .line) start
+    starts-inside = rw begins (start-inside (job-in b) (job-limits b h (r .opens)))
+
+    pub plan-from-start : (a : Aim) (o : Order) (table entries : List ℕ) → plan-in (job-in b) (lines (length (job-in b .units)) (s .pins)) a o 0 start table entries ≡ plan-all (job-in b) s a o table entries
+    plan-from-start a o table entries = rw begins
+
+-- whether levels fit: the first bucket's, then the second's or none
+pub not-fitting : (k l : ℕ) (ks ls : List ℕ) → k < l → false ≡ levels-fit (k ∷ ks) (l ∷ ls)
+unfolding levels-fit if_then_else_
+not-fitting k l ks ls h = rw (lt-leb l k h)
+
+pub fitting-two : (k k2 l l2 : ℕ) (two : Bool) → l ≤ k → (two && leb l2 k2) ≡ levels-fit (k ∷ k2 ∷ []) (l ∷ one-if two l2)
+unfolding levels-fit if_then_else_ one-if
+fitting-two k k2 l l2 true h = rw (le-leb l k h) (itself (leb l2 k2))
+  where
+    itself : (t : Bool) → t ≡ (if t then true else false)
+    itself true = refl
+    itself false = refl
+fitting-two k k2 l l2 false h = rw (le-leb l k h)
+
+pub fitting-one : (k l l2 : ℕ) (two : Bool) → l ≤ k → not two ≡ levels-fit (k ∷ []) (l ∷ one-if two l2)
+unfolding levels-fit if_then_else_ one-if
+fitting-one k l l2 true h = rw (le-leb l k h)
+fitting-one k l l2 false h = rw (le-leb l k h)
+
+-- the sizes that a header tells
+map-sizes : (ks : List Policed) → map (λ (k : Bucket). k .size) (map bucket-of ks) ≡ map (λ k. k .size) ks
+unfolding bucket-of
+map-sizes [] = refl
+map-sizes (k ∷ ks) = ap (λ (l : List ℕ). k .size ∷ l) (map-sizes ks)
+
+-- planning from given levels, of a job that the set matches
+module _ (b : List ℕ) (h : Header) (s : PinSet) (r : Ready b h s) (ls : List ℕ) (t : Bool) (fit : t ≡ levels-fit (map (λ k. k .size) (h .buckets)) ls) where
+  fit-is : levels-fit (sizes (job-in b .line)) ls ≡ t
+  fit-is = ap (λ (ks : List ℕ). levels-fit ks ls) (ap (map (λ (k : Bucket). k .size)) (buckets-are b h (r .opens)) ∙ map-sizes (h .buckets)) ∙ sym fit
+
+  level-is : h .level ≡ job-in b .start .decoder
+  level-is = ap (λ (x : Levels). x .decoder) (sym (start-is b h (r .opens)))
+
+  pub levels-inside : t ≡ true → InLayer (job-in b .line) (record { decoder = h .level; buckets = ls })
+  levels-inside e =
+      let f = fits-iff (job-in b) ls .0 (fit-is ∙ e) in
+      record { decoder = omega (arith, level-is, job-limits b h (r .opens) .level); count = f .count; buckets = f .within }
+
+  module _ (a : Aim) (o : Order) (table entries : List ℕ) where
+    abbrev work-with : Planned
+    work-with = search-in (job-in b) (lines (length (job-in b .units)) (s .pins)) a o 0 (start-with (job-in b) ls) table entries
+
+    pub with-20 : t ≡ false → record { answer = refused 20; table = table; entries = entries } ≡ plan-with (job-in b) s ls a o table entries
+    unfolding plan-with level-tests refuse
+    with-20 e = sym (guarded-here (refuse table entries) _ _ work-with (fit-is ∙ e))
+
+    pub with-levels : t ≡ true → plan-in (job-in b) (lines (length (job-in b .units)) (s .pins)) a o 0 (record { decoder = h .level; buckets = ls }) table entries ≡ plan-with (job-in b) s ls a o table entries
+    unfolding plan-with level-tests plan-in start-with
+    with-levels e = rw level-is (sym (guarded-past (refuse table entries) _ _ work-with (fit-is ∙ e)))
+
+pub levels-refused : (b : List ℕ) (s : PinSet) (ls : List ℕ) (a : Aim) (o : Order) (table entries : List ℕ) (n : ℕ) → checked opening b s ≡ P.refused n → record { answer = refused n; table = table; entries = entries } ≡ levels-call b s ls a o table entries
+unfolding levels-call on-read refuse
+levels-refused b s ls a o table entries n e = rw e
+
+pub levels-took : (b : List ℕ) (s : PinSet) (ls : List ℕ) (a : Aim) (o : Order) (table entries : List ℕ) (j : Job) (n : ℕ) → checked opening b s ≡ P.took j n → plan-with j s ls a o table entries ≡ levels-call b s ls a o table entries
+unfolding levels-call on-read
+levels-took b s ls a o table entries j n e = rw e

@@ -1,8 +1,9 @@
 -- What the answers of this crate mean in the terms of `model` and `planning`, case by case, and what its private functions say and ask.
 use Prim.Native.Nat.{ℕ, _+_, _-_, _*_, _≤_, max}
 use mathlib.Core.Path.{_≡_}
-use mathlib.Core.List.{List}
+use mathlib.Core.List.{List, _∷_}
 use lib.ListN.{length}
+use Rattle.base.specs.If.{one-if}
 use Rattle.base.specs.Answer.{Answer, refused, gives}
 use Rattle.model.specs.Job as model
 use Rattle.model.specs.Pins.{PinMap}
@@ -17,6 +18,7 @@ use Rattle.planning.specs.Words.{table-from}
 use Rattle.planning.specs.Calls as calls
 use Rattle.planner.specs.declared.Planned.{Planned}
 use Rattle.planner.specs.declared.Planned.the-variants as p
+use Rattle.planner.specs.declared.BucketLevels.{BucketLevels}
 use Rattle.planner.specs.declared.Aim.{Aim}
 use Rattle.planner.specs.declared.Aim.the-variants as aim
 use Rattle.line.specs.declared.Line.{Line}
@@ -35,6 +37,10 @@ planned x table entries = record { answer = answered x; table = table; entries =
 unfoldable pub aim-is : Aim → model-best.Aim
 aim-is aim.Total = total
 aim-is aim.Even = even
+
+-- the levels of the buckets
+unfoldable pub bucket-levels : BucketLevels → List ℕ
+bucket-levels l = l .bucket ∷ one-if (l .two) (l .bucket2)
 
 -- What the private functions say and ask.
 

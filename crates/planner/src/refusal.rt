@@ -5,3 +5,6 @@ pub const TABLE: u8 = 11;
 
 // No plan is admissible.
 pub const NO_PLAN: u8 = 13;
+
+// A level of a bucket is above its size, or there is another number of them than the job has buckets (document 02, E12 and E14).
+pub const LEVELS: u8 = 20;

@@ -14,10 +14,9 @@ use Rattle.format.specs.Parser.{Result, took, on-read}
 use Rattle.format.specs.JobBytes.{opening, parse}
 use Rattle.model.specs.Job.{Levels, Job, Entry, intervals}
 use Rattle.model.specs.Pins.{PinMap}
-use Rattle.model.specs.Best.{Order, Open, unlimited, least-total, best-plan, Aim, open-for}
-use Rattle.model.specs.Replay.{greatest-distortion}
-use Rattle.model.specs.Table.{words, IsTable}
-use Rattle.model.specs.Claims.{AimClaim, kept-open}
+use Rattle.model.specs.Best.{Order, Open, least-total, best-plan, Aim, open-for}
+use Rattle.model.specs.Table.{words}
+use Rattle.model.specs.Claims.{AimClaim}
 use Rattle.base.proofs.Answers.{not-refused}
 use Rattle.model.proofs.Walks.{fits-length}
 use Rattle.model.proofs.Evenness.{aims}

@@ -2,8 +2,8 @@
 use Prim.Native.Nat.{ℕ, _+_}
 use mathlib.Core.Path.{_≡_, refl}
 use mathlib.Core.Option.{none, some}
-use mathlib.Core.List.{List, [], _∷_, map}
-use lib.ListN.{getD, replicate, drop}
+use mathlib.Core.List.{[], _∷_, map}
+use lib.ListN.{getD, replicate}
 use Rattle.base.specs.Refusals.{refusal}
 use Rattle.base.specs.Evaluate as base
 use Rattle.trellis.specs.Table.{encode, lowest, charge, offered}
@@ -11,7 +11,7 @@ use Rattle.trellis.specs.Pairs.{row, rows}
 use Rattle.model.specs.Best.{unlimited, late, total}
 use Rattle.model.specs.Evaluate.{evaluate}
 use Rattle.format.specs.Choices.{choice-under, choice-number}
-use Rattle.format.specs.JobBytes.{computes, opening}
+use Rattle.format.specs.JobBytes.{computes}
 use Rattle.format.specs.JobA.{job-a, header-a, coded, bytes-a, bytes-a8}
 use Rattle.format.specs.Parser.{on-read}
 use Rattle.pinning.specs.PinSet.{fresh}

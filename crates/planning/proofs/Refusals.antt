@@ -20,11 +20,11 @@ use Rattle.model.specs.Replay.{Totals, totals}
 use Rattle.model.specs.Best.{Order, Open, least-total, Aim, total, even, open-for}
 use Rattle.model.specs.Table.{words}
 use Rattle.format.specs.Parser.{Result, refused, took, on-read}
-use Rattle.format.specs.JobBytes.{parse, opening}
+use Rattle.format.specs.JobBytes.{opening}
 use Rattle.model.proofs.Evenness.{aims}
 use Rattle.format.proofs.Bounds.{limited, two-doors}
 use Rattle.format.proofs.Places.{well-read}
-use Rattle.pinning.specs.PinSet.{PinSet, lines}
+use Rattle.pinning.specs.PinSet.{lines}
 use Rattle.pinning.specs.Check.{checked}
 use Rattle.pinning.proofs.Agree.{looks-checked, checked-refused}
 use Rattle.replaying.specs.Entries.{entry-size}

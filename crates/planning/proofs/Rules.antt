@@ -1,6 +1,6 @@
 -- The rule of a layer in words, for whatever stands in the next: `RuleWords`.
 use Prim.Native.Nat.{ℕ, zero, suc, _+_, _<_, _≤_, min}
-use mathlib.Core.Path.{_≡_, refl, sym, _∙_, ap}
+use mathlib.Core.Path.{_≡_, refl, sym, _∙_}
 use mathlib.Core.Logic.{_⊎_, inl, inr}
 use mathlib.Core.Option.{Option, none, some}
 use mathlib.Core.List.{List}
@@ -12,7 +12,7 @@ use Rattle.trellis.specs.Table.{charge, offered}
 use Rattle.trellis.specs.Pairs.{pair}
 use Rattle.model.specs.Job.{Line, Coding, Levels}
 use Rattle.model.specs.Step.{Outcome, violates, reaches, outcome-of}
-use Rattle.model.specs.Best.{late, turn, pairs, reached}
+use Rattle.model.specs.Best.{turn, pairs, reached}
 use Rattle.model.specs.Table.{mark, bound, layerWords, stateAt, wordIn}
 use Rattle.base.proofs.Builds.{build-at}
 use Rattle.planning.specs.Rule.{Allowed, coding-offer, pair-offer, least-offer, layer-from}

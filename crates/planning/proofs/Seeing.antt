@@ -1,38 +1,36 @@
 -- Calls that see (document 02, E9): their refusals and what they write, of any table: `SeeCalls`; what a refusal leaves: `SeeKeeps`; what they do to the set: `SeeClicks`; how a next layer's words are read: `WordsRead`; and that the layers behind a unit do not depend on its pin.
-use Prim.Native.Nat.{ℕ, zero, suc, _+_, _-_, _*_, _<_, _≤_}
+use Prim.Native.Nat.{ℕ, zero, suc, _+_, _-_, _*_, _≤_}
 use mathlib.Core.Path.{_≡_, refl, sym, _∙_, ap}
-use mathlib.Core.Bool.{true}
 use mathlib.Core.Option.{Option, none, some}
 use mathlib.Core.List.{List, [], _∷_, _++_}
 use native.Mathlib.Nat.{mul-le-mul-right}
 use native.Mathlib.Omega.{arith}
-use lib.Dec.{leb}
 use lib.ListN.{length, getD}
 use lib.Seq.{getD-set-other}
 use borrow.Author.Tests.{le-leb, lt-leb}
-use Rattle.base.specs.Answer.{refused, gives}
+use Rattle.base.specs.Answer.{refused}
 use Rattle.base.specs.If.{if_then_else_}
 use Rattle.base.proofs.Answers.{not-refused}
-use Rattle.base.specs.Refusals.{Test, refusal, unless, guarded, Condition, condition}
+use Rattle.base.specs.Refusals.{refusal, unless, guarded, Condition, condition}
 use Rattle.base.proofs.Refusals.{AllHold}
 use Rattle.trellis.specs.Table.{charge}
 use Rattle.trellis.specs.Trellis.{Combines}
 use Rattle.model.specs.Job.{Job, intervals}
 use Rattle.model.specs.Pins.{PinMap, Call, pin, lift, pinAt, pinOf, sees}
-use Rattle.model.specs.Best.{Open, unlimited, width}
+use Rattle.model.specs.Best.{unlimited, width}
 use Rattle.model.specs.Table.{bound, layerWords, words, Bounded}
 use Rattle.format.specs.Parser.{Result, took, on-read}
 use Rattle.format.specs.Parser as P
 use Rattle.format.specs.JobBytes.{opening}
 use Rattle.format.specs.Choices.{no-choice, choice-of}
-use Rattle.pinning.specs.PinSet.{PinSet, lines}
+use Rattle.pinning.specs.PinSet.{PinSet}
 use Rattle.pinning.specs.Check.{checked}
 use Rattle.pinning.specs.Calls.{Handed, refuse, take-in, with-pin, without-pin, called, call-of, click-tests, click-in, click}
 use Rattle.pinning.specs.Claims.{CallAsks}
 use Rattle.pinning.proofs.Agree.{looks-checked}
 use Rattle.pinning.proofs.Lines.{lines-set}
 use Rattle.pinning.proofs.Refusals.{sees-decides}
-use Rattle.planning.specs.Rule.{layer-from, allowed-in, refilled}
+use Rattle.planning.specs.Rule.{layer-from, allowed-in}
 use Rattle.planning.specs.Passes.{charged}
 use Rattle.planning.specs.Words.{layer}
 use Rattle.planning.specs.See.{Seen, keep, unit-of, renewed, seen, see-in, see-call}

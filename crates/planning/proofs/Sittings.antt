@@ -1,17 +1,16 @@
 -- Sittings of calls that see (document 02, E9): `Sittings`, `FreshSittings`; what planning leaves is the set's own table: `PlansOwn`; what is lent of it: `Lends`.
-use Prim.Native.Nat.{ℕ, zero, suc, _+_, _-_, _*_, _≤_}
+use Prim.Native.Nat.{ℕ, suc, _+_, _-_, _*_, _≤_}
 use mathlib.Core.Path.{_≡_, refl, sym, _∙_, ap}
 use mathlib.Core.Option.{Option, none, some}
 use mathlib.Core.List.{List, [], _∷_, _++_, append-assoc}
 use native.Mathlib.Omega.{arith}
-use lib.Dec.{leb}
 use lib.ListN.{length, take, drop, replicate, length-replicate, take-append-drop}
 use lib.Seq.{take-at, drop-at, drop-append-le, length-take-le}
 use Rattle.base.specs.Refusals.{refusal, unless, guarded, condition}
 use Rattle.base.proofs.Refusals.{none-refuses}
 use Rattle.trellis.proofs.Optimality.{sum-combines}
 use Rattle.model.specs.Job.{Job, intervals}
-use Rattle.model.specs.Pins.{PinMap, Call, sees, note-click}
+use Rattle.model.specs.Pins.{PinMap, Call, sees}
 use Rattle.model.specs.Best.{Order, late, Open, unlimited, least-total, total, open-for}
 use Rattle.model.specs.Table.{layerWords, words, Bounded}
 use Rattle.model.proofs.TableWords.{table-words}
@@ -22,18 +21,16 @@ use Rattle.format.proofs.Bounds.{bounded, limited, start-inside}
 use Rattle.format.proofs.Places.{well-read}
 use Rattle.pinning.specs.PinSet.{PinSet}
 use Rattle.pinning.specs.Check.{checked}
-use Rattle.pinning.specs.Calls.{refuse, take-in, called, call-of, click-tests, click-in, click, after, run-clicks}
+use Rattle.pinning.specs.Calls.{take-in, called, call-of, click-tests, click-in, click, after, run-clicks}
 use Rattle.pinning.proofs.Agree.{checked-parsed, passes-matches}
 use Rattle.pinning.proofs.History.{Holds, holds-matches, matches-holds, click-follows, holds-checked, one-set-of}
 use Rattle.pinning.proofs.Refusals.{sees-decides}
-use Rattle.replaying.specs.Entries.{entry-size}
-use Rattle.planning.specs.Rule.{refilled}
 use Rattle.planning.specs.Words.{layer, layers, table-from}
 use Rattle.planning.specs.Calls.{searched, search-in, plan-call}
-use Rattle.planning.specs.See.{Seen, keep, unit-of, renewed, seen, see-in, see-call, Sight, lent, Sat, sat, sight, sit, clicks-of}
+use Rattle.planning.specs.See.{keep, unit-of, renewed, seen, see-in, see-call, Sight, lent, Sat, sat, sight, sit, clicks-of}
 use Rattle.planning.specs.Seeing.{pins-of, Own, SittingClaim, PlansOwn, Lends, Sittings, FreshSittings}
 use Rattle.planning.proofs.DemandThree.{plan-searches, plan-checked}
-use Rattle.planning.proofs.Layers.{layers-length, from-rest, from-length, from-table}
+use Rattle.planning.proofs.Layers.{from-rest, from-length, from-table}
 use Rattle.planning.proofs.Refilling.{refilled-pins}
 use Rattle.planning.proofs.Seeing.{asks-unit, same-layer, other-lines, see-clicks}
 

@@ -1,11 +1,10 @@
 -- What is claimed of planning: each claim is a type, which a theorem of proofs/ inhabits. The plans are judged by `Admissible`, which knows neither replay nor search.
-use Prim.Native.Nat.{ℕ, _+_, _-_, _*_, _/_, _%_, _<_, _≤_}
+use Prim.Native.Nat.{ℕ, _+_, _-_, _*_, _<_, _≤_}
 use mathlib.Core.Path.{_≡_}
 use mathlib.Core.Logic.{_↔_}
-use mathlib.Core.Bool.{true}
-use mathlib.Core.Option.{Option, none, some}
-use mathlib.Core.List.{List, [], _∷_, _++_, map}
-use lib.ListN.{length, getD, take, drop}
+use mathlib.Core.Option.{Option, some}
+use mathlib.Core.List.{List, [], _∷_}
+use lib.ListN.{length, take, drop}
 use Rattle.base.specs.Answer.{refused, gives}
 use Rattle.base.specs.Refusals.{condition}
 use Rattle.model.specs.Job.{Line, Coding, Levels, Job, Entry, intervals}
@@ -16,13 +15,13 @@ use Rattle.model.specs.Best.{Order, unlimited, Aim, total, even}
 use Rattle.model.specs.Table.{bound, layerWords, words, IsTable}
 use Rattle.model.specs.Claims.{BestOf, kept-open}
 use Rattle.format.specs.Parser.{took, Looks}
-use Rattle.format.specs.JobBytes.{header-in, parse, opening, archive}
+use Rattle.format.specs.JobBytes.{parse, opening, archive}
 use Rattle.format.specs.Claims.{Drains}
 use Rattle.pinning.specs.PinSet.{PinSet, lines}
 use Rattle.pinning.specs.Check.{Matches, checked}
-use Rattle.pinning.specs.Calls.{Handed, CallsMade, open-call, call, run, run-clicks}
+use Rattle.pinning.specs.Calls.{CallsMade, open-call, run, run-clicks}
 use Rattle.pinning.specs.Claims.{HistoryClaim}
-use Rattle.replaying.specs.Entries.{entry-bytes, plan-from, plan-of, shaped}
+use Rattle.replaying.specs.Entries.{entry-bytes, plan-from}
 use Rattle.planning.specs.Rule.{Allowed, layer-from}
 use Rattle.planning.specs.Prices.{priced-by}
 use Rattle.planning.specs.Calls.{Planned, refuse, plan-call}

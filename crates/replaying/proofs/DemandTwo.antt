@@ -2,14 +2,14 @@
 use Prim.Native.Nat.{ℕ, suc, _+_, _*_, _-_, _<_, _≤_}
 use mathlib.Core.Path.{_≡_, refl, sym, _∙_, ap}
 use mathlib.Core.Logic.{_↔_}
-use mathlib.Core.List.{List, [], _∷_, zipWith}
+use mathlib.Core.List.{List}
 use native.Mathlib.Omega.{arith}
 use native.Mathlib.Nat.{mul-suc, mul-le-mul-left}
 use lib.ListN.{length, getD}
 use lib.IntN.{pos}
 use Rattle.base.specs.Answer.{Answer, gives}
-use Rattle.model.specs.Job.{Bucket, bucketAt, Levels, Job, Entry, intervals, PlanFits}
-use Rattle.model.specs.Levels.{bucketLevel, bucketLevels}
+use Rattle.model.specs.Job.{bucketAt, Levels, Job, Entry, intervals, PlanFits}
+use Rattle.model.specs.Levels.{bucketLevels}
 use Rattle.model.specs.Pins.{PinMap}
 use Rattle.model.specs.Admissible.{Violation, ending, FirstViolation, LevelsOf}
 use Rattle.model.specs.Replay.{Totals, totals, Result, clean, stopped, Replay, replay}

@@ -1,17 +1,15 @@
 -- An old plan is tested for what it was, and turned into entries that are that plan: `Turns`; and these replay as it did: `TurnedReplays`.
-use Prim.Native.Nat.{ℕ, zero, suc, _+_, _*_, _<_, _≤_}
-use mathlib.Core.Path.{_≡_, refl, sym, _∙_, ap, ap₂}
+use Prim.Native.Nat.{ℕ, suc, _+_, _*_, _<_, _≤_}
+use mathlib.Core.Path.{_≡_, refl, sym, _∙_, ap}
 use mathlib.Core.Logic.{_↔_}
-use mathlib.Core.Bool.{Bool, true, false}
-use mathlib.Core.Option.{none, some}
+use mathlib.Core.Bool.{Bool, true}
 use mathlib.Core.List.{List, [], _∷_}
 use native.Mathlib.Decide.{ℕ-discrete}
 use native.Mathlib.Omega.{arith}
-use lib.Dec.{ltb, eqb}
+use lib.Dec.{ltb}
 use lib.ListN.{length, getD, take, drop}
 use lib.Seq.{take-at, ext-getD}
-use borrow.Author.Tests.{eqb-true, eq-eqb, ltb-true, ltb-false, lt-ltb, le-ltb, leb-true, le-leb}
-use Rattle.base.specs.If.{if_then_else_}
+use borrow.Author.Tests.{eqb-true, eq-eqb, ltb-true, ltb-false, lt-ltb, leb-true, le-leb}
 use Rattle.base.specs.Lent.{over, refuse}
 use Rattle.base.specs.Refusals.{condition}
 use Rattle.base.proofs.Tests.{branch, both-true, true-both}
@@ -20,17 +18,13 @@ use Rattle.base.proofs.Lent.{over-length, over-rest}
 use Rattle.base.proofs.Refusals.{no-more, one-more}
 use Rattle.model.specs.Job.{Job, Entry, intervals, PlanFits}
 use Rattle.model.specs.Levels.{no-entry, entryOf}
-use Rattle.model.proofs.Walks.{fits-length}
 use Rattle.format.specs.JobBytes.{header-in, parse, archive}
 use Rattle.format.specs.Parser.{took}
-use Rattle.format.proofs.Bounds.{limited}
 use Rattle.format.proofs.Parsing.{looks-read}
-use Rattle.format.proofs.Places.{well-read}
 use Rattle.format.proofs.Choices.{under-mark, under-choice}
-use Rattle.format.specs.Choices.{choice-under}
-use Rattle.replaying.specs.Entries.{entry-size, entry-under, entries-from, plan-of, shaped, fits-under, entries-fit, entry-bytes}
-use Rattle.replaying.specs.Former.{former-mark, former-choices, former-size, former-rate, former-choice, former-entry, former-plan, former-shaped, turn-tests, turned, turn-call}
-use Rattle.replaying.specs.Claims.{InShape, WasPlan, Was, Turned, Turns, TurnedReplays, DemandTwo}
+use Rattle.replaying.specs.Entries.{entry-under, plan-of, fits-under, entries-fit, entry-bytes}
+use Rattle.replaying.specs.Former.{former-mark, former-rate, former-choice, former-entry, former-plan, former-shaped, turn-tests, turned, turn-call}
+use Rattle.replaying.specs.Claims.{WasPlan, Was, Turned, Turns, TurnedReplays}
 use Rattle.replaying.proofs.Entries.{entries-fit-iff, entries-length, entries-at, entries-eq, bytes-size, plan-bytes}
 use Rattle.replaying.proofs.Reports.{replay-calls}
 

@@ -18,7 +18,7 @@ use Rattle.model.specs.Job.{Job, intervals}
 use Rattle.model.specs.Pins.{no-pins}
 use Rattle.model.specs.Levels.{effectiveBuffer, effectiveBuffers}
 use Rattle.format.specs.Parser.{Result, refused, took, on-read}
-use Rattle.format.specs.JobBytes.{header-in, parse, archive}
+use Rattle.format.specs.JobBytes.{parse, archive}
 use Rattle.format.proofs.Parsing.{looks-read}
 use Rattle.format.proofs.Bounds.{limited}
 use Rattle.format.proofs.Places.{well-read}
@@ -28,7 +28,7 @@ use Rattle.pinning.specs.Calls.{Opening, open-call}
 use Rattle.pinning.proofs.Agree.{looks-checked}
 use Rattle.pinning.proofs.History.{fresh-pins}
 use Rattle.pinning.proofs.Archive.{archived-sets}
-use Rattle.replaying.specs.Entries.{plan-of, shaped}
+use Rattle.replaying.specs.Entries.{plan-of}
 use Rattle.replaying.specs.Calls.{level-count, played, replay-tests, replay-call, reported, report-tests, report-call}
 use Rattle.replaying.specs.Former.{turn-tests, turned, turn-call}
 use Rattle.replaying.specs.Claims.{InShape, Reported, DemandTwo, ReplayCalls, ArchiveReplays, Reports, Keeps}

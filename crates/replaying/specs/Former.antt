@@ -1,5 +1,5 @@
 -- Plans as they were stored before document 02, E6: two bytes an interval, the rate index and the choice index, 255 where no unit is decoded. Turning one into the entries of today keeps every rate and choice.
-use Prim.Native.Nat.{ℕ, suc, _+_, _*_}
+use Prim.Native.Nat.{ℕ, _+_, _*_}
 use mathlib.Core.Bool.{Bool, false}
 use mathlib.Core.List.{List, [], _∷_}
 use lib.Dec.{eqb, leb}

@@ -8,7 +8,7 @@ use native.Mathlib.Omega.{arith}
 use lib.ListN.{length, getD, drop, List·getD-eq-default}
 use Rattle.model.specs.Job.{Job, Entry, sends}
 use Rattle.model.specs.Levels.{entryOf, sent, sentAfter, effectiveBuffer, effectiveBuffers}
-use Rattle.base.specs.Lists.{sum, build, gathered}
+use Rattle.base.specs.Lists.{build, gathered}
 use Rattle.base.proofs.Builds.{build-length}
 use Rattle.model.proofs.Buffers.{running-buffers}
 use Rattle.format.specs.Claims.{InLimits}

@@ -2,12 +2,12 @@
 use Prim.Native.Nat.{ℕ, _+_, _-_, _*_, _≤_}
 use mathlib.Core.Path.{_≡_, sym, _∙_, ap}
 use mathlib.Core.List.{List}
-use native.Mathlib.Nat.{mul-le-mul-right, one-mul, add-mul}
+use native.Mathlib.Nat.{mul-le-mul-right, one-mul}
 use native.Mathlib.Omega.{arith}
 use lib.ListN.{length}
 use Rattle.model.specs.Job.{Levels, Job, intervals, on-line}
-use Rattle.model.specs.Best.{Open, unlimited}
-use Rattle.model.specs.Table.{InLayer, layerWords, words, wordAt, layerOf, wordIn}
+use Rattle.model.specs.Best.{unlimited}
+use Rattle.model.specs.Table.{InLayer, layerWords, words, layerOf, wordIn}
 use Rattle.model.proofs.Lines.{own-line}
 use Rattle.model.proofs.Layers.{word-in-layer}
 use Rattle.format.specs.JobBytes.{Header, job-in, Opens}

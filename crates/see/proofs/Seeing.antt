@@ -1,25 +1,24 @@
 -- What a call that sees answers, from what the pin or the lift under it answered.
-use Prim.Native.Nat.{ℕ, _+_, _<_, _≤_}
+use Prim.Native.Nat.{ℕ, _<_, _≤_}
 use mathlib.Core.Path.{_≡_, refl, sym, _∙_, ap}
 use mathlib.Core.Option.{Option, none, some}
-use mathlib.Core.List.{List, [], _∷_, _++_}
+use mathlib.Core.List.{List, [], _∷_}
 use native.Mathlib.Omega.{arith}
 use lib.Dec.{leb}
 use lib.ListN.{length}
 use borrow.Author.Tests.{lt-leb, le-leb}
 use Rattle.base.specs.Answer.{refused, gives}
-use Rattle.base.specs.Refusals.{test, refusal, unless, first, guarded}
+use Rattle.base.specs.Refusals.{test, refusal, unless, guarded}
 use Rattle.base.proofs.Refusals.{not-none, some-same, refusal-here, refusal-last, refusal-join, none-refuses, AllHold}
 use Rattle.model.specs.Job.{Job}
-use Rattle.model.specs.Pins.{PinMap, Call, pin, lift, sees}
-use Rattle.model.specs.Table.{words, wordAt}
+use Rattle.model.specs.Pins.{PinMap, Call, pin, lift}
+use Rattle.model.specs.Table.{words}
 use Rattle.format.specs.Parser as P
 use Rattle.format.specs.Parser.{Result, took, on-read}
-use Rattle.format.specs.JobBytes.{Header, header-in, opening, parse, job-in}
+use Rattle.format.specs.JobBytes.{opening, parse, job-in}
 use Rattle.format.proofs.Bounds.{limited}
 use Rattle.format.proofs.Opened.{held-job, units-are}
 use Rattle.format.proofs.Places.{well-read}
-use Rattle.job.proofs.Answers.{Held}
 use Rattle.pinning.specs.PinSet.{PinSet, lines}
 use Rattle.pinning.specs.Check.{checked, Ready}
 use Rattle.pinning.specs.Calls.{Handed, refuse, take-in, called, call-tests, call-in, call, click-tests}
@@ -30,7 +29,7 @@ use Rattle.pinning.proofs.Refusals.{call-decides}
 use Rattle.pinset.proofs.Answering.{ready}
 use Rattle.table.specs.Answers.{table-words}
 use Rattle.table.proofs.Words.{words-are}
-use Rattle.planning.specs.See.{Seen, keep, unit-of, renewed, seen, see-in, see-call}
+use Rattle.planning.specs.See.{keep, unit-of, seen, see-in, see-call}
 use Rattle.planning.specs.Seeing.{refused-by}
 use Rattle.see.specs.Answers.{Renews, Renewed}
 

@@ -2,7 +2,7 @@
 use Prim.Native.Nat.{ℕ, suc, _+_, _*_, _/_, _<_, _≤_}
 use mathlib.Core.Path.{_≡_, sym, _∙_, ap₂}
 use mathlib.Core.Bool.{true, false}
-use mathlib.Core.Option.{Option, none, some}
+use mathlib.Core.Option.{none, some}
 use mathlib.Core.List.{List, [], _∷_, _++_}
 use native.Mathlib.Omega.{arith}
 use lib.Dec.{leb}
@@ -19,7 +19,7 @@ use Rattle.model.specs.Table.{words}
 use Rattle.format.specs.Parser as P
 use Rattle.format.specs.JobBytes.{Header, opening, archive, job-in, parse, Opens}
 use Rattle.format.proofs.Parsing.{passed}
-use Rattle.format.proofs.Opened.{job-formed, intervals-are}
+use Rattle.format.proofs.Opened.{intervals-are}
 use Rattle.job.proofs.Answers.{Passes}
 use Rattle.pinning.specs.PinSet.{PinSet}
 use Rattle.pinset.specs.declared.PinSet as code-set

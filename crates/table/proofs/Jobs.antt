@@ -12,7 +12,7 @@ use Rattle.trellis.specs.Limit.{keeps-to, only}
 use Rattle.base.specs.If.{if_then_else_, one-if}
 use Rattle.model.specs.Job as model
 use Rattle.model.specs.Job.{bucketAt, on-line, codingAt, coding}
-use Rattle.model.specs.Pins.{PinMap, pinOf, pinAt}
+use Rattle.model.specs.Pins.{pinOf, pinAt}
 use Rattle.model.specs.Step.{pin-held}
 use Rattle.model.specs.Best.{entry, width, Open}
 use Rattle.model.proofs.Lines.{coding-on}

@@ -6,6 +6,7 @@ ghost use Rattle.model.specs.Pins.{pin, lift};
 ghost use Rattle.contract.specs.Answers.{contract};
 ghost use Rattle.exporting.specs.Changes.{change-export};
 ghost use Rattle.exporting.specs.Larger.{listed, sizes-export};
+ghost use Rattle.exporting.specs.Playlists.{playlisted, playlist-export};
 ghost use Rattle.exporting.specs.Sets.{set-export, call-export, seen, see-export, set-planned, set-plan-export, set-replay-export};
 ghost use Rattle.exporting.specs.Exports.{opened, open-export, called, calls-export, planned, plan-export, replayed, replay-export, filled, report-export, turn-export, written, write-export, trial-export};
 use header::Door;
@@ -220,6 +221,20 @@ pub extern "C" fn upload_sizes(
     ensures { λ r. ⌜ listed r (now (table .exit)) (now (totals .exit)) ≡ sizes-export (now (job .entry)) (now (set .entry)) (now (table .entry)) (now (totals .entry)) ⌝ }
 {
     enlarged::least_totals(job, set, table, totals)
+}
+
+// Plans the programmes of a playlist, each a job's first byte and its length in `bytes`, from the bucket levels at which the last one ended. Plans stand behind each other, totals five a programme. The answer is 0, the number of a refusal of the list, or 256 times the place, counted from 1, of the first programme that is refused, and its number.
+#[no_mangle]
+pub extern "C" fn upload_playlist(
+    bytes: &[u8],
+    programmes: &[u32],
+    table: &mut [u32],
+    entries: &mut [u8],
+    totals: &mut [u64],
+) -> u32
+    ensures { λ r. ⌜ playlisted r (now (table .exit)) (now (entries .exit)) (now (totals .exit)) ≡ playlist-export (now (bytes .entry)) (now (programmes .entry)) (now (table .entry)) (now (entries .entry)) (now (totals .entry)) ⌝ }
+{
+    listed::plan_list(bytes, programmes, table, entries, totals)
 }
 
 // Writes a job from the nine fields of its header, or twelve, its rates, and sizes and distortions by unit and choice, unit after unit. Values: how many bytes the job took. Another number of fields is no header.

@@ -2,7 +2,7 @@
 use Prim.Native.Nat.{ℕ, _<_, _≤_}
 use mathlib.Core.Path.{_≡_, refl, sym, ap, _∙_}
 use mathlib.Core.Option.{Option, none, some}
-use mathlib.Core.List.{List, [], _∷_, _++_}
+use mathlib.Core.List.{List, [], _∷_}
 use borrow.Author.Tests.{lt-leb, le-leb, leb-true}
 use lib.Dec.{leb}
 use lib.ListN.{length}
@@ -15,7 +15,7 @@ use Rattle.base.proofs.Lent.{refuse-keeps, gives-keeps}
 use Rattle.format.specs.Limits.{broken, AllKept}
 use Rattle.format.specs.JobBytes.{Header, header-limits, rate-limits, coding-limits, encode, opening, drain-limits, largest-sizes}
 use Rattle.format.specs.Places.{job-size}
-use Rattle.format.proofs.Limits.{broken-one, none-broken, all-kept, all-kept-join}
+use Rattle.format.proofs.Limits.{broken-one, none-broken, all-kept}
 use Rattle.format.specs.Claims.{Idle}
 use Rattle.format.proofs.Doors.{drains-number, none-idle, all-drain, idle-or}
 use Rattle.format.proofs.Opening.{kept-drains, header-number, rates-number, codings-number}

@@ -1,5 +1,5 @@
 -- `calls::put_numbers` meets its contract.
-use Rattle.calls.proofs.Making.{ran-start, ran-on, Going, going-start, going-on, going-end}
+use Rattle.calls.proofs.Making.{ran-on, Going, going-start, going-on, going-end}
 use Rattle.pinset.specs.Answers.{set-of}
 use Rattle.pins.specs.Answers.{opening, handed}
 use Rattle.pinning.specs.Calls.{Opening}

@@ -1,5 +1,6 @@
 -- `change::plan_rest` meets its contract: a refusal keeps the entries, and a plan stands behind those that remain.
-use Rattle.change.proofs.Rest.{part-all, put-back, rest-refused, rest-best, adds}
+use Rattle.base.proofs.Lent.{part-all, put-back}
+use Rattle.change.proofs.Rest.{rest-refused, rest-best, adds}
 use Rattle.planner.specs.Answers.{planned, aim-is}
 use Rattle.planner.specs.declared.Planned.{Planned}
 use Rattle.planner.specs.declared.Planned.the-variants as p

@@ -1,5 +1,5 @@
 -- `editor::note` meets its contract.
-use mathlib.Core.Path.{refl, sym, _∙_, ap}
+use mathlib.Core.Path.{refl, ap}
 use Rattle.pins.specs.Answers.{number, handed}
 use Rattle.exporting.specs.Sets.{after-call}
 use borrow.Author.Needs.{needs}

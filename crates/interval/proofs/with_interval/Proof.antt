@@ -1,14 +1,13 @@
 -- `interval::with_interval` meets its contract.
 use Rattle.interval.proofs.Steps.{second-unused, second-room, more-parts}
 -- `interval::with_interval` meets its contract.
-use Prim.Native.Nat.{_+_}
 -- `interval::with_interval` meets its contract.
 use mathlib.Core.Path.{ap}
 use native.Mathlib.Omega.{arith}
 use Rattle.model.specs.Step.{Drained, bucket-step}
 use Rattle.model.proofs.Sums.{totals-same}
-use mathlib.Core.Path.{refl, ap₂}
-use mathlib.Core.List.{_∷_, zipWith}
+use mathlib.Core.Path.{refl}
+use mathlib.Core.List.{zipWith}
 use Rattle.parts.specs.Answers.{drained}
 use Rattle.interval.specs.Answers.{totals-of, added, line-of, levels-of}
 use Rattle.interval.proofs.Steps.{second-unused, second-room}

@@ -1,7 +1,5 @@
 -- `pins::pin_line` meets its contract: 7, 8 and 9 in this order, else the pin is set and the totals do not overflow.
 use Rattle.pins.proofs.Totals.{room}
-use Rattle.format.proofs.Opened.{choices-are, job-limits}
-use native.Mathlib.Omega.{arith}
 use Rattle.pins.proofs.Calls.{pin-seven, pin-eight, pin-nine, pin-taken, place-below}
 use Rattle.pinset.specs.Answers.{set-of}
 use Rattle.pins.specs.Answers.{number, handed}

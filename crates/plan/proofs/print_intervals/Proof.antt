@@ -1,8 +1,6 @@
 -- `plan::print_intervals` meets its contract: every part that it takes is there.
 use Rattle.plan.proofs.Levels.{few-each, levels-most}
-use mathlib.Core.Path.{_≡_}
-use lib.ListN.{length}
-use Prim.Native.Nat.{ℕ, _≤_, _<_, _-_, _+_, _*_}
+use Prim.Native.Nat.{_≤_, _-_}
 use native.Mathlib.Omega.{arith}
 use borrow.Author.Needs.{needs}
 use Rattle.plan.proofs.print_intervals.Statement.{statement}

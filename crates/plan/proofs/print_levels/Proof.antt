@@ -1,8 +1,6 @@
 -- `plan::print_levels` meets its contract: every level that it reads is there.
-use mathlib.Core.Path.{_≡_}
 use lib.ListN.{length}
-use Prim.Native.Nat.{ℕ, _≤_, _<_, _-_, _+_, _*_}
-use native.Mathlib.Omega.{arith}
+use Prim.Native.Nat.{_≤_, _-_}
 use borrow.Author.Needs.{needs}
 use Rattle.plan.proofs.print_levels.Statement.{statement}
 use Rattle.plan.proofs.print_levels.Tie as tie

@@ -1,5 +1,5 @@
 -- `planned::set_refusal` meets its contract.
-use mathlib.Core.Path.{_≡_, sym, _∙_, ap}
+use mathlib.Core.Path.{sym, _∙_, ap}
 use native.Mathlib.Omega.{arith}
 use Rattle.header.specs.Answers.{plain, verdict, door-of}
 use Rattle.pinset.specs.Answers.{set-of}

@@ -1,14 +1,12 @@
 -- `planner::least_greatest` meets its contract.
 use Rattle.planner.proofs.Answering.{start-asked, no-limit, limit-is}
-use Rattle.planner.specs.Answers.{LimitFor}
 use Rattle.trellis.proofs.Optimality.{greatest-combines}
 use Rattle.decoder.specs.Answers.{combine}
-use Rattle.table.specs.Answers.{job-on, limit-of}
+use Rattle.table.specs.Answers.{limit-of}
 use Rattle.pinning.specs.PinSet.{lines}
 use Rattle.header.specs.Answers.{plain}
-use Rattle.interval.specs.Answers.{levels-of}
 use Rattle.model.specs.Best.{unlimited}
-use mathlib.Core.Path.{_≡_, sym, _∙_}
+use mathlib.Core.Path.{sym, _∙_}
 use Prim.Native.Nat.{max}
 use borrow.Author.Needs.{needs}
 use Rattle.planner.proofs.least_greatest.Statement.{statement}

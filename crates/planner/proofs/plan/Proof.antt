@@ -1,5 +1,5 @@
 -- `planner::plan` meets its contract.
-use Rattle.planner.proofs.Answering.{plan-refused, plan-took}
+use Rattle.planner.proofs.Answering.{starts-inside, plan-from-start, plan-refused, plan-took}
 use Rattle.planner.specs.Answers.{answered, planned}
 use Rattle.pinset.specs.Answers.{set-of}
 use Rattle.pinset.proofs.Answering.{ready, ready-took}
@@ -19,12 +19,17 @@ enum-known-n c = search needs
 enum-known-header : tie.Need-enum-known-header
 enum-known-header c = search needs
 
+start-requires : tie.Need-start-requires
+start-requires c κs = search needs
+
 plan-checked-requires : tie.Need-plan-checked-requires
 unfolding set-of door-of
 plan-checked-requires c κs =
-    let h = c .before .before .before in
+    let st = c .before .before in
+    let h = st .before .before in
     let check = h .before .before .check in
-    ready _ _ _ _ _ (answer-took _ (check .result) _ _ (check .ensures .1) (h .header .given .1)) (check .ensures .0)
+    let r = ready _ _ _ _ _ (answer-took _ (check .result) _ _ (check .ensures .1) (h .header .given .1)) (check .ensures .0) in
+    (r, starts-inside _ _ _ r _ (st .start .ensures))
 
 returns : tie.Need-returns
 unfolding planned answered door-of
@@ -43,9 +48,11 @@ returns-2 : tie.Need-returns-2
 unfolding set-of door-of
 returns-2 c =
     let p = c .before .before .before .before in
-    let h = p .before .before .before .before in
+    let st = p .before .before .before in
+    let h = st .before .before in
     let check = h .before .before .check in
-    p .plan-checked .ensures ∙ plan-took _ _ _ _ _ _ _ _ (ready-took _ _ _ _ _ (answer-took _ (check .result) _ _ (check .ensures .1) (h .header .given .1)) (check .ensures .0))
+    let took = answer-took _ (check .result) _ _ (check .ensures .1) (h .header .given .1) in
+    p .plan-checked .ensures ∙ plan-from-start _ _ _ (ready _ _ _ _ _ took (check .ensures .0)) _ (st .start .ensures) _ _ _ _ ∙ plan-took _ _ _ _ _ _ _ _ (ready-took _ _ _ _ _ took (check .ensures .0))
 
 pub plan-spec : {M : Type 1} → statement M
 plan-spec =
@@ -54,6 +61,7 @@ plan-spec =
     check-requires
     enum-known-n
     enum-known-header
+    start-requires
     plan-checked-requires
     returns
     same-length

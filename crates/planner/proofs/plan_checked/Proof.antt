@@ -1,6 +1,6 @@
 -- `planner::plan_checked` meets its contract.
 use Rattle.header.specs.Answers.{plain}
-use Rattle.planner.proofs.Answering.{plans-from, plan-from-start}
+use Rattle.planner.proofs.Answering.{plans-from, plan-on}
 use Rattle.pinset.specs.Answers.{set-of}
 use mathlib.Core.Path.{_∙_}
 use borrow.Author.Needs.{needs}
@@ -8,16 +8,14 @@ use Rattle.planner.proofs.plan_checked.Statement.{statement}
 use Rattle.planner.proofs.plan_checked.Tie as tie
 
 line-in-requires : tie.Need-line-in-requires
-line-in-requires c κs = c .before .before .before .before .pre .opens
+line-in-requires c κs = c .before .before .before .before .pre .0 .opens
 
-start-requires : tie.Need-start-requires
-start-requires c κs = search needs
-
-plan-from-requires : tie.Need-plan-from-requires
+plan-rest-requires : tie.Need-plan-rest-requires
 unfolding set-of
-plan-from-requires c κs =
-    let r = c .before .before .before .before .before .before .before .before .before .pre in
-    plans-from _ _ _ r _ (c .before .before .before .before .line-in .ensures) _ (c .before .before .before .start .ensures) _ (r .size)
+plan-rest-requires c κs =
+    let l = c .before .before .before in
+    let r = l .before .before .before .before .before .pre in
+    plans-from _ _ _ (r .0) _ (l .line-in .ensures) _ (r .1) _ (r .0 .size)
 
 same-length : tie.Need-same-length
 same-length c = search needs
@@ -29,9 +27,11 @@ returns : tie.Need-returns
 unfolding plain set-of
 returns c =
     let p = c .before .before .before .before in
-    p .plan-from .ensures ∙ plan-from-start _ _ _ (p .before .before .before .before .before .before .before .before .before .before .pre) _ (p .before .before .before .before .before .line-in .ensures) _ (p .before .before .before .before .start .ensures) _ _ _ _
+    let l = p .before .before .before .before in
+    let r = l .before .before .before .before .before .pre in
+    p .plan-rest .ensures ∙ plan-on _ _ _ (r .0) _ (l .line-in .ensures) _ (r .1) _ _ _ _
 
 pub plan-checked-spec : {M : Type 1} → statement M
 plan-checked-spec =
     tie.close
-    (tie.spec line-in-requires start-requires plan-from-requires same-length same-length-2 returns)
+    (tie.spec line-in-requires plan-rest-requires same-length same-length-2 returns)

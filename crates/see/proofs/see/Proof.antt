@@ -1,8 +1,7 @@
 -- `see::see` meets its contract.
-use mathlib.Core.Path.{_≡_, refl, sym, _∙_, ap}
+use mathlib.Core.Path.{_≡_, sym, _∙_, ap}
 use native.Mathlib.Omega.{arith}
 use lib.ListN.{length}
-use Rattle.header.specs.Answers.{plain}
 use Rattle.pins.specs.declared.Answer.{Answer}
 use Rattle.pins.specs.Answers.{number, handed}
 use Rattle.pinset.specs.Answers.{set-of}

@@ -3,7 +3,6 @@ use Rattle.calling.specs.Sessions.{aim-named}
 use Rattle.planner.specs.Answers.{aim-is}
 use Rattle.base.specs.If.{if_then_else_}
 use borrow.Author.Tests.{eq-eqb, ne-eqb}
-use borrow.Author.Needs.{needs}
 use Rattle.session.proofs.aim_named.Statement.{statement}
 use Rattle.session.proofs.aim_named.Tie as tie
 

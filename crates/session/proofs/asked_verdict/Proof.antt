@@ -2,7 +2,6 @@
 use Rattle.header.specs.Answers.{verdict}
 use Rattle.base.specs.Refusals.{refusal}
 use Rattle.base.proofs.Refusals.{refusal-join, unless-some, unless-none}
-use Rattle.calling.specs.Commands.{calls-tests}
 use Rattle.calling.specs.Sessions.{named-tests, asked-tests}
 use mathlib.Core.Path.{sym, _∙_, ap}
 use mathlib.Core.Option.{some}

@@ -3,7 +3,6 @@ use Rattle.calling.specs.Sessions.{order-named}
 use Rattle.best.specs.Answers.{order-is}
 use Rattle.base.specs.If.{if_then_else_}
 use borrow.Author.Tests.{eq-eqb, ne-eqb}
-use borrow.Author.Needs.{needs}
 use Rattle.session.proofs.order_named.Statement.{statement}
 use Rattle.session.proofs.order_named.Tie as tie
 

@@ -1,5 +1,5 @@
 -- `viewer::unseen` meets its contract.
-use mathlib.Core.Path.{refl, sym, _∙_, ap}
+use mathlib.Core.Path.{refl}
 use borrow.Author.Tests.{lt-ltb, le-ltb}
 use Rattle.base.specs.If.{if_then_else_}
 use Rattle.pinset.specs.Answers.{set-of}

@@ -1,8 +1,7 @@
 -- `header::Bucket::second_in` meets its contract: none, or the three fields behind the nine.
 use native.Mathlib.Omega.{arith}
 use borrow.Author.Tests.{not-true, not-false}
-use Rattle.base.specs.If.{if_then_else_}
-use Rattle.header.specs.Answers.{extra, policed-of}
+use Rattle.header.specs.Answers.{policed-of}
 use Rattle.header.proofs.Fields.{no-second, second-made, two-room}
 use borrow.Author.Needs.{needs}
 use Rattle.header.proofs.Bucket.second_in.Statement.{statement}

@@ -1,7 +1,7 @@
 -- `header::Header::buckets_fit` meets its contract: the first bucket, then the second where there is one.
 use mathlib.Core.Path.{sym, _∙_}
 use borrow.Author.Tests.{not-true, not-false}
-use Rattle.header.specs.Answers.{plain, policed-of}
+use Rattle.header.specs.Answers.{plain}
 use Rattle.header.proofs.Verdicts.{first-not, one-fits, two-fit}
 use borrow.Author.Needs.{needs}
 use Rattle.header.proofs.Header.buckets_fit.Statement.{statement}

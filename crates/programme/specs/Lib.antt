@@ -1,0 +1,2 @@
+-- What numbers a list of programmes is.
+pub mod Programmes
