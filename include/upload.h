@@ -45,7 +45,8 @@
    A list is a pointer and a count of its numbers. One that is written may be
    longer than needed; what stands past the part named as written keeps its
    values. A pointer is never null, also where the count is 0, and is aligned
-   for its type. A list that is written overlaps no other list.
+   for its type. A list that is written overlaps no other list: nothing notices one
+   that does, and what is then answered and written is silently wrong.
 
    Each function answers 0, or the number of the refusal; upload_playlist tells the
    programme's place in the same number. Wherever a job is read, its own numbers
@@ -89,6 +90,8 @@
 #ifdef __cplusplus
 extern "C" {
 #endif
+
+#define UPLOAD_VERSION "0.1.0"
 
 /* What a function answers. */
 enum upload_refusal {
@@ -637,6 +640,85 @@ uint32_t upload_trial(const uint16_t *fields, size_t fields_len,
                       uint32_t state,
                       uint8_t *job, size_t job_len,
                       uint64_t *values, size_t values_len);
+
+/* What a refusal says, in words, by its number; of upload_playlist's answer by
+   UPLOAD_NUMBER of it. */
+static inline const char *upload_refusal_words(uint32_t number)
+{
+    switch (number) {
+    case UPLOAD_OK:
+        return "not refused";
+    case UPLOAD_CUT:
+        return "the bytes end before a record that is due is whole, or the last call is cut";
+    case UPLOAD_WRONG_RECORD:
+        return "a record, an aim, an order or a call of another kind or length than the one due";
+    case UPLOAD_HEADER:
+        return "a field of the header or a number of a contract is out of range, or there are "
+               "more or fewer than are due";
+    case UPLOAD_RATES:
+        return "a rate is over 4,095, or the rates do not rise";
+    case UPLOAD_CHOICES:
+        return "a choice's grains or distortion are over their limit";
+    case UPLOAD_OTHER_JOB:
+        return "the set of pins does not fit the job";
+    case UPLOAD_NO_SUCH_UNIT:
+        return "the job has no such unit";
+    case UPLOAD_NO_SUCH_CHOICE:
+        return "the unit has no such choice";
+    case UPLOAD_PINNED:
+        return "the unit is pinned already";
+    case UPLOAD_NOT_PINNED:
+        return "the unit is not pinned";
+    case UPLOAD_TABLE_TOO_SHORT:
+        return "the table has fewer words than planning needs";
+    case UPLOAD_LIST_TOO_SHORT:
+        return "a list that is to be filled is too short";
+    case UPLOAD_NO_PLAN:
+        return "no plan is admissible";
+    case UPLOAD_NOT_A_PLAN:
+        return "the entries are not a plan of this job";
+    case UPLOAD_INPUT_TOO_LONG:
+        return "the input is longer than 32,768 bytes";
+    case UPLOAD_LENGTHS:
+        return "a list's length is not what the header calls for";
+    case UPLOAD_NEVER_DRAINS:
+        return "the drain of a bucket is 0, so that the line never drains";
+    case UPLOAD_NOT_WITHIN:
+        return "the contract does not change within the programme";
+    case UPLOAD_OLD_VIOLATION:
+        return "the old plan has a violation before the contract changes";
+    case UPLOAD_CARRIED_OVER:
+        return "the level of a bucket is over its size in the new contract or the next programme";
+    case UPLOAD_NOT_A_LIST:
+        return "the playlist has no entry, or more than 64";
+    case UPLOAD_PROGRAMME:
+        return "an entry passes the bytes, bytes are left behind its job, or it has another "
+               "number of buckets than the first";
+    default:
+        return "no refusal has this number";
+    }
+}
+
+/* What replay found, in words, by its number. */
+static inline const char *upload_violation_words(uint64_t number)
+{
+    switch (number) {
+    case UPLOAD_CLEAN:
+        return "no violation";
+    case UPLOAD_DECODER_SHORT:
+        return "decoder short";
+    case UPLOAD_DECODER_OVER:
+        return "decoder over";
+    case UPLOAD_BUCKET_OVER:
+        return "bucket over";
+    case UPLOAD_PIN_NOT_HELD:
+        return "pin not held";
+    case UPLOAD_SECOND_BUCKET_OVER:
+        return "second bucket over";
+    default:
+        return "no violation has this number";
+    }
+}
 
 #ifdef __cplusplus
 }

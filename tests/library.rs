@@ -19,6 +19,7 @@
 //! rustc -O --edition 2021 --extern upload_planner=libupload_planner.rlib \
 //!     -o library tests/library.rs
 //! library [SEED] [--no-full] [--small] [--examples DIR]
+//! library --words
 //! ```
 //!
 //! SEED repeats the run whose new seed was SEED; without it the clock gives
@@ -26,7 +27,9 @@
 //! of the time. `--small` keeps to few and small jobs, takes no times and lends
 //! every list as a piece of memory of its own, for runs that watch each access to
 //! memory. `--examples` adds a group: the job of each X.bin in DIR is written
-//! again, and planned with one distortion changed.
+//! again, and planned with one distortion changed. `--words` tests nothing: it
+//! prints the words of every refusal and violation, to be compared with those of
+//! the C header.
 
 use std::collections::{BTreeMap, BTreeSet};
 use std::fmt::{Debug, Display};
@@ -12497,6 +12500,26 @@ fn run_all(new_seed: u64, with_full: bool, examples: Option<&Path>) -> bool {
     passed == results.len()
 }
 
+/// The words of every refusal and violation, as `tests/words.c` prints those of the C header.
+fn print_words() {
+    for number in 1..=22 {
+        println!("{number} {}", upload_planner::Refusal::from_number(number).unwrap());
+    }
+    let violations = [
+        Violation::DecoderShort,
+        Violation::DecoderOver,
+        Violation::BucketOver,
+        Violation::PinNotHeld,
+        Violation::SecondBucketOver,
+    ];
+    for (at, violation) in violations.iter().enumerate() {
+        println!("violation {} {violation}", at + 1);
+    }
+    let manifest = include_str!("../bindings/rust/Cargo.toml");
+    let version = manifest.lines().find_map(|line| line.strip_prefix("version = "));
+    println!("version {}", version.unwrap().trim_matches('"'));
+}
+
 fn main() -> ExitCode {
     let (mut seed, mut with_full, mut examples) = (None, true, None);
     let mut arguments = std::env::args().skip(1);
@@ -12514,13 +12537,17 @@ fn main() -> ExitCode {
                 examples = arguments.next().map(PathBuf::from);
                 examples.is_some()
             }
+            "--words" => {
+                print_words();
+                return ExitCode::SUCCESS;
+            }
             number => {
                 seed = number.parse().ok();
                 seed.is_some()
             }
         };
         if !known {
-            println!("usage: library [SEED] [--no-full] [--small] [--examples DIR]");
+            println!("usage: library [SEED] [--no-full] [--small] [--examples DIR], or library --words");
             return ExitCode::from(2);
         }
     }
