@@ -11306,13 +11306,14 @@ fn playlist_rows() -> Vec<PlaylistRow> {
         ),
         (vec![two([2, 2, 0]); 2], vec![fine_a([2, 2]), fine_a([0, 0])], None),
         // The second drains 1, and 0, 2 and 2 grains bring it to 0, 1 and 2. From 2 they would
-        // bring it to 3, and from 3 to 4. A drain of 4 leaves nothing in it.
+        // bring it to 3, for which a size of 3 is enough. From 3 a drain of 4 empties it.
         (vec![two([2, 1, 0]); 2], vec![coarse_a([2, 1])], Some((2, 13))),
         (
             vec![two([2, 1, 0]), two([3, 1, 0]), two([3, 4, 3])],
             vec![coarse_a([2, 1]), coarse_a([2, 0]), fine_a([2, 3])],
             None,
         ),
+        // Of a size of 3 it takes 2, 2 and 2 grains, to 1, 2 and 3; and from 3 no four.
         (
             vec![two([3, 1, 0]); 2],
             vec![(vec![(1, NO_CHOICE), (1, 0), (1, 1)], [50, 6, 6, 0, 0])],
@@ -11391,7 +11392,7 @@ fn check_jobs_in_jobs(rng: &mut Rng) -> Checked {
         let ask = Listing::of(outer.clone(), order.map(entry).concat());
         let mut check = || -> Checked {
             let played = check_played(rng, &ask)?;
-            // The bucket has room for two grains more of the one that is within at a time.
+            // The one within leaves 4 in a bucket of 5, and cannot be sent again at once.
             let twice = order == [1, 1, 0];
             same("jobs in jobs", if twice { 2 * 256 + 13 } else { 0 }, played.answer())?;
             check_one_by_one(&ask, &played)?;
@@ -11412,6 +11413,7 @@ fn check_jobs_in_jobs(rng: &mut Rng) -> Checked {
 fn entries_group() -> Result<String, String> {
     let mut rng = Rng(1);
     let job = in_one_interval([3, 1, 0], &[0, 2], &[(2, 0), (0, 4)]).bytes();
+    // The other bytes begin as a header does, so that they are looked at.
     let (before, behind) = (vec![20, 0, 1, 0, 1], vec![0, 3, 0]);
     let bytes = [before.clone(), job.clone(), behind].concat();
     let (at, whole, end) = (before.len() as u64, job.len() as u64, bytes.len() as u64);
@@ -11742,10 +11744,7 @@ fn check_playlist_order(
             let [first, length] = [ask.entries[2 * place], ask.entries[2 * place + 1]];
             let end = ask.bytes.len() as u32;
             // A number whose sum with this one has 33 bits.
-            let mut wraps = |number: u32| match number {
-                0 => u32::MAX,
-                _ => 0u32.wrapping_sub(rng.from(1, number as usize) as u32),
-            };
+            let mut wraps = |number: u32| 0u32.wrapping_sub(rng.from(1, number as usize) as u32);
             let passing = [
                 [first, end - first + 1],
                 [end + 1, 0],
