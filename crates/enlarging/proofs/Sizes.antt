@@ -51,7 +51,7 @@ module _ (j : Job) (m : PinMap) (b : Bounded j) (small : own-size j ≤ 255) (ta
 
   count : length (least-totals j m) ≡ 256 - K
   unfolding least-totals sizes
-  count = build-length (256 - K) (λ i. least-at j m (K + i))
+  count = build-length (256 - K) _
 
   enough : length (least-totals j m) ≤ length totals
   enough = omega (arith, count)
@@ -68,7 +68,7 @@ module _ (j : Job) (m : PinMap) (b : Bounded j) (small : own-size j ≤ 255) (ta
   unfolding list-in
   written = record {
     done = refl;
-    least = λ size low high i e. rw (number i (omega arith), e) (means size);
+    least = λ i h. rw (number i h) (means (K + i));
     falls = λ i h. rw (number i (omega arith), number (i + 1) (omega arith)) (least-falls j m (K + i) (K + (i + 1)) b (omega arith));
     totals-rest = over-rest (least-totals j m) totals enough (256 - K) count;
     totals-size = over-length (least-totals j m) totals enough;

@@ -80,7 +80,7 @@ module _ (j : Job) (m : PinMap) (table totals : List ℕ) where
   pub record SizesClaim (r : Listed) : Type 0 where
     pub done : r .answer ≡ gives tt
     -- the number of each size from K to 255 is the least total of the job with a first bucket of that size, and 4,294,967,295 exactly where no plan is admissible
-    pub least : (size : ℕ) → bucketAt (j .line .buckets) 0 .size ≤ size → size ≤ 255 → (i : ℕ) → bucketAt (j .line .buckets) 0 .size + i ≡ size → WordClaim (sized j size) (unlimited m) 0 (j .start) (getD (r .totals) i 0)
+    pub least : (i : ℕ) → bucketAt (j .line .buckets) 0 .size + i ≤ 255 → WordClaim (sized j (bucketAt (j .line .buckets) 0 .size + i)) (unlimited m) 0 (j .start) (getD (r .totals) i 0)
     -- no number exceeds the one before it
     pub falls : (i : ℕ) → bucketAt (j .line .buckets) 0 .size + i < 255 → getD (r .totals) (i + 1) 0 ≤ getD (r .totals) i 0
     -- the numbers past these keep their values

@@ -1,5 +1,5 @@
 // The planner for programs in other languages: numbers and lists alone. Each function answers 0, or the number of document 01's refusal; its values go to a list that is lent.
-// The job's refusals come first. A list for values that is too short is refused with 12, behind the other lists.
+// The job's refusals come first. A list for values that is too short is refused with 12, behind the other lists. A playlist has its own order, and tells the place of a programme in its answer.
 ghost use mathlib.Core.Path.{_≡_};
 ghost use Rattle.format.specs.JobBytes.{opening, archive};
 ghost use Rattle.model.specs.Pins.{pin, lift};
