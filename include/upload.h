@@ -572,14 +572,14 @@ uint32_t upload_sizes(const uint8_t *job, size_t job_len,
    place, counted from 1, + the number (UPLOAD_PLACE and UPLOAD_NUMBER take it apart);
    plans and totals of the programmes before it stay written, and so does the last
    table. Of the refused programme nothing is written, but that UPLOAD_NO_PLAN leaves
-   its table. Two refusals have no place and write nothing: 21 where there is no entry,
-   more than UPLOAD_PROGRAMMES, or an odd count of numbers; then 12 where `totals` is
-   too short.
+   its table. One refusal has no place and writes nothing: 21 where there is no entry,
+   more than UPLOAD_PROGRAMMES, or an odd count of numbers.
 
    Refusals of an entry in order: 22 where it passes `bytes`; 1 to 5 for its job, with
    17 directly after 3; 22 where bytes are left behind the job, or its number of
    buckets is not the first one's; 20 where a level that is carried is above its
-   bucket's size; 11; 12 where its plan does not fit behind the others; 13. */
+   bucket's size; 11; 12 where its plan or its totals do not fit behind the
+   others; 13. */
 uint32_t upload_playlist(const uint8_t *bytes, size_t bytes_len,
                          const uint32_t *programmes, size_t programmes_len,
                          uint32_t *table, size_t table_len,

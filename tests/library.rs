@@ -3971,12 +3971,11 @@ fn check_no_sitting(
         numbers::sizes(bytes, set.held(), table.list(), totals.list()),
     ];
     same("calls that make or take a set", [number; 8], found)?;
-    // A list with the bytes as its only entry. The totals have room, or not even that.
+    // A list with the bytes as its only entry.
     let entry = [0, bytes.len() as u32];
     let lists = (table.list(), entries.list(), values.list());
-    let due = if lists.2.len() < PROGRAMME_TOTALS { 12 } else { 256 + number };
     let found = numbers::playlist(bytes, &entry, lists.0, lists.1, lists.2);
-    same("a playlist", due, found)?;
+    same("a playlist", 256 + number, found)?;
     set.kept("set")?;
     table.kept("table")?;
     entries.kept("entries")?;
@@ -11485,7 +11484,10 @@ fn entry_counts_group() -> Result<String, String> {
         let needed = PROGRAMME_TOTALS * (count / 2);
         for totals in [needed.saturating_sub(1), needed, needed + 1, 0, 5, 320, 330] {
             let list = count % 2 == 1 || count == 0 || count > 128;
+            // The first whose totals do not fit.
+            let place = (totals / PROGRAMME_TOTALS + 1) as u32;
             let due = first_of(&[(list, 21), (totals < needed, 12)]);
+            let due = if due == 12 { 256 * place + 12 } else { due };
             let room = [40, ENTRY_BYTES * (count / 2), totals];
             let mut check = || -> Checked {
                 let played = ask.played(room);
@@ -11494,7 +11496,7 @@ fn entry_counts_group() -> Result<String, String> {
                 check_typed_playlist(&mut rng, &ask, room)
             };
             check().map_err(|trouble| format!("{count} numbers, {totals} totals: {trouble}"))?;
-            *tally.entry(due).or_default() += 1;
+            *tally.entry(apart(due).1).or_default() += 1;
         }
     }
     let counts = by_number(&tally);
@@ -11609,17 +11611,16 @@ fn playlist_lengths_group() -> Result<String, String> {
         .map(|((place, number), count)| format!("{count} {number} at {place}"))
         .collect();
     let counts = each.join(", ");
-    let all = [0, 12]
-        .map(|number| (0, number))
-        .into_iter()
-        .chain((1..=3).flat_map(|place| [11, 12].map(|number| (place, number))));
+    let refused = (1..=3).flat_map(|place| [11, 12].map(|number| (place, number)));
+    let all = [(0, 0)].into_iter().chain(refused);
     ensure!(tally.keys().copied().eq(all) || small(), "too little in it: {counts}");
     Ok(format!("lists by number and place ({counts})"))
 }
 
 /// What may be wrong with a programme: the number of its job, and a bit for each of the others:
 /// the entry passes; bytes are left behind the job; it has another number of buckets; a carried
-/// level is over; the table is too short, and what is left of the entries; there is no plan.
+/// level is over; the table is too short, and what is left of the entries or of the totals; there
+/// is no plan.
 type Defects = (Refusal, u32);
 
 /// How many bits these are.
@@ -11644,10 +11645,10 @@ fn playlist_order_group() -> Result<String, String> {
                 let last = if wrong == 0 { bits.trailing_zeros().min(DEFECTS as u32) } else { 0 };
                 for _ in 0..if small() { 1 } else { 1 + 4 * last } {
                     let defects = other_defects(&mut rng, place, (wrong, bits));
-                    let of_list = rng.one_in(12).then(|| rng.from(1, 3)).unwrap_or(0);
-                    let answer = check_playlist_order(&mut rng, buckets, &defects, of_list)
+                    let no_list = rng.one_in(24);
+                    let answer = check_playlist_order(&mut rng, buckets, &defects, no_list)
                         .map_err(|trouble| {
-                            let of = format!("defects {defects:?}, of the list {of_list}");
+                            let of = format!("defects {defects:?}, no list: {no_list}");
                             format!("{buckets} buckets, {of}: {trouble}")
                         })?;
                     *tally.entry(apart(answer)).or_default() += 1;
@@ -11663,7 +11664,7 @@ fn playlist_order_group() -> Result<String, String> {
     // Nothing is carried to the first.
     let numbers = [1, 2, 3, 4, 5, 11, 12, 13, 17, 20, 22];
     let at = |place: u32| numbers.map(|number| (place, number)).into_iter();
-    let due = [0, 12, 21].map(|number| (0, number)).into_iter();
+    let due = [0, 21].map(|number| (0, number)).into_iter();
     let due = due.chain(at(1).filter(|of| of.1 != 20)).chain(at(2)).chain(at(3));
     ensure!(tally.keys().copied().eq(due) || small(), "too little in it: {counts}");
     Ok(format!("sets of defects by number and place ({counts})"))
@@ -11682,12 +11683,11 @@ fn other_defects(rng: &mut Rng, place: usize, here: Defects) -> [Defects; 3] {
     defects
 }
 
-/// `of_list`: the lowest bit for what is no list, the next for totals that are too short.
 fn check_playlist_order(
     rng: &mut Rng,
     buckets: usize,
     defects: &[Defects; 3],
-    of_list: usize,
+    no_list: bool,
 ) -> Result<u32, String> {
     let has = |place: usize, bit: usize| defects[place].1 >> bit & 1 == 1;
     let (mut jobs, mut dues, mut words) = (Vec::new(), Vec::new(), Vec::new());
@@ -11764,13 +11764,15 @@ fn check_playlist_order(
     };
     let before = |place: usize| words[..place].iter().copied().max().unwrap_or(0);
     let table = short(rng, 4, &|place| [before(place), words[place]]);
+    // The plan of a programme has no room, or its totals have none, or neither has.
+    let which = rng.from(1, 3);
     let entries = short(rng, 5, &|place| [9 * place, 9 * place + 9]);
-    let mut room = [table.unwrap_or(before(3)), entries.unwrap_or(27), 15];
+    let totals = short(rng, 5, &|place| [5 * place, 5 * place + 5]);
+    let entries = entries.filter(|_| which & 1 > 0).unwrap_or(27);
+    let totals = totals.filter(|_| which & 2 > 0).unwrap_or(15);
+    let room = [table.unwrap_or(before(3)), entries, totals];
     let mut due = dues.into_iter().find(|due| *due > 0).unwrap_or(0);
-    if of_list & 2 > 0 {
-        (room[2], due) = (rng.pick(&[0, 5, 14]), 12);
-    }
-    if of_list & 1 > 0 {
+    if no_list {
         match rng.from(0, 2) {
             0 => ask.entries.clear(),
             1 => ask.entries.truncate(5),

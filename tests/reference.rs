@@ -1593,10 +1593,6 @@ pub fn play_by(
         played.refused = Some((0, 21));
         return played;
     }
-    if totals < PROGRAMME_TOTALS * count {
-        played.refused = Some((0, 12));
-        return played;
-    }
     for (place, entry) in (1..).zip(numbers.chunks(2)) {
         let mut next = || -> Result<(), Refusal> {
             let job = read_entry(bytes, entry)?;
@@ -1608,7 +1604,7 @@ pub fn play_by(
             if words < job.words() {
                 return Err(11);
             }
-            if room < ENTRY_BYTES * job.intervals() {
+            if room < ENTRY_BYTES * job.intervals() || totals < PROGRAMME_TOTALS * place {
                 return Err(12);
             }
             let Some(plan) = plan(&job) else {

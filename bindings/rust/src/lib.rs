@@ -1182,7 +1182,7 @@ impl Programme {
 #[derive(Clone, Copy, Debug, PartialEq, Eq, Hash)]
 pub struct PlaylistRefusal {
     /// The place of the programme that is refused, counted from 1; `None` where that is the
-    /// list: for 21, and for 12 where it is the totals that have no room.
+    /// list, for 21.
     pub place: Option<usize>,
     /// Why it is.
     pub refusal: Refusal,
@@ -1253,13 +1253,13 @@ impl Error for PlaylistRefusal {}
 ///
 /// # Errors
 ///
-/// Without a place: 21 where there is no entry or more than [`PROGRAMMES`]; then 12 where `totals`
-/// is too short, and nothing is written.
+/// Without a place: 21 where there is no entry or more than [`PROGRAMMES`], and nothing is
+/// written.
 ///
 /// Of a programme, in this order: 22 where its entry passes `bytes`; 1 to 5 and 17 for its job;
 /// 22 where bytes are left behind the job, or its line has another number of buckets than the
 /// first one's; 20 where the level that a bucket had at the end of the programme before is over
-/// its size; 11; 12 where its plan does not fit behind the others; 13.
+/// its size; 11; 12 where its plan or its totals do not fit behind the others; 13.
 ///
 /// # Examples
 ///
@@ -1303,12 +1303,15 @@ impl Error for PlaylistRefusal {}
 /// assert_eq!((totals[5], totals[10]), (70, 7));
 /// assert_eq!((entries[15], entries[18]), (1, 7));
 ///
-/// // A byte is missing, or the list has no room for the second plan.
+/// // A byte is missing, or a list has no room for the second plan or its totals.
 /// let past = Programme { first: 1, ..once };
 /// let found = playlist(&job, &[once, past], &mut table, &mut entries, &mut totals);
 /// assert_eq!(found, Err(PlaylistRefusal { place: Some(2), refusal: Refusal::Programme }));
+/// let short = Err(PlaylistRefusal { place: Some(2), refusal: Refusal::ListTooShort });
 /// let found = playlist(&job, &[once; 2], &mut table, &mut entries[..17], &mut totals);
-/// assert_eq!(found, Err(PlaylistRefusal { place: Some(2), refusal: Refusal::ListTooShort }));
+/// assert_eq!(found, short);
+/// let found = playlist(&job, &[once; 2], &mut table, &mut entries, &mut totals[..9]);
+/// assert_eq!(found, short);
 /// # Ok::<(), Box<dyn std::error::Error>>(())
 /// ```
 pub fn playlist(

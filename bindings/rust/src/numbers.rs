@@ -611,7 +611,7 @@ pub fn sizes(job: &[u8], set: &[u32], table: &mut [u32], totals: &mut [u32]) -> 
 ///
 /// Answers 0, or 256 × the place of the programme that is refused, counted from 1, + the number:
 /// [`PlaylistRefusal::from_answer`](crate::PlaylistRefusal::from_answer) takes it apart. 21 has no
-/// place, nor has 12 where `totals` is too short.
+/// place.
 pub fn playlist(
     bytes: &[u8],
     programmes: &[u32],

@@ -43,6 +43,10 @@ pub record PlaylistCases : Type 0 where
   pub passes : listen bytes-a (0 ∷ 64 ∷ 1 ∷ 64 ∷ []) 18 10 ≡ record { answer = refused-at 2 22; entries = plan ++ replicate 9 7; totals = first-totals ++ replicate 5 1 }
   pub behind : listen (bytes-a ++ (0 ∷ [])) (0 ∷ 64 ∷ 0 ∷ 65 ∷ []) 18 10 ≡ record { answer = refused-at 2 22; entries = plan ++ replicate 9 7; totals = first-totals ++ replicate 5 1 }
   pub no-room : listen bytes-a (0 ∷ 64 ∷ 0 ∷ 64 ∷ []) 17 10 ≡ record { answer = refused-at 2 12; entries = plan ++ replicate 8 7; totals = first-totals ++ replicate 5 1 }
+  -- and no room for its totals, or the first has none; 11 comes before
+  pub short-totals : listen bytes-a (0 ∷ 64 ∷ 0 ∷ 64 ∷ []) 18 9 ≡ record { answer = refused-at 2 12; entries = plan ++ replicate 9 7; totals = first-totals ++ replicate 4 1 }
+  pub shorter-totals : listen bytes-a (0 ∷ 64 ∷ []) 9 4 ≡ record { answer = refused-at 1 12; entries = replicate 9 7; totals = replicate 4 1 }
+  pub both-short : listen-with 79 bytes-a (0 ∷ 64 ∷ []) 9 4 ≡ record { answer = refused-at 1 11; entries = replicate 9 7; totals = replicate 4 1 }
   -- the first starts from its own level, 2
   pub own-level : listen (altered 16 2) (0 ∷ 64 ∷ []) 9 5 ≡ record { answer = finished; entries = plan; totals = second-totals }
   -- a level of 2 is carried, and the second bucket holds 2, or 1
@@ -54,4 +58,3 @@ pub record PlaylistCases : Type 0 where
   -- no list: nothing is written
   pub none-at-all : listen bytes-a [] 9 5 ≡ record { answer = refused-list 21; entries = replicate 9 7; totals = replicate 5 1 }
   pub odd : listen bytes-a (0 ∷ 64 ∷ 0 ∷ []) 9 5 ≡ record { answer = refused-list 21; entries = replicate 9 7; totals = replicate 5 1 }
-  pub short-totals : listen bytes-a (0 ∷ 64 ∷ []) 9 4 ≡ record { answer = refused-list 12; entries = replicate 9 7; totals = replicate 4 1 }

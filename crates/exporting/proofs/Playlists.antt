@@ -34,5 +34,5 @@ played b ns table entries totals r run = record {
 
 pub playlisted-calls : Playlists
 playlisted-calls b ns table entries totals =
-    in-order-through after-list (playlist-call b ns table entries totals) _ (λ n. playlisted n table entries totals) (condition 21 (IsList ns) ∷ condition 12 (5 * length (programmes ns) ≤ length totals) ∷ []) _ _
+    in-order-through after-list (playlist-call b ns table entries totals) _ (λ n. playlisted n table entries totals) (condition 21 (IsList ns) ∷ []) _ _
     (refusal-shown table entries totals) (λ run. played b ns table entries totals _ run) (playlist-calls b ns table entries totals)

@@ -3,7 +3,6 @@ use Prim.Native.Nat.{ℕ, _+_, _*_, _≤_, _/_, _%_}
 use mathlib.Core.Path.{_≡_}
 use mathlib.Core.Option.{none}
 use mathlib.Core.List.{List, [], _∷_}
-use lib.ListN.{length}
 use Rattle.base.specs.Refusals.{condition, InOrder}
 use Rattle.playlists.specs.Calls as playlists
 use Rattle.playlists.specs.Calls.{programmes, Outcome, finished, refused-list, refused-at, playlist-call}
@@ -40,4 +39,4 @@ pub record Playing (b ns table entries totals : List ℕ) (r : Playlisted) : Typ
   pub told-apart : (place n : ℕ) → inner .answer ≡ refused-at place n → n ≤ 255 → (r .number % 256 ≡ n) × (r .number / 256 ≡ place)
 
 abbrev pub Playlists : Type 0
-Playlists = (b ns table entries totals : List ℕ) → let r = playlist-export b ns table entries totals in InOrder r (λ n. playlisted n table entries totals) (condition 21 (IsList ns) ∷ condition 12 (5 * length (programmes ns) ≤ length totals) ∷ []) (Playing b ns table entries totals r)
+Playlists = (b ns table entries totals : List ℕ) → let r = playlist-export b ns table entries totals in InOrder r (λ n. playlisted n table entries totals) (condition 21 (IsList ns) ∷ []) (Playing b ns table entries totals r)

@@ -1,16 +1,16 @@
 -- The whole list: how many programmes its numbers tell, and what is tested of it before the first turn.
-use Prim.Native.Nat.{ℕ, _*_, _/_, _≤_, _<_}
+use Prim.Native.Nat.{ℕ, _*_, _/_, _≤_}
 use mathlib.Core.Path.{_≡_, refl, sym, _∙_}
 use mathlib.Core.Bool.{Bool, true, false, _||_}
 use mathlib.Core.List.{List, [], _∷_}
 use native.Mathlib.Omega.{arith}
 use lib.Dec.{ltb}
 use lib.ListN.{length}
-use borrow.Author.Tests.{ltb-false, le-ltb, le-leb, eq-eqb}
-use Rattle.base.proofs.Refusals.{guarded-past, guarded-last}
+use borrow.Author.Tests.{ltb-false, le-ltb, eq-eqb}
+use Rattle.base.proofs.Refusals.{guarded-last}
 use Rattle.base.proofs.Tests.{true-both}
 use Rattle.format.proofs.Limits.{is-kept, not-true}
-use Rattle.playlists.specs.Calls.{programmes, is-list, list-tests, playlist-call}
+use Rattle.playlists.specs.Calls.{programmes, is-list, playlist-call}
 use Rattle.playlists.specs.Claims.{IsList}
 use Rattle.playlists.proofs.Playlists.{programmes-are, playlist-calls}
 use Rattle.playlist.specs.declared.Outcome.the-variants as o
@@ -54,14 +54,9 @@ module _ (b ns table entries totals : List ℕ) (n : ℕ) (half : n ≡ length n
     is : IsList ns
     is = record { paired = omega (arith, told); some-one = omega (arith, told, some-one); few = omega (arith, told, few) }
 
-    pub list-short : length totals < 5 * n → Answered 12
-    unfolding played outcome
-    list-short h = sym (playlist-calls b ns table entries totals .1 is .0 (λ k. omega (arith, told, k, h)))
+    pub going : Going ns n
+    going = record { paired = paired; few = few }
 
-    module _ (h : 5 * n ≤ length totals) where
-      pub going : Going ns n totals
-      going = record { paired = paired; few = few; places = h }
-
-      pub list-runs : runs b ns table entries totals ≡ playlist-call b ns table entries totals
-      unfolding runs playlist-call list-tests is-list
-      list-runs = sym (guarded-past _ _ _ _ (true-both _ _ (eq-eqb (length ns) (2 * length (programmes ns)) (is .paired)) (is-kept _ (is .some-one, is .few))) ∙ guarded-last _ _ _ (le-leb (5 * length (programmes ns)) (length totals) (omega (arith, told, h))))
+    pub list-runs : runs b ns table entries totals ≡ playlist-call b ns table entries totals
+    unfolding runs playlist-call is-list
+    list-runs = sym (guarded-last _ _ _ (true-both _ _ (eq-eqb (length ns) (2 * length (programmes ns)) (is .paired)) (is-kept _ (is .some-one, is .few))))

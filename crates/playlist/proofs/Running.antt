@@ -47,7 +47,7 @@ pub running-first : (b ns table entries totals : List ℕ) (l : BucketLevels) �
 unfolding runs at-first stands carries if_then_else_
 running-first b ns table entries totals l = record { done = refl; used = omega arith; entries-size = refl; totals-size = refl; plays = refl }
 
-module _ (b ns table₀ entries₀ totals₀ : List ℕ) (count : ℕ) (g : Going ns count totals₀) (at : ℕ) (s : code.Standing) (table entries totals : List ℕ) (r : Running b ns table₀ entries₀ totals₀ at s table entries totals) where
+module _ (b ns table₀ entries₀ totals₀ : List ℕ) (count : ℕ) (g : Going ns count) (at : ℕ) (s : code.Standing) (table entries totals : List ℕ) (r : Running b ns table₀ entries₀ totals₀ at s table entries totals) where
   abbrev now : Standing
   now = stands s table entries totals
 
@@ -56,8 +56,8 @@ module _ (b ns table₀ entries₀ totals₀ : List ℕ) (count : ℕ) (g : Goin
   running-end h = sym (r .plays ∙ rw (drop-of-length-le (programmes ns) {i = at} (omega (arith, paired-count ns count (g .paired)))))
 
   module _ (h : at < count) where
-    pub running-room : Room s entries totals
-    running-room = record { used = r .used; places = omega (arith, r .done, r .totals-size, g .places) }
+    pub running-room : Room s entries
+    running-room = record { used = r .used; few = omega (arith, r .done, g .few) }
 
     abbrev here : Programme
     here = programme (getD ns (2 * at) 0) (getD ns (2 * at + 1) 0)
@@ -80,7 +80,7 @@ module _ (b ns table₀ entries₀ totals₀ : List ℕ) (count : ℕ) (g : Goin
         pub running-on : Running b ns table₀ entries₀ totals₀ (at + 1) next table′ entries′ totals′
         unfolding stands
         running-on =
-            let k = turn-room b here now (stands next table′ entries′ totals′) (r .used) (running-room .places) went in
+            let k = turn-room b here now (stands next table′ entries′ totals′) (r .used) went in
             let y : at + 1 ≡ suc at = omega arith in
             record {
               done = omega (arith, k .0, r .done);

@@ -6,7 +6,10 @@ use mathlib.Core.Option.{none, some}
 use mathlib.Core.List.{List, [], _∷_, _++_, map, zipWith}
 use native.Mathlib.Nat.{mul-le-mul-left, mul-le-mul-right}
 use native.Mathlib.Omega.{arith}
-use lib.ListN.{length, getD, take, drop, length-map, length-drop, take-append-drop}
+use lib.Dec.{leb}
+use lib.ListN.{length, getD, take, drop, length-map, length-drop}
+use borrow.Author.Tests.{le-leb}
+use borrow.Rule.Slice.PartMut.{putMid, put-same}
 use Rattle.base.specs.If.{if_then_else_}
 use Rattle.base.specs.Answer.{refused, gives}
 use Rattle.base.specs.Lent.{over-at}
@@ -25,13 +28,13 @@ use Rattle.starting.specs.Calls.{levels-call}
 use Rattle.planner.specs.declared.BucketLevels.{BucketLevels}
 use Rattle.planner.specs.declared.Planned.the-variants as p
 use Rattle.planner.specs.Answers.{answered, planned, bucket-levels}
-use Rattle.playlists.specs.Calls.{Standing, starting, led-to, five, after, plan-part, stops, goes-on}
+use Rattle.playlists.specs.Calls.{Standing, starting, led-to, five, after, rest-of, plan-part, stops, goes-on}
 use Rattle.playlists.proofs.Turns.{Balanced, balanced, plan-refused}
 use Rattle.playlist.specs.declared.Standing as code
 use Rattle.playlist.specs.declared.Turn.{Turn}
 use Rattle.playlist.specs.declared.Turn.the-variants as turn
-use Rattle.playlist.specs.Answers.{carries, stands, turned, starts-at, led-by, LeadsTo, Opened, plan-turn}
-use Rattle.base.proofs.Lent.{part-all}
+use Rattle.playlist.specs.Answers.{carries, stands, turned, starts-at, led-by, LeadsTo, end-for, Opened, plan-turn}
+use Rattle.base.proofs.Lent.{part-all, put-back}
 
 -- the carried levels, or a job's own
 chosen : (j : Job) (t : Bool) (ls own : List ℕ) → j .start .buckets ≡ own → (if t then ls else own) ≡ starting j (if t then some ls else none)
@@ -79,7 +82,29 @@ size-most j l zero h = l .first-size
 size-most j l (suc zero) h = omega (arith, l .second-size)
 size-most j l (suc (suc i)) h = absurd (omega (arith, l .buckets, h))
 
-module _ (b : List ℕ) (h : Header) (s : code.Standing) (o : Opened b h s) (table entries totals : List ℕ) (fits : s .used ≤ length entries) where
+-- the entries from the plans before a programme to the end that is found for it: what planning is lent, and what stands there when it was given back
+module _ (s : code.Standing) (table entries totals : List ℕ) (fits : s .used ≤ length entries) (end : ℕ) (ends : end ≡ end-for s (length entries) (length totals)) where
+  pub end-in : (s .used ≤ end) × (end ≤ length entries)
+  unfolding end-for if_then_else_
+  end-in = rw ends (go (leb (5 * (s .done + 1)) (length totals)))
+    where
+      go : (t : Bool) → (s .used ≤ (if t then length entries else s .used)) × ((if t then length entries else s .used) ≤ length entries)
+      go true = (fits, omega arith)
+      go false = (omega arith, fits)
+
+  lent : take (end - s .used) (drop (s .used) entries) ≡ rest-of (stands s table entries totals)
+  unfolding end-for if_then_else_ rest-of stands
+  lent = rw ends (go (leb (5 * (s .done + 1)) (length totals)))
+    where
+      go : (t : Bool) → take ((if t then length entries else s .used) - s .used) (drop (s .used) entries) ≡ (if t then drop (s .used) entries else [])
+      go true = part-all entries (s .used)
+      go false = let z : s .used - s .used ≡ 0 = omega arith in rw z
+
+  given-back : 5 * (s .done + 1) ≤ length totals → (new : List ℕ) → putMid (s .used) (end - s .used) entries new ≡ take (s .used) entries ++ new
+  unfolding end-for if_then_else_
+  given-back h new = let e : end ≡ length entries = ends ∙ rw (le-leb (5 * (s .done + 1)) (length totals) h) in rw e (put-back entries new (s .used) fits)
+
+module _ (b : List ℕ) (h : Header) (s : code.Standing) (o : Opened b h s) (table entries totals : List ℕ) (fits : s .used ≤ length entries) (end : ℕ) (ends : end ≡ end-for s (length entries) (length totals)) where
   abbrev J : Job
   J = job-in b
 
@@ -96,13 +121,13 @@ module _ (b : List ℕ) (h : Header) (s : code.Standing) (o : Opened b h s) (tab
   unfolding starts-at stands carries
   starts = chosen J (s .any) (bucket-levels (s .levels)) (map (λ k. k .fill) (h .buckets)) (ap (λ (x : Levels). x .buckets) (start-is b h (o .opens)))
 
-  pub found-is : (set : PinSet) (ls : List ℕ) → set ≡ fresh h → ls ≡ starts-at h s → levels-call b set ls total late table (take (length entries - s .used) (drop (s .used) entries)) ≡ found
+  pub found-is : (set : PinSet) (ls : List ℕ) → set ≡ fresh h → ls ≡ starts-at h s → levels-call b set ls total late table (take (end - s .used) (drop (s .used) entries)) ≡ found
   unfolding plan-part stands
   found-is set ls e f =
-      let lent = take (length entries - s .used) (drop (s .used) entries) in
-      ap (λ (x : PinSet). levels-call b x ls total late table lent) (e ∙ ap fresh (sym (o .opens .header-is)))
-      ∙ ap (λ (x : List ℕ). levels-call b (fresh (header-in J)) x total late table lent) (f ∙ starts)
-      ∙ ap (levels-call b (fresh (header-in J)) (starting J (carries s)) total late table) (part-all entries (s .used))
+      let part = take (end - s .used) (drop (s .used) entries) in
+      ap (λ (x : PinSet). levels-call b x ls total late table part) (e ∙ ap fresh (sym (o .opens .header-is)))
+      ∙ ap (λ (x : List ℕ). levels-call b (fresh (header-in J)) x total late table part) (f ∙ starts)
+      ∙ ap (levels-call b (fresh (header-in J)) (starting J (carries s)) total late table) (lent s table entries totals fits end ends)
 
   count-is : length (J .line .buckets) ≡ length (h .buckets)
   count-is = ap (λ (ks : List Bucket). length ks) (buckets-are b h (o .opens)) ∙ length-map (h .buckets) bucket-of
@@ -153,19 +178,23 @@ module _ (b : List ℕ) (h : Header) (s : code.Standing) (o : Opened b h s) (tab
     unfolding stands
     room = omega (arith, balance .room, length-drop (s .used) entries, intervals-are b h (o .opens), fits)
 
+    pub places : (s .done + 1) * 5 ≤ length totals
+    unfolding stands
+    places = omega (arith, balance .places)
+
     -- the next programme's turn comes
-    pub turn-best : (d u : ℕ) (levels : BucketLevels) (list new : List ℕ) → d ≡ s .done + 1 → u ≡ s .used + 3 * (h .units + h .delay) → bucket-levels levels ≡ led-by h from x → list ≡ take (s .used) entries ++ e → new ≡ over-at (5 * s .done) (five (totals-of x)) totals → turned (turn.GoesOn (record { done = d; used = u; any = true; levels = levels })) s t list new ≡ plan-turn b st
+    pub turn-best : (d u : ℕ) (levels : BucketLevels) (list new : List ℕ) → d ≡ s .done + 1 → u ≡ s .used + 3 * (h .units + h .delay) → bucket-levels levels ≡ led-by h from x → list ≡ putMid (s .used) (end - s .used) entries e → new ≡ over-at (5 * s .done) (five (totals-of x)) totals → turned (turn.GoesOn (record { done = d; used = u; any = true; levels = levels })) s t list new ≡ plan-turn b st
     unfolding turned stands carries if_then_else_ plan-turn planned answered
     turn-best d u levels list new ed eu el es put =
         let same : e ≡ found .entries = ap (λ (r : planning.Planned). r .entries) q in
-        ap goes-on (standing-same d (suc (s .done)) u (s .used + 3 * intervals J) (bucket-levels levels) (led-to J (starting J (st .carried)) e) t list (take (s .used) entries ++ e) new (over-at (5 * s .done) (five (totals-of x)) totals) (omega (arith, ed)) (omega (arith, eu, intervals-are b h (o .opens))) (el ∙ led-is ∙ ap (led-to J (starting J (st .carried))) (sym same)) es put)
+        ap goes-on (standing-same d (suc (s .done)) u (s .used + 3 * intervals J) (bucket-levels levels) (led-to J (starting J (st .carried)) e) t list (take (s .used) entries ++ e) new (over-at (5 * s .done) (five (totals-of x)) totals) (omega (arith, ed)) (omega (arith, eu, intervals-are b h (o .opens))) (el ∙ led-is ∙ ap (led-to J (starting J (st .carried))) (sym same)) (es ∙ given-back s table entries totals fits end ends (balance .places) e) put)
         ∙ sym (after-best J (starting J (st .carried)) st found t e (totals-of x) q)
 
   -- the programme is refused
-  pub turn-refused : (n : ℕ) (t e : List ℕ) → planned (p.Refused n) t e ≡ found → (r : Turn) (list : List ℕ) → r ≡ turn.Stops n → list ≡ take (s .used) entries ++ e → turned r s t list totals ≡ plan-turn b st
+  pub turn-refused : (n : ℕ) (t e : List ℕ) → planned (p.Refused n) t e ≡ found → (r : Turn) (list : List ℕ) → r ≡ turn.Stops n → list ≡ putMid (s .used) (end - s .used) entries e → turned r s t list totals ≡ plan-turn b st
   unfolding turned stands plan-turn planned answered
   turn-refused n t e q r list is es =
       let x : found .answer ≡ refused n = ap (λ (r : planning.Planned). r .answer) (sym q) in
-      let same : e ≡ drop (s .used) entries = ap (λ (r : planning.Planned). r .entries) q ∙ plan-refused b J (o .drains .0) (o .drains .1) st n x in
-      rw is (ap (λ (l : List ℕ). stops n (stands s t l totals)) (es ∙ ap (λ (l : List ℕ). take (s .used) entries ++ l) same ∙ take-append-drop (s .used) entries))
+      let same : e ≡ take (end - s .used) (drop (s .used) entries) = ap (λ (r : planning.Planned). r .entries) q ∙ plan-refused b J (o .drains .0) (o .drains .1) st n x ∙ sym (lent s table entries totals fits end ends) in
+      rw is (ap (λ (l : List ℕ). stops n (stands s t l totals)) (es ∙ ap (putMid (s .used) (end - s .used) entries) same ∙ put-same (s .used) (end - s .used) entries))
       ∙ sym (after-refused J (starting J (st .carried)) st found t e n q)

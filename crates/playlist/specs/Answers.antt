@@ -3,6 +3,7 @@ use Prim.Native.Nat.{ℕ, _+_, _*_, _-_, _<_, _≤_}
 use mathlib.Core.Path.{_≡_}
 use mathlib.Core.Option.{Option, none, some}
 use mathlib.Core.List.{List, map, zipWith}
+use lib.Dec.{leb}
 use lib.ListN.{length, getD}
 use Rattle.base.specs.If.{if_then_else_}
 use Rattle.base.specs.Refusals.{guarded}
@@ -69,10 +70,14 @@ pub record LeadsTo (h : format.Header) (l : BucketLevels) (x : Totals) : Type 0 
   pub drains : (i : ℕ) → i < length (h .buckets) → getD (h .buckets) i format.no-bucket .drain ≤ 4095
   pub lasts : (i : ℕ) → i < length (h .buckets) → Lasts (getD (bucket-levels l) i 0) (totals-of x .channel) (getD (totals-of x .unused) i 0) ((h .units + h .delay) * getD (h .buckets) i format.no-bucket .drain)
 
--- room for the programme's totals, and plans that do not pass the list
-pub record Room (s : code.Standing) (entries totals : List ℕ) : Type 0 where
+-- where the entries end that a programme's plan may take: nothing is left for it where its totals have no place
+unfoldable pub end-for : code.Standing → ℕ → ℕ → ℕ
+end-for s entries totals = if leb (5 * (s .done + 1)) totals then entries else s .used
+
+-- plans that do not pass the list, of fewer programmes than a list has at most
+pub record Room (s : code.Standing) (entries : List ℕ) : Type 0 where
   pub used : s .used ≤ length entries
-  pub places : (s .done + 1) * 5 ≤ length totals
+  pub few : s .done + 1 ≤ 64
 
 -- a programme that opens: as many buckets as levels are carried, if any are
 pub record Opened (b : List ℕ) (h : format.Header) (s : code.Standing) : Type 0 where
@@ -90,11 +95,10 @@ part-turn b st =
     (λ j taken. guarded (λ n. stops n st) (behind-tests j taken (length b) (st .carried))
     (after j (starting j (st .carried)) st (plan-part b j st .answer) (plan-part b j st)))
 
--- a list of so many programmes, and room for their totals
-pub record Going (ns : List ℕ) (count : ℕ) (totals : List ℕ) : Type 0 where
+-- a list of so many programmes
+pub record Going (ns : List ℕ) (count : ℕ) : Type 0 where
   pub paired : length ns ≡ 2 * count
   pub few : count ≤ 64
-  pub places : 5 * count ≤ length totals
 
 -- the programmes in turn
 unfoldable pub runs : List ℕ → List ℕ → List ℕ → List ℕ → List ℕ → calls.Played

@@ -10,7 +10,7 @@ ghost use Rattle.header.specs.Answers.{plain};
 ghost use Rattle.interval.specs.Answers.{totals-of};
 ghost use Rattle.planner.specs.Answers.{bucket-levels};
 ghost use Rattle.playlists.specs.Calls.{five, turn, playlist-call};
-ghost use Rattle.playlist.specs.Answers.{played, turned, stands, programme, starts-at, Lasts, LeadsTo, led-by, Room, Opened, plan-turn, part-turn, Going, runs};
+ghost use Rattle.playlist.specs.Answers.{played, turned, stands, programme, starts-at, Lasts, LeadsTo, led-by, end-for, Room, Opened, plan-turn, part-turn, Going, runs};
 use best::Order;
 use header::Door;
 use header::Header;
@@ -125,6 +125,17 @@ fn put_totals(list: &mut [u64], done: usize, totals: Totals)
     list[at + 4] = second_unused(totals) as u64;
 }
 
+// Where the entries end that a programme's plan may take: with the list, and where its totals have no place, at once.
+fn end_for(standing: Standing, entries: usize, totals: usize) -> usize
+    requires { ⌜ standing .done + 1 ≤ 64 ⌝ }
+    ensures { λ r. ⌜ r ≡ end-for standing entries totals ⌝ }
+{
+    if totals < EACH * (standing.done + 1) {
+        return standing.used;
+    }
+    entries
+}
+
 // Plans a programme that was opened, without pins and in the late order: its entries go behind those before it.
 fn plan_opened(
     job: &[u8],
@@ -134,12 +145,13 @@ fn plan_opened(
     entries: &mut [u8],
     totals: &mut [u64],
 ) -> Turn
-    requires { ⌜ Opened (now job) (plain header) standing × Room standing (now entries) (now totals) ⌝ }
+    requires { ⌜ Opened (now job) (plain header) standing × Room standing (now entries) ⌝ }
     ensures { λ r. ⌜ turned r standing (now (table .exit)) (now (entries .exit)) (now (totals .exit)) ≡ plan-turn (now (job .entry)) (stands standing (now (table .entry)) (now (entries .entry)) (now (totals .entry))) ⌝ }
 {
     let set = PinSet::fresh(header);
     let from = levels_for(header, standing);
     let used = standing.used;
+    let end = end_for(standing, entries.len(), totals.len());
     let found = planner::plan_from(
         job,
         set,
@@ -147,7 +159,7 @@ fn plan_opened(
         Aim::Total,
         Order::Late,
         table,
-        &mut entries[used..],
+        &mut entries[used..end],
     );
     match found {
         Planned::Refused(n) => Turn::Stops(n),
@@ -171,7 +183,7 @@ fn plan_part(
     entries: &mut [u8],
     totals: &mut [u64],
 ) -> Turn
-    requires { ⌜ Room standing (now entries) (now totals) ⌝ }
+    requires { ⌜ Room standing (now entries) ⌝ }
     ensures { λ r. ⌜ turned r standing (now (table .exit)) (now (entries .exit)) (now (totals .exit)) ≡ part-turn (now (job .entry)) (stands standing (now (table .entry)) (now (entries .entry)) (now (totals .entry))) ⌝ }
 {
     match job::read(job, Door::Opening) {
@@ -198,7 +210,7 @@ fn plan_programme(
     entries: &mut [u8],
     totals: &mut [u64],
 ) -> Turn
-    requires { ⌜ Room standing (now entries) (now totals) ⌝ }
+    requires { ⌜ Room standing (now entries) ⌝ }
     ensures { λ r. ⌜ turned r standing (now (table .exit)) (now (entries .exit)) (now (totals .exit)) ≡ turn (now (bytes .entry)) (programme first size) (stands standing (now (table .entry)) (now (entries .entry)) (now (totals .entry))) ⌝ }
 {
     if bytes.len() < first {
@@ -220,7 +232,7 @@ fn plan_all(
     entries: &mut [u8],
     totals: &mut [u64],
 ) -> Outcome
-    requires { ⌜ Going (now numbers) count (now totals) ⌝ }
+    requires { ⌜ Going (now numbers) count ⌝ }
     ensures { λ r. ⌜ played r (now (table .exit)) (now (entries .exit)) (now (totals .exit)) ≡ runs (now (bytes .entry)) (now (numbers .entry)) (now (table .entry)) (now (entries .entry)) (now (totals .entry)) ⌝ }
 {
     let mut standing = Standing {
@@ -267,9 +279,6 @@ pub fn plan_list(
     }
     if (count < 1) | (count > MOST) {
         return Outcome::RefusedList(refusal::LIST);
-    }
-    if totals.len() < EACH * count {
-        return Outcome::RefusedList(header::refusal::LIST);
     }
     plan_all(bytes, numbers, count, table, entries, totals)
 }

@@ -9,13 +9,12 @@ use native.Mathlib.Omega.{arith}
 use lib.Dec.{eqb}
 use lib.ListN.{length, getD, take, drop, length-append, length-drop}
 use lib.Seq.{length-take-le, take-at, drop-at, drop-drop, getD-take, getD-drop}
-use borrow.Author.Tests.{leb-true, le-leb, eqb-true, eqb-false, eq-eqb}
+use borrow.Author.Tests.{eqb-true, eqb-false, eq-eqb}
 use Rattle.base.specs.Answer as base
 use Rattle.base.specs.Answer.{Answer, gives}
-use Rattle.base.specs.Refusals.{condition}
 use Rattle.base.specs.Lent.{over, over-at}
 use Rattle.base.proofs.Answers.{refused-same, not-refused}
-use Rattle.base.proofs.Refusals.{Decides, no-more, one-more, in-order}
+use Rattle.base.proofs.Refusals.{no-more, one-more, in-order}
 use Rattle.base.proofs.Lent.{over-at-length}
 use Rattle.base.proofs.Tests.{both-true, true-both}
 use Rattle.model.specs.Job.{Job, intervals}
@@ -33,9 +32,9 @@ use Rattle.planning.specs.Calls.{Planned, refuse}
 use Rattle.planning.specs.Claims.{PlanClaim}
 use Rattle.starting.specs.Calls.{start-with}
 use Rattle.starting.specs.Claims.{LevelsFit}
-use Rattle.playlists.specs.Calls.{Programme, programmes, part, Standing, at-first, starting, five, Turn, stops, goes-on, as-many, after, ended, onward, play, is-list, list-tests, playlist-call}
-use Rattle.playlists.specs.Claims.{StartsAt, its-own, carried-on, Opens, PlannedOne, Stops, passes-slice, unread, bytes-left, other-buckets, level-over, short-table, short-list, no-plan, Run, all-planned, stopped, next, IsList, Programmes, Parts, PlaylistCalls}
-use Rattle.playlists.proofs.Turns.{Tried, too-full, few-words, few-bytes, searched, tried, given, Seen, outside, not-read, left, others, opened, seen, leads, goes-same}
+use Rattle.playlists.specs.Calls.{Programme, programmes, part, Standing, at-first, starting, five, Turn, stops, goes-on, as-many, after, rest-of, ended, onward, play, is-list, playlist-call}
+use Rattle.playlists.specs.Claims.{StartsAt, its-own, carried-on, Opens, HasRoom, PlannedOne, Stops, passes-slice, unread, bytes-left, other-buckets, level-over, short-table, short-list, no-plan, Run, all-planned, stopped, next, IsList, Programmes, Parts, PlaylistCalls}
+use Rattle.playlists.proofs.Turns.{Tried, too-full, few-words, few-bytes, searched, tried, given, Seen, outside, not-read, left, others, opened, seen, Roomy, roomy, room-left, some-interval, leads, goes-same}
 
 -- the programmes of a list are its pairs
 first-at : (ns : List ℕ) (i : ℕ) → i + 1 ≤ length (programmes ns) → getD (programmes ns) i (record { first = 0; size = 0 }) .first ≡ getD ns (2 * i) 0
@@ -132,38 +131,45 @@ data Turned (b : List ℕ) (p : Programme) (st : Standing) : Turn → Type 0 whe
   halted : {n : ℕ} {table : List ℕ} → Stops b p st n table → Turned b p st (stops n (record { done = st .done; used = st .used; carried = st .carried; table = table; entries = st .entries; totals = st .totals }))
   moved : {st′ : Standing} → PlannedOne b p st st′ → st′ .used ≤ length (st′ .entries) → Turned b p st (goes-on st′)
 
-module _ (b : List ℕ) (p : Programme) (st : Standing) (used : st .used ≤ length (st .entries)) (done : (st .done + 1) * 5 ≤ length (st .totals)) where
+module _ (b : List ℕ) (p : Programme) (st : Standing) (used : st .used ≤ length (st .entries)) where
   module _ (j : Job) (o : Opens b p st j (starting j (st .carried))) (limits : InLimits j) where
     -- a search is refused by 13 alone
-    only-13 : (r : Planned) (n : ℕ) → PlanClaim j (no-pins (length (j .units))) total late 0 (start-with j (starting j (st .carried))) (st .table) (drop (st .used) (st .entries)) r → r .answer ≡ base.refused n → n ≡ 13
+    only-13 : (r : Planned) (n : ℕ) → PlanClaim j (no-pins (length (j .units))) total late 0 (start-with j (starting j (st .carried))) (st .table) (rest-of st) r → r .answer ≡ base.refused n → n ≡ 13
     only-13 r n c e = go (eqb n 13) refl
       where
         go : (t : Bool) → eqb n 13 ≡ t → n ≡ 13
         go true q = eqb-true n 13 q
         go false q = absurd (not-refused (sym (c .else-best (λ z. eqb-false n 13 q (refused-same (sym e ∙ z))) .totals-are) ∙ e))
 
-    module _ (r : Planned) (f : LevelsFit j (starting j (st .carried))) (w : words j ≤ length (st .table)) (l : 3 * intervals j ≤ length (drop (st .used) (st .entries))) (c : PlanClaim j (no-pins (length (j .units))) total late 0 (start-with j (starting j (st .carried))) (st .table) (drop (st .used) (st .entries)) r) where
+    module _ (r : Planned) (f : LevelsFit j (starting j (st .carried))) (w : words j ≤ length (st .table)) (l : 3 * intervals j ≤ length (rest-of st)) (c : PlanClaim j (no-pins (length (j .units))) total late 0 (start-with j (starting j (st .carried))) (st .table) (rest-of st) r) where
+      rest : Roomy st
+      rest = room-left st (omega (arith, l, some-interval j limits))
+
+      has-room : HasRoom j st
+      has-room = record { plan = (rw (rest .all) at l); totals = rest .places }
+
       -- the standing after a plan that is given
       its-plan : (t : Totals) → r .answer ≡ gives t → (st′ : Standing) → goes-on st′ ≡ after j (starting j (st .carried)) st (gives t) r → PlannedOne b p st st′ × (st′ .used ≤ length (st′ .entries))
       unfolding after start-with five kept-open
       its-plan t e st′ q =
           let g = given (searched f w l c) e in
           let z : intervals j - 0 ≡ intervals j = omega arith in
-          let long : length (take (st .used) (st .entries) ++ r .entries) ≡ length (st .entries) = behind-long (st .used) (r .entries) (st .entries) used (g .best .size) in
+          let long : length (take (st .used) (st .entries) ++ r .entries) ≡ length (st .entries) = behind-long (st .used) (r .entries) (st .entries) used (g .best .size ∙ ap (λ (x : List ℕ). length x) (rest .all)) in
           let five-more : 5 * suc (st .done) ≡ 5 * st .done + 5 = omega arith in
-          let space : 5 * st .done + length (five t) ≤ length (st .totals) = omega arith in
+          let space : 5 * st .done + length (five t) ≤ length (st .totals) = omega (arith, rest .places) in
           rw (goes-same q) (
             record {
               job = j;
               levels = starting j (st .carried);
               opens = o;
               fit = f;
+              room = has-room;
               plan = g .best .plan;
               best = g .best .best;
               used = refl;
               bytes = ap (take (3 * intervals j)) (behind-here (st .used) (r .entries) (st .entries) used) ∙ (rw z at (g .best .bytes));
               entries-before = behind-before (st .used) (r .entries) (st .entries) used;
-              entries-behind = behind-rest (st .used) (r .entries) (st .entries) used (3 * intervals j) (rw z at (g .best .rest));
+              entries-behind = behind-rest (st .used) (r .entries) (st .entries) used (3 * intervals j) ((rw z at (g .best .rest)) ∙ ap (drop (3 * intervals j)) (rest .all));
               entries-size = long;
               carried = ap some (leads j limits _ _ _ r t g);
               done = omega arith;
@@ -175,7 +181,7 @@ module _ (b : List ℕ) (p : Programme) (st : Standing) (used : st .used ≤ len
               table-rest = c .table-rest;
               table-size = c .table-size;
             },
-            omega (arith, long, l, length-drop (st .used) (st .entries)),
+            omega (arith, long, has-room .plan, length-drop (st .used) (st .entries)),
           )
 
       by-answer : (a : Answer Totals) → r .answer ≡ a → Turned b p st (after j (starting j (st .carried)) st a r)
@@ -183,14 +189,14 @@ module _ (b : List ℕ) (p : Programme) (st : Standing) (used : st .used ≤ len
       by-answer (base.refused n) e =
           let q = only-13 r n c e in
           let t = e ∙ ap base.refused q in
-          rw q (halted (no-plan o f w l (c .none-iff .0 t) (c .none-table t) (c .table-rest) (c .table-size)))
+          rw q (halted (no-plan o f w has-room (c .none-iff .0 t) (c .none-table t) (c .table-rest) (c .table-size)))
       by-answer (gives t) e = let h = its-plan t e _ refl in moved (h .0) (h .1)
 
-    planned : {r : Planned} → Tried j (starting j (st .carried)) (st .table) (drop (st .used) (st .entries)) r → Turned b p st (after j (starting j (st .carried)) st (r .answer) r)
+    planned : {r : Planned} → Tried j (starting j (st .carried)) (st .table) (rest-of st) r → Turned b p st (after j (starting j (st .carried)) st (r .answer) r)
     unfolding after refuse
     planned (too-full f) = halted (level-over o f)
     planned (few-words f w) = halted (short-table o f w)
-    planned (few-bytes f w l) = halted (short-list o f w l)
+    planned (few-bytes f w l) = halted (short-list o f w (λ h. l (rw (roomy st (h .totals) .all) (h .plan))))
     planned (searched f w l {r} c) = by-answer r f w l c (r .answer) refl
 
   turned : {t : Turn} → Seen b p st t → Turned b p st t
@@ -202,15 +208,15 @@ module _ (b : List ℕ) (p : Programme) (st : Standing) (used : st .used ≤ len
       let l = limited j (well-read opening (part b p) j (p .size) q .well-formed) in
       planned j (record { inside = h; opens = q; levels = starts j (st .carried); alike = many j (st .carried) l m }) l (tried (part b p) j (p .size) q st)
 
--- one programme after another, with room for the totals of those that are left
-run : (b : List ℕ) (ps : List Programme) (st : Standing) → st .used ≤ length (st .entries) → (st .done + length ps) * 5 ≤ length (st .totals) → Run b ps st (play b ps st)
+-- one programme after another
+run : (b : List ℕ) (ps : List Programme) (st : Standing) → st .used ≤ length (st .entries) → Run b ps st (play b ps st)
 unfolding play ended onward
-run b [] st used done = all-planned
-run b (p ∷ ps) st used done = go (turned b p st used (omega arith) (seen b p st)) (λ st′ u d. run b ps st′ u d)
+run b [] st used = all-planned
+run b (p ∷ ps) st used = go (turned b p st used (seen b p st)) (λ st′ u. run b ps st′ u)
   where
-    go : {t : Turn} → Turned b p st t → ((st′ : Standing) → st′ .used ≤ length (st′ .entries) → (st′ .done + length ps) * 5 ≤ length (st′ .totals) → Run b ps st′ (play b ps st′)) → Run b (p ∷ ps) st (onward t (λ n. play b ps n))
+    go : {t : Turn} → Turned b p st t → ((st′ : Standing) → st′ .used ≤ length (st′ .entries) → Run b ps st′ (play b ps st′)) → Run b (p ∷ ps) st (onward t (λ n. play b ps n))
     go (halted s) ih = stopped s
-    go (moved {st′} q u) ih = next q (ih st′ u (omega (arith, q .done, q .totals-size)))
+    go (moved {st′} q u) ih = next q (ih st′ u)
 
 -- a list is one of 1 to 64 pairs
 list-iff : (ns : List ℕ) → (is-list ns ≡ true) ↔ IsList ns
@@ -220,10 +226,6 @@ list-iff ns = (
   λ l. true-both _ _ (eq-eqb _ _ (l .paired)) (is-kept _ (l .some-one, l .few)),
 )
 
-decides : (ns totals : List ℕ) → Decides (list-tests ns (length totals)) (condition 21 (IsList ns) ∷ condition 12 (5 * length (programmes ns) ≤ length totals) ∷ [])
-unfolding list-tests
-decides ns totals = one-more refl (list-iff ns) (one-more refl (leb-true _ _, le-leb _ _) no-more)
-
 pub playlist-calls : PlaylistCalls
 unfolding playlist-call ended at-first
-playlist-calls b ns table entries totals = in-order _ (decides ns totals) (Run b (programmes ns) (at-first table entries totals)) (play b (programmes ns) (at-first table entries totals)) _ refl (λ h. run b (programmes ns) (at-first table entries totals) (omega arith) (omega (arith, h .1 .0)))
+playlist-calls b ns table entries totals = in-order _ (one-more refl (list-iff ns) no-more) (Run b (programmes ns) (at-first table entries totals)) (play b (programmes ns) (at-first table entries totals)) _ refl (λ h. run b (programmes ns) (at-first table entries totals) (omega arith))

@@ -7,7 +7,8 @@ use native.Mathlib.Omega.{arith}
 use lib.Dec.{leb}
 use lib.ListN.{length, getD, take, drop, length-append, length-drop}
 use lib.Seq.{length-take-le}
-use borrow.Author.Tests.{leb-true, leb-false, eqb-true, eqb-false}
+use borrow.Author.Tests.{leb-true, leb-false, le-leb, eqb-true, eqb-false}
+use Rattle.base.specs.If.{if_then_else_}
 use Rattle.base.specs.Answer as base
 use Rattle.base.specs.Answer.{Answer, gives}
 use Rattle.base.specs.Refusals.{Test, test, guarded, InOrder}
@@ -38,7 +39,7 @@ use Rattle.planning.specs.Claims.{BestWritten, PlanClaim}
 use Rattle.starting.specs.Calls.{levels-fit, start-with}
 use Rattle.starting.specs.Claims.{LevelsFit, Asks}
 use Rattle.starting.proofs.Starting.{fits-iff, levels-calls, levels-keep}
-use Rattle.playlists.specs.Calls.{Programme, part, Standing, starting, led-to, five, Turn, stops, goes-on, as-many, behind-tests, after, plan-part, turn}
+use Rattle.playlists.specs.Calls.{Programme, part, Standing, starting, led-to, five, Turn, stops, goes-on, as-many, behind-tests, after, rest-of, plan-part, turn}
 
 -- what planning from levels comes to: refused by 20, 11 or 12, or as is claimed of a search
 pub data Tried (j : Job) (ls table entries : List ℕ) : Planned → Type 0 where
@@ -63,11 +64,36 @@ module _ (j : Job) (ls table entries : List ℕ) where
       fit true e = room (fits-iff j ls .0 e) (leb (words j) (length table)) refl
       fit false e = let no : LevelsFit j ls → ⊥ = λ f. not-true (sym e ∙ fits-iff j ls .1 f) in rw (h .0 no) (too-full no)
 
-pub tried : (b : List ℕ) (j : Job) (k : ℕ) → parse opening b ≡ took j k → (st : Standing) → Tried j (starting j (st .carried)) (st .table) (drop (st .used) (st .entries)) (plan-part b j st)
+pub tried : (b : List ℕ) (j : Job) (k : ℕ) → parse opening b ≡ took j k → (st : Standing) → Tried j (starting j (st .carried)) (st .table) (rest-of st) (plan-part b j st)
 unfolding plan-part
 tried b j k e st =
     let l = limited j (well-read opening b j k e .well-formed) in
-    by-order j (starting j (st .carried)) (st .table) (drop (st .used) (st .entries)) (plan-part b j st) _ (fresh-pins j l) (levels-calls b (fresh (header-in j)) _ _ _ _ _ .1 j k e .1 (fresh-matches j l))
+    by-order j (starting j (st .carried)) (st .table) (rest-of st) (plan-part b j st) _ (fresh-pins j l) (levels-calls b (fresh (header-in j)) _ _ _ _ _ .1 j k e .1 (fresh-matches j l))
+
+-- what is left for a plan: something where there is room for its totals too, and then all behind the plans before it
+pub record Roomy (st : Standing) : Type 0 where
+  pub places : 5 * (st .done + 1) ≤ length (st .totals)
+  pub all : rest-of st ≡ drop (st .used) (st .entries)
+
+with-room : (m n : ℕ) (l : List ℕ) → m ≤ n → (if leb m n then l else []) ≡ l
+unfolding if_then_else_
+with-room m n l h = rw (le-leb m n h)
+
+room-by : (m n : ℕ) (l : List ℕ) → 1 ≤ length (if leb m n then l else []) → m ≤ n
+unfolding if_then_else_
+room-by m n l h = go (leb m n) refl h
+  where
+    go : (t : Bool) → leb m n ≡ t → 1 ≤ length (if t then l else []) → m ≤ n
+    go true e h = leb-true m n e
+    go false e h = absurd (omega (arith, h))
+
+pub roomy : (st : Standing) → 5 * (st .done + 1) ≤ length (st .totals) → Roomy st
+unfolding rest-of
+roomy st h = record { places = h; all = with-room _ _ _ h }
+
+pub room-left : (st : Standing) → 1 ≤ length (rest-of st) → Roomy st
+unfolding rest-of
+room-left st h = roomy st (room-by _ _ _ h)
 
 -- a plan that is given: it is the best from these levels, and the totals are its own
 pub record Given (j : Job) (ls table entries : List ℕ) (r : Planned) (t : Totals) : Type 0 where
@@ -85,6 +111,10 @@ given (few-bytes f w l) e = absurd (not-refused (sym e))
 given (searched f w l c) e =
     let b = c .else-best (λ q. not-refused (sym e ∙ q)) in
     record { fit = f; space = l; claim = c; best = b; counted = gives-same (sym e ∙ b .totals-are) }
+
+pub some-interval : (j : Job) → InLimits j → 1 ≤ intervals j
+unfolding intervals
+some-interval j limits = omega (arith, limits .units)
 
 -- where its plan leads, by (17), and what it sends, drains and leaves unused
 module _ (j : Job) (limits : InLimits j) (ls table entries : List ℕ) (r : Planned) (t : Totals) (g : Given j ls table entries r t) where
@@ -104,10 +134,6 @@ module _ (j : Job) (limits : InLimits j) (ls table entries : List ℕ) (r : Plan
   pub unused-count : length (t .unused) ≡ length (j .line .buckets)
   unused-count = rw (g .counted) (unfold totals unusedTotals start-with in (zip-length _ (j .line .buckets) ls (g .fit .count)))
 
-  some-interval : 1 ≤ intervals j
-  unfolding intervals
-  some-interval = omega (arith, limits .units)
-
   channel-is : t .channel ≡ sum (sent j plan) (intervals j)
   unfolding totals
   channel-is = ap (λ (x : Totals). x .channel) (g .counted) ∙ rw count
@@ -126,10 +152,10 @@ module _ (j : Job) (limits : InLimits j) (ls table entries : List ℕ) (r : Plan
 
     last : getD (bucketLevels j 0 plan (j .line .buckets) ls (suc (intervals j - 1))) i 0 ≤ bucketAt (j .line .buckets) i .size
     unfolding ending start-with
-    last = g .best .best .among .sound (intervals j - 1) (omega (arith, count, some-interval)) .buckets i h
+    last = g .best .best .among .sound (intervals j - 1) (omega (arith, count, some-interval j limits)) .buckets i h
 
     pub inside : getD (led-to j ls (r .entries)) i 0 ≤ bucketAt (j .line .buckets) i .size
-    inside = let e : suc (intervals j - 1) ≡ intervals j = omega (arith, some-interval) in rw leads (rw e at last)
+    inside = let e : suc (intervals j - 1) ≡ intervals j = omega (arith, some-interval j limits) in rw leads (rw e at last)
 
 -- the balance of a plan that is given: what the buckets held, what was sent and what went unused are what was drained and what they hold at its end
 pub record Balanced (b : List ℕ) (j : Job) (st : Standing) (t : Totals) : Type 0 where
@@ -138,22 +164,25 @@ pub record Balanced (b : List ℕ) (j : Job) (st : Standing) (t : Totals) : Type
   pub each : (i : ℕ) → i < length (j .line .buckets) → getD (starting j (st .carried)) i 0 + t .channel + getD (t .unused) i 0 ≡ intervals j * bucketAt (j .line .buckets) i .drain + getD (led-to j (starting j (st .carried)) (plan-part b j st .entries)) i 0
   pub within : (i : ℕ) → i < length (j .line .buckets) → getD (led-to j (starting j (st .carried)) (plan-part b j st .entries)) i 0 ≤ bucketAt (j .line .buckets) i .size
   pub room : entry-size * intervals j ≤ length (drop (st .used) (st .entries))
+  pub places : 5 * (st .done + 1) ≤ length (st .totals)
   pub long : length (plan-part b j st .entries) ≡ length (drop (st .used) (st .entries))
 
 pub balanced : (b : List ℕ) (j : Job) (k : ℕ) → parse opening b ≡ took j k → (st : Standing) (t : Totals) → plan-part b j st .answer ≡ gives t → Balanced b j st t
 balanced b j k e st t q =
     let l = limited j (well-read opening b j k e .well-formed) in
     let g = given (tried b j k e st) q in
+    let r = room-left st (omega (arith, g .space, some-interval j l)) in
     record {
       unused = unused-count j l _ _ _ _ t g;
       count = levels-count j l _ _ _ _ t g;
       each = balance j l _ _ _ _ t g;
       within = inside j l _ _ _ _ t g;
-      room = g .space;
-      long = g .best .size;
+      room = (rw (r .all) at (g .space));
+      places = r .places;
+      long = g .best .size ∙ ap (λ (x : List ℕ). length x) (r .all);
     }
 
-pub plan-refused : (b : List ℕ) (j : Job) (k : ℕ) → parse opening b ≡ took j k → (st : Standing) (n : ℕ) → plan-part b j st .answer ≡ base.refused n → plan-part b j st .entries ≡ drop (st .used) (st .entries)
+pub plan-refused : (b : List ℕ) (j : Job) (k : ℕ) → parse opening b ≡ took j k → (st : Standing) (n : ℕ) → plan-part b j st .answer ≡ base.refused n → plan-part b j st .entries ≡ rest-of st
 unfolding plan-part
 plan-refused b j k e st n q = levels-keep b _ _ _ _ _ _ .entries-kept n q
 
@@ -205,16 +234,16 @@ not-stops e = let z : _≡_ {A = ℕ} 0 1 = cc in absurd (omega arith)
 abbrev Room : Standing → Standing → Type 0
 Room st st′ = (st′ .done ≡ st .done + 1) × (st′ .used ≤ length (st′ .entries)) × (length (st′ .entries) ≡ length (st .entries)) × (length (st′ .totals) ≡ length (st .totals))
 
-pub turn-room : (b : List ℕ) (p : Programme) (st st′ : Standing) → st .used ≤ length (st .entries) → (st .done + 1) * 5 ≤ length (st .totals) → turn b p st ≡ goes-on st′ → (st′ .done ≡ st .done + 1) × (st′ .used ≤ length (st′ .entries)) × (length (st′ .entries) ≡ length (st .entries)) × (length (st′ .totals) ≡ length (st .totals))
+pub turn-room : (b : List ℕ) (p : Programme) (st st′ : Standing) → st .used ≤ length (st .entries) → turn b p st ≡ goes-on st′ → (st′ .done ≡ st .done + 1) × (st′ .used ≤ length (st′ .entries)) × (length (st′ .entries) ≡ length (st .entries)) × (length (st′ .totals) ≡ length (st .totals))
 unfolding after
-turn-room b p st st′ used done e = go (seen b p st) e
+turn-room b p st st′ used e = go (seen b p st) e
   where
     planned : (j : Job) → parse opening (part b p) ≡ took j (p .size) → (a : Answer Totals) → plan-part (part b p) j st .answer ≡ a → after j (starting j (st .carried)) st a (plan-part (part b p) j st) ≡ goes-on st′ → Room st st′
     planned j q (base.refused n) h e = not-stops e
     planned j q (gives t) h e =
         let k = balanced (part b p) j (p .size) q st t h in
         let long : length (take (st .used) (st .entries) ++ plan-part (part b p) j st .entries) ≡ length (st .entries) = length-append (take (st .used) (st .entries)) (plan-part (part b p) j st .entries) ∙ omega (arith, k .long, length-take-le (st .used) (st .entries) used, length-drop (st .used) (st .entries)) in
-        rw (← goes-same e) (omega arith, omega (arith, long, k .room, length-drop (st .used) (st .entries)), long, over-at-length _ (five t) (st .totals) (unfold five in (omega arith)))
+        rw (← goes-same e) (omega arith, omega (arith, long, k .room, length-drop (st .used) (st .entries)), long, over-at-length _ (five t) (st .totals) (unfold five in (omega (arith, k .places))))
 
     go : {t : Turn} → Seen b p st t → t ≡ goes-on st′ → Room st st′
     go (outside f) e = not-stops e

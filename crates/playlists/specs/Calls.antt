@@ -91,9 +91,13 @@ after j ls st (gives t) r = goes-on (record {
   totals = over-at (each * st .done) (five t) (st .totals);
 })
 
--- the plan of a programme, without pins, in the late order: its entries go to what is left of the list
+-- what is left of the entries for a programme's plan: all behind the plans before it, and nothing where its totals have no place, so that 12 is given for either list where it is given for the plan
+unfoldable pub rest-of : Standing → List ℕ
+rest-of st = if leb (each * (st .done + 1)) (length (st .totals)) then drop (st .used) (st .entries) else []
+
+-- the plan of a programme, without pins, in the late order
 unfoldable pub plan-part : List ℕ → Job → Standing → Planned
-plan-part b j st = levels-call b (fresh (header-in j)) (starting j (st .carried)) total late (st .table) (drop (st .used) (st .entries))
+plan-part b j st = levels-call b (fresh (header-in j)) (starting j (st .carried)) total late (st .table) (rest-of st)
 
 -- one programme: 22 where it passes the slice, the numbers of opening, the tests above, then 20 and 11 to 13
 unfoldable pub turn : List ℕ → Programme → Standing → Turn
@@ -131,11 +135,7 @@ play b (p ∷ ps) st = onward (turn b p st) (λ next. play b ps next)
 unfoldable pub is-list : List ℕ → Bool
 is-list ns = if eqb (length ns) (2 * length (programmes ns)) then kept (limit 21 1 64 (length (programmes ns))) else false
 
--- what is tested of the whole list: 21, then 12 for the totals
-unfoldable pub list-tests : List ℕ → ℕ → List Test
-list-tests ns totals = test 21 (is-list ns) ∷ test 12 (leb (each * length (programmes ns)) totals) ∷ []
-
 unfoldable pub playlist-call : List ℕ → List ℕ → List ℕ → List ℕ → List ℕ → Played
 playlist-call b ns table entries totals =
-    guarded (λ n. ended (refused-list n) (at-first table entries totals)) (list-tests ns (length totals))
+    guarded (λ n. ended (refused-list n) (at-first table entries totals)) (test 21 (is-list ns) ∷ [])
     (play b (programmes ns) (at-first table entries totals))

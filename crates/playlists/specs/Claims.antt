@@ -35,12 +35,18 @@ pub record Opens (b : List ℕ) (p : Programme) (st : Standing) (j : Job) (ls : 
   pub levels : StartsAt j (st .carried) ls
   pub alike : length ls ≡ length (j .line .buckets)
 
+-- the lists have room for what is written of a programme: three bytes an interval behind the plans before it, and five totals behind theirs
+pub record HasRoom (j : Job) (st : Standing) : Type 0 where
+  pub plan : 3 * intervals j ≤ length (drop (st .used) (st .entries))
+  pub totals : 5 * (st .done + 1) ≤ length (st .totals)
+
 -- a programme that is planned, from the standing before it to the one after it
 pub record PlannedOne (b : List ℕ) (p : Programme) (before after : Standing) : Type 0 where
   pub job : Job
   pub levels : List ℕ
   pub opens : Opens b p before job levels
   pub fit : LevelsFit job levels
+  pub room : HasRoom job before
   -- its plan is the best for it in the late order, without pins, from these levels
   pub plan : List Entry
   pub best : BestOf job 0 total late (Admissible job (no-pins (length (job .units))) 0 (from job levels)) plan
@@ -71,9 +77,9 @@ pub data Stops (b : List ℕ) (p : Programme) (st : Standing) : ℕ → List ℕ
   other-buckets : {j : Job} {ls : List ℕ} → p .first + p .size ≤ length b → parse opening (part b p) ≡ took j (p .size) → StartsAt j (st .carried) ls → (length ls ≡ length (j .line .buckets) → ⊥) → Stops b p st 22 (st .table)
   level-over : {j : Job} {ls : List ℕ} → Opens b p st j ls → (LevelsFit j ls → ⊥) → Stops b p st 20 (st .table)
   short-table : {j : Job} {ls : List ℕ} → Opens b p st j ls → LevelsFit j ls → (words j ≤ length (st .table) → ⊥) → Stops b p st 11 (st .table)
-  short-list : {j : Job} {ls : List ℕ} → Opens b p st j ls → LevelsFit j ls → words j ≤ length (st .table) → (3 * intervals j ≤ length (drop (st .used) (st .entries)) → ⊥) → Stops b p st 12 (st .table)
+  short-list : {j : Job} {ls : List ℕ} → Opens b p st j ls → LevelsFit j ls → words j ≤ length (st .table) → (HasRoom j st → ⊥) → Stops b p st 12 (st .table)
   -- 13 leaves its table, and the words behind it
-  no-plan : {j : Job} {ls table : List ℕ} → Opens b p st j ls → LevelsFit j ls → words j ≤ length (st .table) → 3 * intervals j ≤ length (drop (st .used) (st .entries)) → ((q : List Entry) → Admissible j (no-pins (length (j .units))) 0 (from j ls) q → ⊥) → IsTable j (unlimited (no-pins (length (j .units)))) 0 table → drop (words j) table ≡ drop (words j) (st .table) → length table ≡ length (st .table) → Stops b p st 13 table
+  no-plan : {j : Job} {ls table : List ℕ} → Opens b p st j ls → LevelsFit j ls → words j ≤ length (st .table) → HasRoom j st → ((q : List Entry) → Admissible j (no-pins (length (j .units))) 0 (from j ls) q → ⊥) → IsTable j (unlimited (no-pins (length (j .units)))) 0 table → drop (words j) table ≡ drop (words j) (st .table) → length table ≡ length (st .table) → Stops b p st 13 table
 
 -- one programme after another: all are planned; or one is refused, with its place, counted from 1, and the plans, totals and table before it stay as they are
 pub data Run (b : List ℕ) : List Programme → Standing → Played → Type 0 where
@@ -108,6 +114,6 @@ Programmes = (ns : List ℕ) → ProgrammesClaim ns
 abbrev pub Parts : Type 0
 Parts = (b : List ℕ) (p : Programme) → p .first + p .size ≤ length b → PartClaim b p
 
--- 21 and 12 of the whole list, which leave everything; else programme after programme
+-- 21 of the whole list, which leaves everything; else programme after programme
 abbrev pub PlaylistCalls : Type 0
-PlaylistCalls = (b ns table entries totals : List ℕ) → let r = playlist-call b ns table entries totals in InOrder r (λ n. record { answer = refused-list n; table = table; entries = entries; totals = totals }) (condition 21 (IsList ns) ∷ condition 12 (5 * length (programmes ns) ≤ length totals) ∷ []) (Run b (programmes ns) (record { done = 0; used = 0; carried = none; table = table; entries = entries; totals = totals }) r)
+PlaylistCalls = (b ns table entries totals : List ℕ) → let r = playlist-call b ns table entries totals in InOrder r (λ n. record { answer = refused-list n; table = table; entries = entries; totals = totals }) (condition 21 (IsList ns) ∷ []) (Run b (programmes ns) (record { done = 0; used = 0; carried = none; table = table; entries = entries; totals = totals }) r)

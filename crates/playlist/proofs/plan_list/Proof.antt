@@ -3,7 +3,7 @@ use Prim.Native.Nat.{_/_}
 use mathlib.Core.Path.{refl, _∙_}
 use native.Mathlib.Omega.{arith}
 use lib.ListN.{length}
-use Rattle.playlist.proofs.Listing.{among, not-among, list-odd, list-count, list-short, going, list-runs}
+use Rattle.playlist.proofs.Listing.{among, not-among, list-odd, list-count, going, list-runs}
 use borrow.Author.Needs.{needs}
 use Rattle.playlist.proofs.plan_list.Statement.{statement}
 use Rattle.playlist.proofs.plan_list.Tie as tie
@@ -17,18 +17,12 @@ returns c = let a = c .before .before .before .before .before .before .args in l
 returns-2 : tie.Need-returns-2
 returns-2 c = let a = c .before .before .before .before .before .before .before .args in list-count (a .bytes .now) (a .numbers .now) (a .table .now) (a .entries .now) (a .totals .now) (length (a .numbers .now) / 2) refl (λ h g. not-among _ _ (c .if2 .taken) h (omega (arith, g)))
 
-mul-if3 : tie.Need-mul-if3
-mul-if3 c = search needs
-
-returns-3 : tie.Need-returns-3
-returns-3 c = let a = c .before .before .before .before .before .before .before .before .args in let k = among (length (a .numbers .now) / 2) _ (c .before .if2 .left) in list-short (a .bytes .now) (a .numbers .now) (a .table .now) (a .entries .now) (a .totals .now) (length (a .numbers .now) / 2) refl (c .before .before .if1 .left) (k .0) (omega (arith, k .1)) (c .if3 .taken)
-
 plan-all-requires : tie.Need-plan-all-requires
 plan-all-requires c κs =
     let e = c .before .before .before in
-    let a = e .before .before .before .before .before .before .before .before .args in
-    let k = among (length (a .numbers .now) / 2) _ (e .before .if2 .left) in
-    going (a .bytes .now) (a .numbers .now) (a .table .now) (a .entries .now) (a .totals .now) (length (a .numbers .now) / 2) refl (e .before .before .if1 .left) (k .0) (omega (arith, k .1)) (e .if3 .left)
+    let a = e .before .before .before .before .before .before .before .args in
+    let k = among (length (a .numbers .now) / 2) _ (e .if2 .left) in
+    going (a .bytes .now) (a .numbers .now) (a .table .now) (a .entries .now) (a .totals .now) (length (a .numbers .now) / 2) refl (e .before .if1 .left) (k .0) (omega (arith, k .1))
 
 same-length : tie.Need-same-length
 same-length c = search needs
@@ -39,13 +33,13 @@ same-length-2 c = search needs
 same-length-3 : tie.Need-same-length-3
 same-length-3 c = search needs
 
-returns-4 : tie.Need-returns-4
-returns-4 c =
+returns-3 : tie.Need-returns-3
+returns-3 c =
     let p = c .before .before .before .before .before .before in
     let e = p .before .before .before .before in
-    let a = e .before .before .before .before .before .before .before .before .args in
-    let k = among (length (a .numbers .now) / 2) _ (e .before .if2 .left) in
-    p .plan-all .ensures ∙ list-runs (a .bytes .now) (a .numbers .now) (a .table .now) (a .entries .now) (a .totals .now) (length (a .numbers .now) / 2) refl (e .before .before .if1 .left) (k .0) (omega (arith, k .1)) (e .if3 .left)
+    let a = e .before .before .before .before .before .before .before .args in
+    let k = among (length (a .numbers .now) / 2) _ (e .if2 .left) in
+    p .plan-all .ensures ∙ list-runs (a .bytes .now) (a .numbers .now) (a .table .now) (a .entries .now) (a .totals .now) (length (a .numbers .now) / 2) refl (e .before .if1 .left) (k .0) (omega (arith, k .1))
 
 pub plan-list-spec : {M : Type 1} → statement M
 plan-list-spec =
@@ -54,10 +48,8 @@ plan-list-spec =
     mul-if1
     returns
     returns-2
-    mul-if3
-    returns-3
     plan-all-requires
     same-length
     same-length-2
     same-length-3
-    returns-4)
+    returns-3)
