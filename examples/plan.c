@@ -38,12 +38,36 @@ static const uint8_t two_buckets[] = {
     U16(26), U16(UPLOAD_TWO_BUCKETS), FIELDS, U16(1), U16(2), U16(0), RATES_AND_UNITS,
 };
 
-/* The rates' record follows the header's, whose length leaves out its own two
-   bytes; its first rate stands after the record's length and kind. */
-static unsigned rate_of(const uint8_t *job, unsigned index)
+/* Room for a list. One without numbers has a byte, so that no pointer is null. */
+static void *room(size_t bytes)
 {
-    const uint8_t *rate = job + 2 + job[0] + 4 + 2 * index;
-    return rate[0] | (unsigned)rate[1] << 8;
+    void *list = malloc(bytes > 0 ? bytes : 1);
+    if (list == NULL) {
+        fprintf(stderr, "no memory\n");
+        exit(1);
+    }
+    return list;
+}
+
+/* Reads a job back: its rates, UPLOAD_RATES_MOST at most, and how many buckets its
+   line has. What the units take is read too, and not kept: an interval's line names
+   a choice by its index. */
+static uint32_t read_back(const uint8_t *job, size_t job_len, uint16_t *rates, size_t *buckets)
+{
+    uint16_t fields[UPLOAD_FIELDS_MOST];
+    uint64_t values[UPLOAD_READ_VALUES];
+    size_t most = job_len / 6; /* long enough for every job of so many bytes */
+    uint16_t *sizes = room(most * sizeof *sizes);
+    uint32_t *distortions = room(most * sizeof *distortions);
+
+    uint32_t refusal = upload_read(job, job_len, fields, UPLOAD_FIELDS_MOST,
+                                   rates, UPLOAD_RATES_MOST, sizes, most, distortions, most,
+                                   values, UPLOAD_READ_VALUES);
+    if (refusal == UPLOAD_OK)
+        *buckets = values[1] == UPLOAD_FIELDS_MOST ? 2 : 1;
+    free(sizes);
+    free(distortions);
+    return refusal;
 }
 
 /* An entry is a rate's index, then a choice as two bytes, the lower first. */
@@ -72,23 +96,21 @@ static void print_interval(unsigned t, unsigned sent, unsigned choice, const uin
 static uint32_t plan(const uint8_t *job, size_t job_len, const uint16_t *calls, size_t calls_len)
 {
     uint64_t opened[UPLOAD_OPEN_VALUES];
+    uint16_t rates[UPLOAD_RATES_MOST];
+    size_t buckets;
     uint32_t refusal = upload_open(job, job_len, opened, UPLOAD_OPEN_VALUES);
+    if (refusal == UPLOAD_OK)
+        refusal = read_back(job, job_len, rates, &buckets);
     if (refusal != UPLOAD_OK)
         return refusal;
     size_t intervals = opened[2], words = opened[3];
-    size_t buckets = job[2] == UPLOAD_TWO_BUCKETS ? 2 : 1;
     size_t each = 1 + buckets; /* levels of an interval */
 
     uint64_t totals[UPLOAD_PLAN_VALUES_MOST], replayed[UPLOAD_REPLAY_VALUES_MOST];
-    /* no list is empty, so that no pointer is null */
-    uint8_t *answers = malloc(calls_len / 3 + 1);
-    uint32_t *table = malloc(words * sizeof *table);
-    uint8_t *entries = malloc(ENTRY * intervals);
-    uint16_t *levels = malloc(each * intervals * sizeof *levels);
-    if (answers == NULL || table == NULL || entries == NULL || levels == NULL) {
-        fprintf(stderr, "no memory\n");
-        exit(1);
-    }
+    uint8_t *answers = room(calls_len / 3);
+    uint32_t *table = room(words * sizeof *table);
+    uint8_t *entries = room(ENTRY * intervals);
+    uint16_t *levels = room(each * intervals * sizeof *levels);
 
     refusal = upload_plan(job, job_len, calls, calls_len, UPLOAD_TOTAL, UPLOAD_EARLY,
                           answers, calls_len / 3, table, words, entries, ENTRY * intervals,
@@ -100,7 +122,7 @@ static uint32_t plan(const uint8_t *job, size_t job_len, const uint16_t *calls, 
         printf("plan %" PRIu64 " %zu %zu\n", opened[1], intervals, words);
         for (size_t i = 0; i < intervals; i++) {
             const uint8_t *entry = entries + ENTRY * i;
-            print_interval((unsigned)i + 1, rate_of(job, entry[0]), choice_of(entry),
+            print_interval((unsigned)i + 1, rates[entry[0]], choice_of(entry),
                            levels + each * i, each);
         }
         printf("total");

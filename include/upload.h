@@ -26,7 +26,8 @@
    what larger buckets would bring, upload_playlist plans programmes that are sent
    back to back.
 
-   The header says how many buckets there are: a job that opens has it in its
+   The header says how many buckets there are: upload_read tells it by the number
+   of fields, a set of pins by its number 0, and a job that opens has it in its
    byte 2, the kind of its first record, which is one of enum upload_header. With
    a second bucket planning and replay have a value more, and replay a level more
    for each interval. A list for values as long as the _MOST constant below is
@@ -36,11 +37,12 @@
    upload_write makes the bytes of a job from its header and lists, upload_trial
    those of a job to try things with, from its header and a starting state. Every
    other function takes these bytes and reads them again, by one of two doors (see
-   below); bytes after the job are not looked at, but for upload_playlist, which has
-   an entry for each job. Nothing is kept between calls,
-   and no memory is taken: all that is written goes to lists that the caller
-   lends. Calls from several threads are fine as long as no list that one writes
-   is lent to another. Of the C library only memcpy and memset are used.
+   below); upload_read gives header and lists back. Bytes after the job are not
+   looked at, but for upload_playlist, which has an entry for each job. Nothing is
+   kept between calls, and no memory is taken: all that is written goes to lists
+   that the caller lends. Calls from several threads are fine as long as no list
+   that one writes is lent to another. Of the C library only memcpy and memset are
+   used.
 
    A list is a pointer and a count of its numbers. One that is written may be
    longer than needed; what stands past the part named as written keeps its
@@ -70,9 +72,11 @@
        upload_plan      opening    17
        upload_set, upload_pin, upload_lift, upload_pin_and_see,
        upload_lift_and_see, upload_plan_set, upload_change, upload_sizes,
-       upload_playlist
+       upload_playlist, upload_read
                         opening    17
        upload_archive   archive    opened, with the values that another drain has
+       upload_read_archive
+                        archive    read back as with another drain
        upload_replay    archive    replayed without pins: each call is refused
        upload_replay_set
                         archive    replayed without pins: no call pins a unit
@@ -240,6 +244,7 @@ enum upload_violation {
 #define UPLOAD_REPLAY_VALUES 6      /* one bucket */
 #define UPLOAD_REPLAY_VALUES_MOST 7 /* two buckets */
 #define UPLOAD_WRITE_VALUES 1
+#define UPLOAD_READ_VALUES 2
 #define UPLOAD_SEE_VALUES 1
 
 /* How many levels replay gives for each interval: 1 and the number of buckets. */
@@ -249,6 +254,9 @@ enum upload_violation {
 /* How many fields a job's header has. */
 #define UPLOAD_FIELDS 9             /* one bucket */
 #define UPLOAD_FIELDS_MOST 12       /* two buckets */
+
+/* The most rates that a job has. */
+#define UPLOAD_RATES_MOST 16
 
 /* Opens a job: checks all of it and says what the other functions need.
 
@@ -618,6 +626,42 @@ uint32_t upload_write(const uint16_t *fields, size_t fields_len,
                       const uint32_t *distortions, size_t distortions_len,
                       uint8_t *job, size_t job_len,
                       uint64_t *values, size_t values_len);
+
+/* Reads a job back: its header and lists, as upload_write takes them. Written
+   again they are the bytes that the job took.
+
+   fields:      UPLOAD_FIELDS numbers written, or UPLOAD_FIELDS_MOST where the line
+                has two buckets: the header's in the order of upload_write.
+   rates:       P numbers written.
+   sizes:       N x M numbers written by unit and choice, unit after unit: number
+                (u - 1) x M + c is what unit u takes at choice c, in grains.
+   distortions: N x M numbers written in the order of `sizes`.
+   values:      2 numbers written: how many bytes the job took, and how many fields
+                were written.
+
+   Lists of UPLOAD_FIELDS_MOST, UPLOAD_RATES_MOST, job_len / 6, job_len / 6 and
+   UPLOAD_READ_VALUES numbers are long enough for every job of job_len bytes.
+
+   Refusals in order: 1 to 5, with 17 directly after 3; 12 where a list is too
+   short. */
+uint32_t upload_read(const uint8_t *job, size_t job_len,
+                     uint16_t *fields, size_t fields_len,
+                     uint16_t *rates, size_t rates_len,
+                     uint16_t *sizes, size_t sizes_len,
+                     uint32_t *distortions, size_t distortions_len,
+                     uint64_t *values, size_t values_len);
+
+/* Reads a stored job back, whose line may never drain: all else is as in
+   upload_read. A job that opens is read as there. One with a drain of 0 is not
+   written again.
+
+   Refusals in order: 1 to 5; 12 where a list is too short. */
+uint32_t upload_read_archive(const uint8_t *job, size_t job_len,
+                             uint16_t *fields, size_t fields_len,
+                             uint16_t *rates, size_t rates_len,
+                             uint16_t *sizes, size_t sizes_len,
+                             uint32_t *distortions, size_t distortions_len,
+                             uint64_t *values, size_t values_len);
 
 /* Writes a trial job: one with this header, whose rates, sizes and distortions are
    drawn from a starting state. The same header and state give the same bytes on

@@ -7,7 +7,8 @@
 //! of the archive that it takes what opening takes with another drain, of a sitting that it
 //! comes to the set, the table and the plans of a fresh one with its pins, of a change of
 //! contract that it plans the rest as a job of its own is planned, of a list for larger
-//! buckets that each number is what planning gives for the job with that size, and of a
+//! buckets that each number is what planning gives for the job with that size, of reading a
+//! job back that what was read is written again as the bytes that the job took, and of a
 //! playlist that each programme is planned as by itself from the levels at which the last one
 //! ended, and that all intervals keep their limits when they are followed in one go.
 //!
@@ -26,10 +27,10 @@
 //! one. `--no-full` leaves out the one job of the largest size, which takes most
 //! of the time. `--small` keeps to few and small jobs, takes no times and lends
 //! every list as a piece of memory of its own, for runs that watch each access to
-//! memory. `--examples` adds a group: the job of each X.bin in DIR is written
-//! again, and planned with one distortion changed. `--words` tests nothing: it
-//! prints the words of every refusal and violation, to be compared with those of
-//! the C header.
+//! memory. `--examples` adds a group: the job of each X.bin in DIR is read and
+//! written again, and planned with one distortion changed. `--words` tests
+//! nothing: it prints the words of every refusal and violation, to be compared
+//! with those of the C header.
 
 use std::collections::{BTreeMap, BTreeSet};
 use std::fmt::{Debug, Display};
@@ -3919,7 +3920,17 @@ fn check_not_opened(
     let (aim, order) = (typed_aim(rng.pick(&AIMS)), typed_order(rng.pick(&ORDERS)));
     let found = upload_planner::best_plan(bytes, &typed, aim, order);
     same("owned plan", Some(number), found.err().map(|refusal| refusal.number()))?;
+    check_unread(rng, Door::Opening, bytes, number)?;
     check_no_sitting(rng, bytes, number, table, planned)
+}
+
+/// Reading by the door refuses these bytes, whatever is lent.
+fn check_unread(rng: &mut Rng, door: Door, bytes: &[u8], number: u32) -> Checked {
+    let lengths = std::array::from_fn(|_| rng.from(0, 20));
+    let mut lent = ReadLists::new(rng, lengths);
+    same("read", number, lent.read(door, bytes))?;
+    lent.kept()?;
+    same("contents", Some(number), contents_by(door, bytes).err())
 }
 
 /// No set is made of these bytes, and none that is lent is looked at; `table` and
@@ -4000,6 +4011,7 @@ fn check_not_stored(
     let number = number as u32;
     let [open, _, _, _, room, _, levels, replayed, sums] = lengths;
     check_unopened(rng, Door::Archive, bytes, number, open)?;
+    check_unread(rng, Door::Archive, bytes, number)?;
 
     let entries: Vec<u8> = (0..rng.from(0, 12)).map(|_| rng.next() as u8).collect();
     let mut levels: Lent<u16> = Lent::new(rng, levels);
@@ -7225,7 +7237,7 @@ fn room_for(lists: &Lists) -> usize {
 // Writing the examples again.
 // ---------------------------------------------------------------------------
 
-/// Each example's job is written as it stands in the file; with a distortion
+/// Each example's job is read, and written as it stands in the file; with a distortion
 /// changed it opens and plans as the changed job is to. One that never drains is not
 /// written.
 fn examples_group(directory: &Path) -> Result<String, String> {
@@ -7253,6 +7265,7 @@ fn examples_group(directory: &Path) -> Result<String, String> {
 fn check_example(rng: &mut Rng, input: &[u8]) -> Result<[usize; 3], String> {
     let mut reader = Reader { rest: input };
     let job = read_stored(&mut reader).map_err(|number| format!("no job: {number}"))?;
+    check_job_read(rng, &Lists::of_job(&job).draft(), input)?;
     if job.never_drains() {
         same("write", 17, check_write(rng, &Lists::of_job(&job), input.len(), 1)?)?;
         same("bytes", [17, 0], check_bytes(rng, input)?)?;
@@ -7865,6 +7878,811 @@ fn change_length<T: Copy>(rng: &mut Rng, list: &mut Vec<T>) {
             1..=4 => drop(list.remove(at)),
             _ => list.insert(at, list[at]),
         }
+    }
+}
+
+// ---------------------------------------------------------------------------
+// Reading a job back.
+// ---------------------------------------------------------------------------
+
+/// What a job is read to.
+struct ReadLists {
+    fields: Lent<u16>,
+    rates: Lent<u16>,
+    sizes: Lent<u16>,
+    distortions: Lent<u32>,
+    values: Lent<u64>,
+}
+
+impl ReadLists {
+    /// `lengths`: fields, rates, sizes, distortions, values.
+    fn new(rng: &mut Rng, lengths: [usize; READ_LISTS]) -> ReadLists {
+        ReadLists {
+            fields: Lent::new(rng, lengths[0]),
+            rates: Lent::new(rng, lengths[1]),
+            sizes: Lent::new(rng, lengths[2]),
+            distortions: Lent::new(rng, lengths[3]),
+            values: Lent::new(rng, lengths[4]),
+        }
+    }
+
+    fn read(&mut self, door: Door, job: &[u8]) -> u32 {
+        let read = match door {
+            Door::Opening => numbers::read,
+            Door::Archive => numbers::read_archive,
+        };
+        read(
+            job,
+            self.fields.list(),
+            self.rates.list(),
+            self.sizes.list(),
+            self.distortions.list(),
+            self.values.list(),
+        )
+    }
+
+    fn wrote(&self, lists: &Lists, taken: usize) -> Checked {
+        self.fields.wrote("fields", &lists.fields)?;
+        self.rates.wrote("rates", &lists.rates)?;
+        self.sizes.wrote("sizes", &lists.sizes)?;
+        self.distortions.wrote("distortions", &lists.distortions)?;
+        let values = [taken, lists.fields.len()].map(|value| value as u64);
+        self.values.wrote("values of read", &values)
+    }
+
+    fn kept(&self) -> Checked {
+        self.fields.kept("fields")?;
+        self.rates.kept("rates")?;
+        self.sizes.kept("sizes")?;
+        self.distortions.kept("distortions")?;
+        self.values.kept("values of read")
+    }
+
+    /// What was read, by nothing but the counts that were read with it, and the bytes that
+    /// the job took.
+    fn lists(&self) -> Option<(Lists, usize)> {
+        let values = self.values.held();
+        let fields = self.fields.held().get(..values[1] as usize)?.to_vec();
+        let codings = *fields.get(UNITS)? as usize * *fields.get(CHOICES)? as usize;
+        let lists = Lists {
+            rates: self.rates.held().get(..*fields.get(RATES)? as usize)?.to_vec(),
+            sizes: self.sizes.held().get(..codings)?.to_vec(),
+            distortions: self.distortions.held().get(..codings)?.to_vec(),
+            fields,
+        };
+        Some((lists, values[0] as usize))
+    }
+}
+
+/// The lengths that are promised to be long enough for every job of so many bytes.
+fn always_enough(bytes: &[u8]) -> [usize; READ_LISTS] {
+    [12, 16, bytes.len() / 6, bytes.len() / 6, READ_VALUES]
+}
+
+/// Has a job read to lists of these lengths, and compares all that they hold afterwards with
+/// what is due. Gives the number due.
+fn check_read_to(
+    rng: &mut Rng,
+    door: Door,
+    bytes: &[u8],
+    lengths: [usize; READ_LISTS],
+    due: &ReadBack,
+) -> Result<Refusal, String> {
+    // A copy has no memory to spare, so that a watched run sees what is read past the end.
+    let given = bytes.to_vec();
+    let mut lent = ReadLists::new(rng, lengths);
+    let found = lent.read(door, &given);
+    let number = due.as_ref().err().copied().unwrap_or(0);
+    let held = match due {
+        Ok((lists, taken)) => lent.wrote(lists, *taken),
+        Err(_) => lent.kept(),
+    };
+    same("number", number as u32, found)
+        .and(held)
+        .map_err(|trouble| format!("{door:?}, read to lists of {lengths:?}: {trouble}"))?;
+    Ok(number)
+}
+
+/// The same, with what the reference reads.
+fn check_read(
+    rng: &mut Rng,
+    door: Door,
+    bytes: &[u8],
+    lengths: [usize; READ_LISTS],
+) -> Result<Refusal, String> {
+    check_read_to(rng, door, bytes, lengths, &read_back(door, bytes, lengths))
+}
+
+/// What was read is enough to write the job again, byte for byte. The library writes none
+/// that never drains, so the reference does.
+fn check_read_and_written(rng: &mut Rng, door: Door, bytes: &[u8]) -> Checked {
+    let mut lent = ReadLists::new(rng, always_enough(bytes));
+    same("read", 0, lent.read(door, bytes))?;
+    let (lists, taken) = lent.lists().ok_or("counts that do not fit what was read")?;
+    let due = bytes.get(..taken).ok_or(format!("{taken} bytes taken of {}", bytes.len()))?;
+    let draft = lists.draft();
+    ensure!(draft.bytes() == due, "what was read makes another job");
+    let room = taken + slack(rng);
+    let mut job = Lent::new(rng, room);
+    let mut count = Lent::new(rng, 1);
+    let Lists { fields, rates, sizes, distortions } = &lists;
+    let found = numbers::write(fields, rates, sizes, distortions, job.list(), count.list());
+    if draft.never_drains() {
+        same("a job that never drains, written again", 17, found)?;
+        count.kept("values of write again")?;
+        return job.kept("job written again");
+    }
+    same("write again", 0, found)?;
+    job.wrote("job written again", due)?;
+    count.wrote("values of write again", &[taken as u64])
+}
+
+fn contents_by(door: Door, job: &[u8]) -> Result<upload_planner::Contents, u32> {
+    let contents = match door {
+        Door::Opening => upload_planner::contents(job),
+        Door::Archive => upload_planner::archived_contents(job),
+    };
+    contents.map_err(|refusal| refusal.number())
+}
+
+/// The typed functions give what the numbers give, and the job again.
+fn check_contents(door: Door, bytes: &[u8], due: &ReadBack) -> Checked {
+    let checked = match (due, contents_by(door, bytes)) {
+        (Ok((lists, taken)), Ok(contents)) => check_held(&contents, lists, &bytes[..*taken]),
+        (due, found) => {
+            let number = due.as_ref().err().map(|number| *number as u32);
+            same("contents", number, found.err())
+        }
+    };
+    checked.map_err(|trouble| format!("{door:?}, typed: {trouble}"))
+}
+
+/// `job`: the bytes that the job took.
+fn check_held(contents: &upload_planner::Contents, lists: &Lists, job: &[u8]) -> Checked {
+    same("the header's numbers", &lists.fields[..], &contents.header.numbers()[..])?;
+    same("header", header_of(&lists.fields).as_ref(), Some(&contents.header))?;
+    same("rates", &lists.rates, &contents.rates)?;
+    same("sizes", &lists.sizes, &contents.sizes)?;
+    same("distortions", &lists.distortions, &contents.distortions)?;
+    check_codings(contents, lists)?;
+    let never = lists.draft().never_drains();
+    let due = if never { Err(17) } else { Ok(job.to_vec()) };
+    same("job of the contents", due, contents.job().map_err(|refusal| refusal.number()))
+}
+
+/// The coding of units and choices at both ends of their ranges, within and outside.
+fn check_codings(contents: &upload_planner::Contents, lists: &Lists) -> Checked {
+    let [units, choices] = [lists.fields[UNITS], lists.fields[CHOICES]];
+    for unit in [0, 1, 2, units / 2, units - 1, units, units + 1, 0x8001, 0xffff] {
+        for choice in [0, 1, choices / 2, choices - 1, choices, choices + 1, 0x8000, 0xffff] {
+            check_coding(contents, lists, unit, choice)?;
+        }
+    }
+    Ok(())
+}
+
+fn check_coding(
+    contents: &upload_planner::Contents,
+    lists: &Lists,
+    unit: u16,
+    choice: u16,
+) -> Checked {
+    let [units, choices] = [lists.fields[UNITS], lists.fields[CHOICES]];
+    let due = ((1..=units).contains(&unit) && choice < choices).then(|| {
+        let at = (unit as usize - 1) * choices as usize + choice as usize;
+        (lists.sizes[at], lists.distortions[at])
+    });
+    let found = contents.coding(unit, choice);
+    ensure!(due == found, "unit {unit} at choice {choice}: due {due:?}, instead {found:?}");
+    Ok(())
+}
+
+/// The bytes of Job A, and of a job of one unit and one choice in which no two numbers but the
+/// counts are alike, each on a line of one bucket and of two.
+const READ_A: [u8; 64] = [
+    20, 0, 1, 0, // the header
+    2, 0, 1, 0, 4, 0, 3, 0, 2, 0, 0, 0, 0, 0, 3, 0, 2, 0, // its nine fields
+    8, 0, 2, 0, 0, 0, 2, 0, 4, 0, // the rates
+    14, 0, 3, 0, 4, 0, 10, 0, 0, 0, 2, 0, 30, 0, 0, 0, // unit 1
+    14, 0, 3, 0, 5, 0, 12, 0, 0, 0, 2, 0, 40, 0, 0, 0, // unit 2
+];
+const READ_A_TWO: [u8; 70] = [
+    26, 0, 8, 0, // the header
+    2, 0, 1, 0, 4, 0, 3, 0, 2, 0, 0, 0, 0, 0, 3, 0, 2, 0, // its first nine fields
+    7, 0, 9, 0, 5, 0, // the second bucket
+    8, 0, 2, 0, 0, 0, 2, 0, 4, 0, // the rates
+    14, 0, 3, 0, 4, 0, 10, 0, 0, 0, 2, 0, 30, 0, 0, 0, // unit 1
+    14, 0, 3, 0, 5, 0, 12, 0, 0, 0, 2, 0, 40, 0, 0, 0, // unit 2
+];
+const READ_ONE: [u8; 38] = [
+    20, 0, 1, 0, // the header
+    1, 0, 64, 0, 255, 0, 250, 0, 13, 14, 254, 0, 249, 0, 1, 0, 1, 0, // its nine fields
+    4, 0, 2, 0, 2, 1, // the rate
+    8, 0, 3, 0, 11, 10, 14, 13, 12, 0, // the unit
+];
+const READ_ONE_TWO: [u8; 44] = [
+    26, 0, 8, 0, // the header
+    1, 0, 64, 0, 255, 0, 250, 0, 13, 14, 254, 0, 249, 0, 1, 0, 1, 0, // its first nine fields
+    63, 0, 3, 2, 62, 0, // the second bucket
+    4, 0, 2, 0, 2, 1, // the rate
+    8, 0, 3, 0, 11, 10, 14, 13, 12, 0, // the unit
+];
+
+/// The first place of each bucket's drain in the bytes.
+const DRAIN_BYTES: [usize; MOST_BUCKETS] = [4 + 2 * DRAIN, 4 + 2 * SECOND_DRAIN];
+
+/// A job's bytes, and what is to be read of them.
+struct ReadRow {
+    what: String,
+    bytes: Vec<u8>,
+    lists: Lists,
+}
+
+/// By hand, and with every set of drains at 0.
+fn read_rows() -> Vec<ReadRow> {
+    let a = Lists {
+        fields: vec![2, 1, 4, 3, 2, 0, 0, 3, 2],
+        rates: vec![0, 2, 4],
+        sizes: vec![4, 2, 5, 2],
+        distortions: vec![10, 30, 12, 40],
+    };
+    let one = Lists {
+        fields: vec![1, 64, 255, 250, 3597, 254, 249, 1, 1],
+        rates: vec![258],
+        sizes: vec![2571],
+        distortions: vec![789_774],
+    };
+    let doubled = |lists: &Lists, second: [u16; 3]| Lists {
+        fields: [&lists.fields[..], &second].concat(),
+        ..lists.clone()
+    };
+    let (a_two, one_two) = (doubled(&a, [7, 9, 5]), doubled(&one, [63, 515, 62]));
+    let jobs = [
+        ("Job A", READ_A.to_vec(), a),
+        ("Job A, two buckets", READ_A_TWO.to_vec(), a_two),
+        ("one unit and one choice", READ_ONE.to_vec(), one),
+        ("one unit and one choice, two buckets", READ_ONE_TWO.to_vec(), one_two),
+    ];
+    let mut rows = Vec::new();
+    for (what, bytes, lists) in &jobs {
+        let buckets = if lists.fields.len() > FIELDS[0] { 2 } else { 1 };
+        rows.extend((0..1 << buckets).map(|stopped| stopped_row(what, bytes, lists, stopped)));
+    }
+    rows
+}
+
+/// A drain of 0 in each bucket whose bit is set, in the bytes and in the lists.
+fn stopped_row(what: &str, bytes: &[u8], lists: &Lists, stopped: usize) -> ReadRow {
+    let (mut bytes, mut lists) = (bytes.to_vec(), lists.clone());
+    for (at, field) in [DRAIN, SECOND_DRAIN].into_iter().enumerate() {
+        if stopped >> at & 1 == 1 {
+            bytes[DRAIN_BYTES[at]..DRAIN_BYTES[at] + 2].fill(0);
+            lists.fields[field] = 0;
+        }
+    }
+    ReadRow { what: format!("{what}, drains of 0: {stopped:02b}"), bytes, lists }
+}
+
+/// What a unit of `placed_row` takes and loses at a choice: another number in nearly every
+/// place.
+fn placed_coding(unit: usize, choice: usize) -> (u16, u32) {
+    let (grains, distortion) = (37 * unit + 11 * choice, 1951 * unit + 997 * choice);
+    ((grains % 4096) as u16, (distortion % 1_000_001) as u32)
+}
+
+/// A job of this many units, rates and choices, whose every number follows from its place.
+/// `second`: the second bucket, if any.
+fn placed_row(units: usize, rates: usize, choices: usize, second: &[u16]) -> ReadRow {
+    let mut lists = Lists {
+        fields: vec![units as u16, 64, 255, 253, 4095, 254, 252, rates as u16, choices as u16],
+        rates: (0..rates).map(|at| 250 + 256 * at as u16).collect(),
+        sizes: vec![0; units * choices],
+        distortions: vec![0; units * choices],
+    };
+    lists.fields.extend_from_slice(second);
+    for (unit, choice) in (1..=units).flat_map(|unit| (0..choices).map(move |c| (unit, c))) {
+        let at = (unit - 1) * choices + choice;
+        (lists.sizes[at], lists.distortions[at]) = placed_coding(unit, choice);
+    }
+    let unit = |unit| (0..choices).map(|choice| placed_coding(unit, choice)).collect();
+    let bytes = Draft {
+        header: lists.fields.clone(),
+        rates: lists.rates.clone(),
+        units: (1..=units).map(unit).collect(),
+        commands: Vec::new(),
+    }
+    .bytes();
+    let buckets = if second.is_empty() { 1 } else { 2 };
+    let what = format!("{units} units, {rates} rates, {choices} choices, {buckets} buckets");
+    ReadRow { what, bytes, lists }
+}
+
+impl ReadRow {
+    fn never_drains(&self) -> bool {
+        let drains = [DRAIN, SECOND_DRAIN].map(|field| self.lists.fields.get(field));
+        drains.contains(&Some(&0))
+    }
+
+    /// What the door makes of it.
+    fn due(&self, door: Door) -> ReadBack {
+        if door == Door::Opening && self.never_drains() {
+            return Err(17);
+        }
+        Ok((self.lists.clone(), self.bytes.len()))
+    }
+
+    /// By a door, with these bytes behind the job, to lists of just enough and longer ones.
+    fn check(&self, rng: &mut Rng, door: Door, behind: &[u8]) -> Checked {
+        let bytes = then(self.bytes.clone(), behind);
+        let due = self.due(door);
+        let needs = self.lists.read_needs();
+        for lengths in [needs, needs.map(|need| need + 1), needs.map(|need| need + slack(rng))] {
+            check_read_to(rng, door, &bytes, lengths, &due)?;
+        }
+        if due.is_ok() {
+            check_read_and_written(rng, door, &bytes)?;
+        }
+        check_contents(door, &bytes, &due)
+    }
+}
+
+/// Jobs whose every number is worked out apart, with other bytes behind them.
+fn read_by_hand_group() -> Result<String, String> {
+    let mut rng = Rng(1);
+    let mut rows = read_rows();
+    rows.push(placed_row(512, 16, 1, &[]));
+    rows.push(placed_row(2, 16, MOST_CHOICES, &[63, 4095, 61]));
+    rows.push(placed_row(3, 2, 300, &[]));
+    rows.push(placed_row(300, 15, 3, &[62, 256, 1]));
+    let zeros = vec![0; 70_000];
+    let tails = [&[][..], &[0], &[3, 0, 3], &[255; 9], &READ_A, &zeros];
+    let mut readings = 0;
+    for (row, behind) in rows.iter().flat_map(|row| tails.map(|behind| (row, behind))) {
+        for door in DOORS {
+            row.check(&mut rng, door, behind).map_err(|trouble| {
+                format!("{}, {} bytes behind: {trouble}", row.what, behind.len())
+            })?;
+            readings += 1;
+        }
+    }
+    Ok(format!("{} jobs, {readings} readings", rows.len()))
+}
+
+/// The largest jobs, and one of as many codings as two bytes can count and one more.
+fn largest_read_group() -> Result<String, String> {
+    let mut rng = Rng(1);
+    let largest = [
+        placed_row(512, 16, MOST_CHOICES, &[]),
+        placed_row(512, 16, MOST_CHOICES, &[63, 4095, 63]),
+    ];
+    for (row, taken) in largest.iter().zip([3_074_106, 3_074_112]) {
+        same("bytes", taken, row.bytes.len())?;
+        for door in DOORS {
+            row.check(&mut rng, door, &[3, 0])
+                .map_err(|trouble| format!("{}: {trouble}", row.what))?;
+        }
+    }
+    let row = placed_row(512, 1, 128, &[]);
+    let needs = row.lists.read_needs();
+    same("codings", 65_536, needs[2])?;
+    for length in [0, 1, 2, 65_534, 65_535, 65_536, 65_537] {
+        for which in [2, 3] {
+            let mut lengths = needs;
+            lengths[which] = length;
+            let due = if length < 65_536 { 12 } else { 0 };
+            same("lists", due, check_read(&mut rng, Door::Opening, &row.bytes, lengths)?)?;
+        }
+    }
+    Ok(format!("{} jobs", largest.len() + 1))
+}
+
+/// Jobs of few numbers: Job A with every set of drains at 0, a job of one unit and one
+/// choice, and one in which no two lists have the same length but those of the codings.
+fn few_numbers() -> Vec<Draft> {
+    let mut drafts = drains_of_a();
+    drafts.push(Draft::new(BARE, &[9], &[vec![(8, 7)]]));
+    drafts.push(placed_row(3, 4, 2, &[5, 6, 4]).lists.draft());
+    drafts
+}
+
+/// The lengths around those needed: a digit of `others` to the base of three says of each
+/// list that it is one short, just enough or longer.
+fn lengths_around(needs: [usize; READ_LISTS], others: usize) -> [usize; READ_LISTS] {
+    let mut rest = others;
+    needs.map(|need| {
+        let way = rest % 3;
+        rest /= 3;
+        [need - 1, need, need + 5][way]
+    })
+}
+
+/// Each list of every length up to two more than needed, while each other is one short, just
+/// enough or longer; and of lengths that are short in eight or sixteen bits.
+fn read_lengths_group() -> Result<String, String> {
+    let mut rng = Rng(1);
+    let mut tally: BTreeMap<u32, usize> = BTreeMap::new();
+    let every = if small() { 41 } else { 1 };
+    for draft in &few_numbers() {
+        let needs = Lists::of_draft(draft).read_needs();
+        for (which, need) in needs.into_iter().enumerate() {
+            let ways = (0..=need + 2).flat_map(|length| (0..243).map(move |way| (length, way)));
+            for (length, others) in ways.step_by(every) {
+                let mut lengths = lengths_around(needs, others);
+                lengths[which] = length;
+                check_read_lengths(&mut rng, draft, lengths, &mut tally)?;
+            }
+            for length in [256, 257, 65_536, 65_537] {
+                let mut lengths = needs;
+                lengths[which] = length;
+                check_read_lengths(&mut rng, draft, lengths, &mut tally)?;
+            }
+        }
+    }
+    let counts = by_number(&tally);
+    ensure!(tally.keys().eq(&[0, 12, 17]), "too little in it: {counts}");
+    Ok(format!("readings by number ({counts})"))
+}
+
+fn check_read_lengths(
+    rng: &mut Rng,
+    draft: &Draft,
+    lengths: [usize; READ_LISTS],
+    tally: &mut BTreeMap<u32, usize>,
+) -> Checked {
+    let bytes = draft.bytes();
+    let needs = Lists::of_draft(draft).read_needs();
+    let short = lengths.iter().zip(needs).any(|(length, need)| *length < need);
+    for door in DOORS {
+        let never = door == Door::Opening && draft.never_drains();
+        let due = first_of(&[(never, 17), (short, 12)]);
+        check_read(rng, door, &bytes, lengths)
+            .and_then(|found| same("number", due, found as u32))
+            .map_err(|trouble| format!("header {:?}: {trouble}", draft.header))?;
+        *tally.entry(due).or_default() += 1;
+    }
+    Ok(())
+}
+
+/// The lengths that are promised are enough for jobs at the ends of every range, with bytes
+/// behind them too.
+fn read_promise_group() -> Result<String, String> {
+    let mut rng = Rng(1);
+    let mut jobs = 0;
+    let mut least = usize::MAX;
+    let shapes =
+        [(1, 1), (1, 2), (2, 1), (3, 7), (1, 1000), (2, 999), (64, 16), (511, 2), (512, 1)];
+    let rates = [1, 2, 15, 16];
+    for ((units, choices), rates) in shapes.iter().flat_map(|shape| rates.map(|r| (*shape, r))) {
+        for second in [&[][..], &[63, 1, 0]] {
+            let row = placed_row(units, rates, choices, second);
+            let behind = vec![3; rng.from(0, 7)];
+            let bytes = then(row.bytes.clone(), &behind);
+            for door in DOORS {
+                check_read_to(&mut rng, door, &bytes, always_enough(&bytes), &row.due(door))
+                    .map_err(|trouble| format!("{}: {trouble}", row.what))?;
+            }
+            least = least.min(row.bytes.len() / 6 - units * choices);
+            jobs += 1;
+        }
+    }
+    Ok(format!("{jobs} jobs, at least {least} numbers to spare"))
+}
+
+/// Every set of defects of a job and of the lists at once.
+fn read_order_group() -> Result<String, String> {
+    let mut rng = Rng(1);
+    let mut tally: BTreeMap<u32, usize> = BTreeMap::new();
+    for a in &drains_of_a() {
+        for bits in (0..1 << 11).step_by(if small() { 13 } else { 1 }) {
+            let has = |bit: usize| bits >> bit & 1 == 1;
+            check_read_order(&mut rng, a, has, &mut tally).map_err(|trouble| {
+                format!("header {:?}, defects {bits:011b}: {trouble}", a.header)
+            })?;
+        }
+    }
+    let counts = by_number(&tally);
+    ensure!(tally.keys().eq(&[0, 1, 2, 3, 4, 5, 12, 17]), "too little in it: {counts}");
+    Ok(format!("sets of defects by number ({counts})"))
+}
+
+fn check_read_order(
+    rng: &mut Rng,
+    a: &Draft,
+    has: impl Fn(usize) -> bool,
+    tally: &mut BTreeMap<u32, usize>,
+) -> Checked {
+    let [kind, header, rates, unit, cut, by_all] = std::array::from_fn(&has);
+    let mut draft = a.clone();
+    if header {
+        draft.header[DELAY] = 65;
+    }
+    if rates {
+        draft.rates[2] = 2;
+    }
+    if unit {
+        draft.units[0][1].1 = 1_000_001;
+    }
+    let mut bytes = draft.bytes();
+    if kind {
+        bytes[2] = 2;
+    }
+    if cut {
+        bytes.pop();
+    }
+    let needs = Lists::of_draft(a).read_needs();
+    let lengths = std::array::from_fn(|at| cut_to(needs[at], has(6 + at), by_all));
+    for door in DOORS {
+        let due = first_of(&[
+            (kind, 2),
+            (header, 3),
+            (door == Door::Opening && a.never_drains(), 17),
+            (rates, 4),
+            (unit, 5),
+            (cut, 1),
+            (lengths != needs, 12),
+        ]);
+        same("number", due, check_read(rng, door, &bytes, lengths)? as u32)?;
+        *tally.entry(due).or_default() += 1;
+    }
+    Ok(())
+}
+
+/// Every fault of the header with every fault behind it, with lists that are enough and with
+/// a set of short ones, each set in its turn; behind a header without a fault with all sets.
+fn read_faults_group() -> Result<String, String> {
+    let mut rng = Rng(1);
+    let mut tally: BTreeMap<u32, usize> = BTreeMap::new();
+    let mut inputs = 0;
+    for a in &drains_of_a() {
+        let tails = faulty_tails(a);
+        for (header, head) in faulty_headers(a) {
+            for (tail, behind) in tails.iter().step_by(if small() { 7 } else { 1 }) {
+                inputs += 1;
+                let bytes = then(header.clone(), tail);
+                let in_turn = 1 + inputs % SHORT_SETS;
+                let short = if head == 0 { 1..=SHORT_SETS } else { in_turn..=in_turn };
+                for short in short.chain([0]) {
+                    check_read_faults(&mut rng, a, &bytes, [head, *behind], short, &mut tally)
+                        .map_err(|trouble| format!("{trouble}\n  job {}", hex(&bytes)))?;
+                }
+            }
+        }
+    }
+    let counts = by_number(&tally);
+    let worthwhile = tally.keys().eq(&[0, 1, 2, 3, 4, 5, 12, 17]);
+    ensure!(worthwhile || small(), "too little in it: {counts}");
+    Ok(format!("{inputs} inputs, readings by number ({counts})"))
+}
+
+/// How many sets of the lists there are with one in it.
+const SHORT_SETS: usize = (1 << READ_LISTS) - 1;
+
+/// `head`, `behind`: the numbers of the fault in the header and of that behind it, or 0.
+/// `short`: the lists that are too short, by their bits.
+fn check_read_faults(
+    rng: &mut Rng,
+    a: &Draft,
+    bytes: &[u8],
+    [head, behind]: [Refusal; 2],
+    short: usize,
+    tally: &mut BTreeMap<u32, usize>,
+) -> Checked {
+    let needs = Lists::of_draft(a).read_needs();
+    let by_all = rng.one_in(2);
+    let lengths = std::array::from_fn(|at| cut_to(needs[at], short >> at & 1 == 1, by_all));
+    for door in DOORS {
+        let due = first_of(&[
+            (head > 0, head),
+            (door == Door::Opening && a.never_drains(), 17),
+            (behind > 0, behind),
+            (short > 0, 12),
+        ]);
+        same("number", due, check_read(rng, door, bytes, lengths)? as u32)?;
+        check_contents(door, bytes, &read_back(door, bytes, needs))?;
+        *tally.entry(due).or_default() += 1;
+    }
+    Ok(())
+}
+
+/// A job cut at every byte, or at some where it is long.
+fn read_cuts_group() -> Result<String, String> {
+    let mut rng = Rng(1);
+    let mut drafts = few_numbers();
+    drafts.push(placed_row(2, 16, 31, &[]).lists.draft());
+    drafts.push(placed_row(2, 16, 300, &[9, 9, 9]).lists.draft().undrained(2));
+    drafts.push(chosen_among(MOST_CHOICES, &[]));
+    drafts.push(placed_row(512, 1, 1, &[]).lists.draft());
+    let mut cuts = 0;
+    for draft in &drafts {
+        let whole = draft.bytes();
+        let step = if small() || whole.len() > 2048 { 61 } else { 1 };
+        for cut in (0..whole.len()).step_by(step).chain([whole.len() - 1, whole.len()]) {
+            check_read_cut(&mut rng, draft, &whole, cut)
+                .map_err(|trouble| format!("header {:?}, cut to {cut}: {trouble}", draft.header))?;
+            cuts += 1;
+        }
+    }
+    Ok(format!("{} jobs, {cuts} cuts", drafts.len()))
+}
+
+fn check_read_cut(rng: &mut Rng, draft: &Draft, whole: &[u8], cut: usize) -> Checked {
+    let bytes = &whole[..cut];
+    let needs = Lists::of_draft(draft).read_needs();
+    // The header is whole by here, and is looked at before the next record.
+    let header = 4 + 2 * draft.header.len();
+    for door in DOORS {
+        let never = door == Door::Opening && draft.never_drains() && cut >= header;
+        let due = first_of(&[(never, 17), (cut < whole.len(), 1)]);
+        for lengths in [needs, always_enough(bytes)] {
+            same("number", due, check_read(rng, door, bytes, lengths)? as u32)?;
+        }
+        let any = needs.map(|need| rng.from(0, need + 1));
+        let short = any.iter().zip(needs).any(|(length, need)| *length < need);
+        let due = first_of(&[(due > 0, due as Refusal), (short, 12)]);
+        same("number", due, check_read(rng, door, bytes, any)? as u32)?;
+    }
+    Ok(())
+}
+
+/// What an editor's tool does with the contents of Job A: it looks at every coding, corrects
+/// one, and asks for the job again.
+fn contents_group() -> Result<String, String> {
+    use upload_planner::{archived_contents, contents, Refusal};
+    let read = contents(&READ_A).map_err(|refusal| refusal.to_string())?;
+    same("the header", [2, 1, 4, 3, 2, 0, 0, 3, 2].as_slice(), &read.header.numbers()[..])?;
+    same("no second bucket", true, read.header.second.is_none())?;
+    let codings = [[(4, 10), (2, 30)], [(5, 12), (2, 40)]];
+    for (unit, choice) in (0..=4).flat_map(|unit| (0..=4).map(move |choice| (unit, choice))) {
+        let due = match (unit, choice) {
+            (1 | 2, 0 | 1) => Some(codings[unit - 1][choice]),
+            _ => None,
+        };
+        let found = read.coding(unit as u16, choice as u16);
+        same(&format!("unit {unit} at choice {choice}"), due, found)?;
+    }
+    same("the job again", Ok(READ_A.to_vec()), read.job())?;
+    same("by the archive", Ok(&read), archived_contents(&READ_A).as_ref())?;
+
+    let mut corrected = read.clone();
+    corrected.distortions[2] = 0x000b_0c0d;
+    same("the corrected coding", Some((5, 0x000b_0c0d)), corrected.coding(2, 0))?;
+    let due = patched(&READ_A, 54, &[0x0d, 0x0c, 0x0b, 0]);
+    same("the corrected job", Ok(due.clone()), corrected.job())?;
+    same("the corrected job read", Ok(&corrected), contents(&due).as_ref())?;
+    corrected.distortions[2] = 1_000_001;
+    same("a distortion of 1,000,001", Err(Refusal::Choices), corrected.job())?;
+    corrected.distortions.pop();
+    same("a distortion missing", Err(Refusal::Lengths), corrected.job())?;
+
+    let two = contents(&READ_A_TWO).map_err(|refusal| refusal.to_string())?;
+    let second = upload_planner::Bucket { size: 7, drain: 9, level: 5 };
+    same("the second bucket", Some(second), two.header.second)?;
+    same("the job of two buckets again", Ok(READ_A_TWO.to_vec()), two.job())?;
+    let never = patched(&READ_A_TWO, DRAIN_BYTES[1], &[0, 0]);
+    same("a second drain of 0", Err(Refusal::NeverDrains), contents(&never))?;
+    let stored = archived_contents(&never).map_err(|refusal| refusal.to_string())?;
+    same("its drain", Some(0), stored.header.second.map(|bucket| bucket.drain))?;
+    same("its job again", Err(Refusal::NeverDrains), stored.job())?;
+    same("no bytes", Err(Refusal::Cut), contents(&[]))?;
+    same("no bytes by the archive", Err(Refusal::Cut), archived_contents(&[]))?;
+    let wide = placed_row(2, 1, MOST_CHOICES, &[]);
+    let read = contents(&wide.bytes).map_err(|refusal| refusal.to_string())?;
+    for (unit, choice) in (0..=3).flat_map(|unit| (0..=1001).map(move |choice| (unit, choice))) {
+        check_coding(&read, &wide.lists, unit, choice)?;
+    }
+    Ok("as written".to_string())
+}
+
+/// Jobs of all sizes on lines of one bucket and of two, some of which never drain.
+fn read_back_group(seed: u64, asks: bool) -> Result<String, String> {
+    let mut rng = Rng(seed);
+    let (mut bytes, mut long, mut double, mut never, mut behind) = (0, 0, 0, 0, 0);
+    let jobs = scaled(1500);
+    for index in 1..=jobs {
+        let mut draft = random_mixed_job(&mut rng, index);
+        draft.commands.clear();
+        if rng.one_in(2) {
+            draft = random_doubled(&mut rng, &draft, 63, 4095);
+        }
+        draft = random_stored(&mut rng, &draft, 3);
+        let asked = Asked::new(&mut rng, &draft);
+        check_job_read(&mut rng, &draft, &asked.bytes)
+            .map_err(|trouble| failed(seed, index, &trouble, &asked))?;
+        bytes += asked.bytes.len();
+        long += (asked.bytes.len() > 4096) as usize;
+        double += (draft.header.len() > FIELDS[0]) as usize;
+        never += draft.never_drains() as usize;
+        behind += (asked.bytes.len() > draft.bytes().len()) as usize;
+    }
+    let counts = format!(
+        "{jobs} jobs, {bytes} bytes, {long} jobs over 4,096, {double} of two buckets, {never} that \
+         never drain, {behind} with bytes behind"
+    );
+    let worthwhile = [long * 2, double, never, behind].iter().all(|count| count * 5 > jobs);
+    ensure!(worthwhile || !asks, "too little in it: {counts}");
+    Ok(counts)
+}
+
+/// The bytes begin with the draft's job.
+fn check_job_read(rng: &mut Rng, draft: &Draft, bytes: &[u8]) -> Checked {
+    let lists = Lists::of_draft(draft);
+    let needs = lists.read_needs();
+    for door in DOORS {
+        let never = door == Door::Opening && draft.never_drains();
+        let due = if never { Err(17) } else { Ok((lists.clone(), draft.bytes().len())) };
+        let longer = needs.map(|need| need + slack(rng));
+        for lengths in [needs, longer, always_enough(bytes)] {
+            same("what a reader finds", &due, &read_back(door, bytes, lengths))?;
+            check_read_to(rng, door, bytes, lengths, &due)?;
+        }
+        let short = one_short(needs, rng.from(0, READ_LISTS - 1)).ok_or("nothing to read")?;
+        let number = check_read(rng, door, bytes, short)?;
+        same("a list one short", if never { 17 } else { 12 }, number)?;
+        if !never {
+            check_read_and_written(rng, door, bytes)?;
+        }
+        check_contents(door, bytes, &due)?;
+    }
+    Ok(())
+}
+
+/// Bytes that may or may not be a job: reading answers what its door answers, and 12 only
+/// where that takes them.
+fn harmed_read_group(seed: u64, asks: bool) -> Result<String, String> {
+    let mut rng = Rng(seed);
+    let mut tally: BTreeMap<[u32; 2], usize> = BTreeMap::new();
+    let inputs = scaled(15_000);
+    for index in 1..=inputs {
+        let bytes = harmed_job(&mut rng, 1 + index % MOST_BUCKETS);
+        for door in DOORS {
+            let numbers = check_harmed_read(&mut rng, door, &bytes).map_err(|trouble| {
+                format!("seed {seed}, input {index}: {trouble}\n  job {}", hex(&bytes))
+            })?;
+            *tally.entry(numbers).or_default() += 1;
+        }
+    }
+    let each: Vec<String> = tally
+        .iter()
+        .map(|([opened, read], count)| match (opened, read) {
+            (0, 12) => format!("{count} 12"),
+            _ => format!("{count} {opened}"),
+        })
+        .collect();
+    let counts = format!("{inputs} inputs by number of either door ({})", each.join(", "));
+    let often = |numbers: [u32; 2]| tally.get(&numbers).is_some_and(|count| count * 100 > inputs);
+    let worthwhile =
+        [0, 1, 2, 3, 4, 5, 17].iter().all(|number| often([*number; 2])) && often([0, 12]);
+    ensure!(worthwhile || !asks, "too little in it: {counts}");
+    Ok(counts)
+}
+
+/// Gives the number of opening by the door, and that of reading to lists of any length.
+fn check_harmed_read(rng: &mut Rng, door: Door, bytes: &[u8]) -> Result<[u32; 2], String> {
+    let mut opened = [0; 4];
+    let number = open_by(door, bytes, &mut opened);
+    let enough = always_enough(bytes);
+    let due = read_back(door, bytes, enough);
+    same("read, and opened", number, check_read_to(rng, door, bytes, enough, &due)? as u32)?;
+    if let Ok((_, taken)) = &due {
+        same("bytes taken, and opened", opened[0], *taken as u64)?;
+    }
+    check_contents(door, bytes, &due)?;
+    let near = match &due {
+        Ok((lists, _)) => lists.read_needs().map(|need| near_length(rng, need)),
+        Err(_) => [0; READ_LISTS].map(|_| rng.from(0, 20)),
+    };
+    let read = check_read(rng, door, bytes, near)? as u32;
+    ensure!(read == number || [number, read] == [0, 12], "opened {number}, read {read}");
+    Ok([number, read])
+}
+
+/// Just enough or more, and one time in eight too short.
+fn near_length(rng: &mut Rng, need: usize) -> usize {
+    match rng.from(0, 15) {
+        0 => need - 1,
+        1 => rng.from(0, need - 1),
+        2..=8 => need,
+        _ => need + rng.from(1, 9),
     }
 }
 
@@ -12400,6 +13218,13 @@ fn run_all(new_seed: u64, with_full: bool, examples: Option<&Path>) -> bool {
         print_group("cuts at every byte", cuts_group()),
         print_group("limits of writing", write_limits_group()),
         print_group("refusals of writing in their order", write_order_group()),
+        print_group("jobs read back by hand", read_by_hand_group()),
+        print_group("contents of jobs by hand", contents_group()),
+        print_group("lists of reading of every length", read_lengths_group()),
+        print_group("lists that are always enough for reading", read_promise_group()),
+        print_group("refusals of reading in their order", read_order_group()),
+        print_group("every fault of a job and refusals of reading", read_faults_group()),
+        print_group("cuts of a job read back", read_cuts_group()),
         print_group("draws of trial jobs by hand", draws_group()),
         print_group("limits of trial jobs", trial_limits_group()),
         print_group("refusals of trial jobs in their order", trial_order_group()),
@@ -12435,6 +13260,8 @@ fn run_all(new_seed: u64, with_full: bool, examples: Option<&Path>) -> bool {
     };
     seeded("jobs written", &[1, 2], written_group);
     seeded("harmed lists", &[1], harmed_lists_group);
+    seeded("jobs read back", &[1, 2], read_back_group);
+    seeded("harmed bytes read back", &[1], harmed_read_group);
     seeded("trial jobs", &[1, 2], trials_group);
     seeded("harmed headers of trial jobs", &[1], harmed_trials_group);
     seeded("changes of contract, tiny jobs", &[1, 2], tiny_changes_group);
@@ -12485,6 +13312,7 @@ fn run_all(new_seed: u64, with_full: bool, examples: Option<&Path>) -> bool {
     seeded("lines of two buckets", &[1, 2], lines_group);
     seeded("larger jobs of two buckets", &[4], larger_double_group);
     if !small() {
+        results.push(print_group("jobs of the largest size read back", largest_read_group()));
         results.push(print_group("trial jobs of the largest size", trial_largest_group()));
         results.push(print_group("large jobs", large_group()));
         results.push(print_group("even pictures, large jobs", even_large_group()));

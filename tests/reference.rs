@@ -1,15 +1,16 @@
 //! What the test programs share: answers worked out straight from the product's
 //! paper, and the jobs they are asked of.
 //!
-//! The answers have eleven parts: a reader that gives the first refusal due, an
+//! The answers have twelve parts: a reader that gives the first refusal due, an
 //! enumeration of every plan (small jobs), a dynamic program that carries whole
 //! paths forward (the jobs too large to enumerate), both of these again for even
 //! pictures, with every word of the table, a reader of plans of either shape, a book of
 //! pins with the numbers of its set, changes of contract by trying every continuation and
 //! by making a job of the rest, what a larger bucket brings by the size that each plan needs,
 //! playlists by one such search after another, each from the levels that the last one left,
-//! a writer that gives a job's bytes or the first refusal due, and a generator that gives a
-//! trial job's. Each program uses a part of what stands here.
+//! a writer that gives a job's bytes or the first refusal due, a reader that gives the
+//! writer's lists back, and a generator that gives a trial job's bytes. Each program uses a
+//! part of what stands here.
 
 use std::collections::btree_map::Entry as MapEntry;
 use std::collections::BTreeMap;
@@ -2407,6 +2408,13 @@ impl Lists {
         }
     }
 
+    /// The lengths that reading back to these lists needs: fields, rates, sizes, distortions,
+    /// values.
+    pub fn read_needs(&self) -> [usize; READ_LISTS] {
+        let codings = [self.sizes.len(), self.distortions.len()];
+        [self.fields.len(), self.rates.len(), codings[0], codings[1], READ_VALUES]
+    }
+
     /// What to type again to see a failure.
     pub fn show(&self) -> String {
         format!("{self:?}").chars().take(40_000).collect()
@@ -2438,6 +2446,24 @@ pub fn write_job(lists: &Lists, room: usize, values: usize) -> Result<Vec<u8>, R
         return Err(12);
     }
     Ok(bytes)
+}
+
+/// How many lists reading back fills, and how many values are among them: the bytes that the
+/// job took and its fields.
+pub const READ_LISTS: usize = 5;
+pub const READ_VALUES: usize = 2;
+
+/// What is read back of a job: its lists and the bytes that it took, or the first refusal due.
+pub type ReadBack = Result<(Lists, usize), Refusal>;
+
+/// `room`: the lengths of the lists that are filled, as `read_needs` has them.
+pub fn read_back(door: Door, bytes: &[u8], room: [usize; READ_LISTS]) -> ReadBack {
+    let mut reader = Reader { rest: bytes };
+    let lists = Lists::of_job(&read_by(door, &mut reader)?);
+    if room.iter().zip(lists.read_needs()).any(|(room, need)| *room < need) {
+        return Err(12);
+    }
+    Ok((lists, bytes.len() - reader.rest.len()))
 }
 
 /// The draws from a starting state, one after another. The state has 32 bits; here the

@@ -2,7 +2,8 @@
 
 The module needs nothing but the file `libupload.so`, which `bindings/c/install` makes. It takes
 the file that the environment variable UPLOAD_PLANNER_LIB names by its path, otherwise the one that
-stands beside the module, otherwise the one that the system finds.
+stands beside the module, otherwise the one that the system finds. Pictures alone are drawn by the
+command `upload-planner`.
 
 Job A has two units and a delay of one interval, so three intervals. The decoder holds four grains;
 the bucket holds three, and two drain from it. An interval sends 0, 2 or 4 grains. A unit is a list
@@ -14,6 +15,12 @@ of its choices, and a choice is its grains and its distortion.
 >>> job = Job.write(header, [0, 2, 4], [[(4, 10), (2, 30)], [(5, 12), (2, 40)]])
 >>> job.intervals, job.table_words, len(job.data)
 (3, 80, 64)
+
+The bytes hold all of it: here they are read back, and unit 2 takes five grains at its choice 0.
+
+>>> stored = Job(job.data)
+>>> stored.rates, stored.units[1][0]
+([0, 2, 4], (5, 12))
 
 The best plan sends 4, 0 and 4 grains. Unit 1 has choice 0 and unit 2 choice 1: 10 + 40. The late
 order sends 0, 4 and 2 instead, and the drain of interval 1 finds nothing in the bucket.
@@ -35,6 +42,8 @@ Totals(distortion=50, source=6, channel=6, unused=(2,))
 An editor pins units and lifts them again, and sees at once what it costs. Unit 2 at choice 0 takes
 five grains, and the decoder holds four.
 
+>>> [session.see(1, choice) for choice in (0, 1)]
+[50, 70]
 >>> session.pin(1, 1)
 >>> session.least_total
 70
@@ -64,9 +73,12 @@ Violation(interval=2, number=4, words='pin not held')
 50
 >>> session.replay(plan).levels
 [(4, 2), (0, 0), (2, 2)]
+>>> session.report(plan)
+[4, 0, 4]
 
-Larger buckets (`Session.larger_buckets`), a contract that changes (`Session.change`) and
-programmes that are sent back to back (`playlist`) have examples of their own.
+A picture of the plan (`Session.picture`), larger buckets (`Session.larger_buckets`), a contract
+that changes (`Session.change`) and programmes that are sent back to back (`playlist`) have examples
+of their own.
 """
 
 from __future__ import annotations
@@ -75,6 +87,8 @@ import ctypes
 import ctypes.util
 import operator
 import os
+import shutil
+import subprocess
 import threading
 from dataclasses import dataclass
 from typing import Dict, Iterable, List, NamedTuple, Optional, Sequence, Tuple, Union
@@ -140,13 +154,13 @@ _VIOLATIONS = {
 _NO_PLAN = 13
 _TOTAL, _EVEN = 0, 1
 _EARLY, _LATE = 0, 1
-_TWO_BUCKETS = 8
 _MARK = 65_535
 _NEVER = 4_294_967_295
 _LARGEST_SIZE, _LARGEST_SECOND = 255, 63
 _LARGEST_JOB = 3_074_112
 _PROGRAMMES, _PROGRAMME_TOTALS = 64, 5
 _SET_NUMBERS, _SET_PINS, _SET_TOTALS = 528, 13, 525
+_FIELDS_MOST, _RATES_MOST = 12, 16
 
 _U8, _U16, _U32, _U64 = ctypes.c_uint8, ctypes.c_uint16, ctypes.c_uint32, ctypes.c_uint64
 
@@ -168,12 +182,18 @@ _FUNCTIONS = {
     "upload_sizes": ([_U8], [_U32], [_U32], [_U32]),
     "upload_playlist": ([_U8], [_U32], [_U32], [_U8], [_U64]),
     "upload_write": ([_U16], [_U16], [_U16], [_U32], [_U8], [_U64]),
+    "upload_read": ([_U8], [_U16], [_U16], [_U16], [_U32], [_U64]),
+    "upload_read_archive": ([_U8], [_U16], [_U16], [_U16], [_U32], [_U64]),
     "upload_trial": ([_U16], _U32, [_U8], [_U64]),
 }
 
 _INSTALL = (
     "install it with 'bindings/c/install PREFIX', which makes PREFIX/lib/libupload.so, "
     "and name that file in the environment variable UPLOAD_PLANNER_LIB"
+)
+_BUILD = (
+    "build it from bindings/rust, and put it on PATH or name its file in the environment variable "
+    "UPLOAD_PLANNER_COMMAND"
 )
 
 
@@ -436,12 +456,10 @@ class Header:
         return header + 4 + 2 * self.rates + self.units * (4 + 6 * self.choices)
 
     @classmethod
-    def _of(cls, numbers: Sequence[int]) -> Header:
-        """From the first numbers of a set of pins."""
-        kind, units, delay, decoder, size, drain, level, fill, rates, choices = numbers[:10]
-        buckets = [Bucket(size, drain, fill)]
-        if kind == _TWO_BUCKETS:
-            buckets.append(Bucket(*numbers[10:13]))
+    def _of(cls, fields: Sequence[int]) -> Header:
+        """From the fields that reading wrote, as `numbers` has them."""
+        units, delay, decoder, size, drain, level, fill, rates, choices, *second = fields
+        buckets = [Bucket(size, drain, fill)] + ([Bucket(*second)] if second else [])
         return cls(units, delay, decoder, tuple(buckets), rates, choices, level)
 
     def _room(self) -> _Lent:
@@ -451,11 +469,12 @@ class Header:
 
 
 class Job:
-    """A job: `data`, its bytes; `header`; `intervals`, how many there are; and `table_words`, how
-    many words of four bytes its table has.
+    """A job: `data`, its bytes; `header`, `rates` and `units`, what they hold; `intervals`, how
+    many there are; and `table_words`, how many words of four bytes its table has.
 
-    `Job(data)` opens the bytes of a job, and refuses a line that never drains. What stands behind
-    the job is left out. Two jobs are equal if their bytes are.
+    `Job(data)` opens the bytes of a job, and refuses a line that never drains. `Job.write` makes
+    one from its header and lists. What stands behind the job is left out. Two jobs are equal if
+    their bytes are.
 
     >>> header = Header(units=2, delay=1, decoder=4, buckets=[Bucket(3, 2)], rates=3, choices=2)
     >>> units = [[(4, 10), (2, 30)], [(5, 12), (2, 40)]]
@@ -465,6 +484,17 @@ class Job:
     >>> job.header
     Header(units=2, delay=1, decoder=4, buckets=(Bucket(size=3, drain=2, level=0),), rates=3, \
 choices=2, level=0)
+    >>> job.rates
+    [0, 2, 4]
+    >>> job.units
+    [[(4, 10), (2, 30)], [(5, 12), (2, 40)]]
+
+    An editor has the bytes alone, and corrects a distortion: unit 1 loses 5 at its choice 1.
+
+    >>> corrected = job.units
+    >>> corrected[0][1] = (2, 5)
+    >>> Session(Job.write(job.header, job.rates, corrected)).least_total
+    45
 
     With a second bucket, of size 1 and drain 2, no interval can send more than two grains. The plan
     from before brings that bucket to 2 at once.
@@ -485,10 +515,12 @@ totals=Totals(distortion=50, source=6, channel=6, unused=(0, 0)))
 totals=None)
     """
 
-    __slots__ = ("data", "header", "intervals", "table_words", "_lent")
+    __slots__ = (
+        "data", "header", "intervals", "table_words", "_lent", "_rates", "_sizes", "_distortions",
+    )
 
     def __init__(self, data: bytes) -> None:
-        self._open(data, "upload_open", "upload_set")
+        self._open(data, "upload_open", "upload_read")
 
     @classmethod
     def archived(cls, data: bytes) -> Job:
@@ -509,12 +541,14 @@ drains
         >>> old = Job.archived(stored)
         >>> old.header.buckets
         (Bucket(size=6, drain=0, level=0),)
+        >>> old.units == job.units
+        True
         >>> replay(old, [(0, None), (1, 1), (1, 1)])
         Replayed(levels=[(0, 0), (0, 2), (0, 4)], violation=None, \
 totals=Totals(distortion=70, source=4, channel=4, unused=(0,)))
         """
         job = cls.__new__(cls)
-        job._open(data, "upload_archive", "upload_archive_set")
+        job._open(data, "upload_archive", "upload_read_archive")
         return job
 
     @classmethod
@@ -574,14 +608,36 @@ totals=Totals(distortion=70, source=4, channel=4, unused=(0,)))
         _call("upload_trial", _lent_numbers(_U16, header.numbers), state, job, values)
         return cls(job.bytes()[: values[0]])
 
-    def _open(self, data: bytes, door: str, door_of_set: str) -> None:
-        lent, values, numbers = _lent_bytes(_data(data)), _Lent(_U64, 4), _Lent(_U32, _SET_NUMBERS)
+    def _open(self, data: bytes, door: str, reading: str) -> None:
+        lent, values = _lent_bytes(_data(data)), _Lent(_U64, 4)
         _call(door, lent, values)
-        _call(door_of_set, lent, numbers)
         taken, _, self.intervals, self.table_words = values.array
         self.data = lent.bytes()[:taken]
-        self.header = Header._of(numbers[:_SET_PINS])
         self._lent = _lent_bytes(self.data)
+        self._read(reading)
+
+    def _read(self, reading: str) -> None:
+        # A choice takes six bytes of the job, so that these lists are long enough.
+        most = len(self.data) // 6
+        sizes, distortions = _Lent(_U16, most), _Lent(_U32, most)
+        fields, rates, values = _Lent(_U16, _FIELDS_MOST), _Lent(_U16, _RATES_MOST), _Lent(_U64, 2)
+        _call(reading, self._lent, fields, rates, sizes, distortions, values)
+        self.header = Header._of(fields[: values[1]])
+        self._rates, self._sizes, self._distortions = rates, sizes, distortions
+
+    @property
+    def rates(self) -> List[int]:
+        """The rates in grains, as `write` takes them."""
+        return self._rates[: self.header.rates]
+
+    @property
+    def units(self) -> List[List[Tuple[int, int]]]:
+        """For each unit its choices, each the grains that it takes and its distortion, as `write`
+        takes them."""
+        each = self.header.choices
+        count = self.header.units * each
+        choices = list(zip(self._sizes[:count], self._distortions[:count]))
+        return [choices[at : at + each] for at in range(0, count, each)]
 
     def _drains(self) -> bool:
         """Whether its line drains, so that opening takes it."""
@@ -678,6 +734,31 @@ def _replayed(job: Job, pins: _Lent, plan: Entries) -> Replayed:
     return Replayed(rows, Violation(interval, number, _VIOLATIONS[number]), None)
 
 
+def _command() -> str:
+    """Where the command is that draws."""
+    named = os.environ.get("UPLOAD_PLANNER_COMMAND")
+    found = shutil.which(named or "upload-planner")
+    if found is not None:
+        return found
+    if named:
+        raise FileNotFoundError(
+            f"UPLOAD_PLANNER_COMMAND names {named}, and there is no such command: {_BUILD}"
+        )
+    raise FileNotFoundError(f"the command upload-planner is not on PATH: {_BUILD}")
+
+
+def _draw(job: Job, options: List[str]) -> None:
+    """Has the command plan a job, with options of which one names the picture's file."""
+    command = _command()
+    done = subprocess.run(
+        [command, "plan", "-", *options],
+        input=job.data, stdout=subprocess.DEVNULL, stderr=subprocess.PIPE,
+    )
+    if done.returncode != 0:
+        words = done.stderr.decode(errors="replace").strip()
+        raise OSError(f"{command} ended with status {done.returncode}: {words}")
+
+
 class Session:
     """What an editor does with a job: pins, lifts, plans. It keeps the set of pins and the table,
     so that the least total is known after every pin and lift. `job` is the job.
@@ -734,10 +815,7 @@ class Session:
         """
         unit, choice = _fitting(unit, _most(_U16)), _fitting(choice, _most(_U16))
         with self._lock:
-            _call(
-                "upload_pin_and_see",
-                self.job._lent, self._set, unit, choice, self._table, self._seen,
-            )
+            self._pin(unit, choice)
 
     def lift(self, unit: int) -> None:
         """Leaves a unit free again, and goes on as `pin` does.
@@ -746,21 +824,58 @@ class Session:
         """
         unit = _fitting(unit, _most(_U16))
         with self._lock:
-            _call("upload_lift_and_see", self.job._lent, self._set, unit, self._table, self._seen)
+            self._lift(unit)
+
+    def see(self, unit: int, choice: int) -> Optional[int]:
+        """What `least_total` would be with a unit held at a choice, too: pins it, and lifts it
+        again. The pins that stand stay as they are.
+
+        Refused as `pin` is.
+
+        Unit 2 of Job A takes five grains at its choice 0, and the decoder holds four.
+
+        >>> header = Header(units=2, delay=1, decoder=4, buckets=[Bucket(3, 2)], rates=3, choices=2)
+        >>> job = Job.write(header, [0, 2, 4], [[(4, 10), (2, 30)], [(5, 12), (2, 40)]])
+        >>> session = Session(job)
+        >>> session.see(1, 1), session.see(2, 0), session.see(2, 1)
+        (70, None, 50)
+        >>> session.least_total, session.pins
+        (50, {})
+        """
+        unit, choice = _fitting(unit, _most(_U16)), _fitting(choice, _most(_U16))
+        with self._lock:
+            self._pin(unit, choice)
+            try:
+                return self._least_total()
+            finally:
+                self._lift(unit)
+
+    def _pin(self, unit: int, choice: int) -> None:
+        _call(
+            "upload_pin_and_see", self.job._lent, self._set, unit, choice, self._table, self._seen
+        )
+
+    def _lift(self, unit: int) -> None:
+        _call("upload_lift_and_see", self.job._lent, self._set, unit, self._table, self._seen)
+
+    def _least_total(self) -> Optional[int]:
+        return None if self._seen[0] == _NEVER else self._seen[0]
 
     @property
     def least_total(self) -> Optional[int]:
         """The least total distortion with the pins that stand, or None where no plan holds
         them."""
         with self._lock:
-            seen = self._seen[0]
-        return None if seen == _NEVER else seen
+            return self._least_total()
 
     @property
     def pins(self) -> Dict[int, int]:
         """The choice of each unit that is pinned."""
         with self._lock:
-            pins = self._set[_SET_PINS : _SET_PINS + self.job.header.units]
+            return self._pins()
+
+    def _pins(self) -> Dict[int, int]:
+        pins = self._set[_SET_PINS : _SET_PINS + self.job.header.units]
         return {unit: pin for unit, pin in enumerate(pins, 1) if pin != _MARK}
 
     @property
@@ -800,6 +915,57 @@ class Session:
         """
         with self._lock:
             return _replayed(self.job, self._set, plan)
+
+    def report(self, plan: Entries) -> List[int]:
+        """The effective buffer sizes of a plan, as the function `report` has them: no pin counts
+        in them."""
+        return report(self.job, plan)
+
+    def picture(
+        self, path: Union[str, os.PathLike], even: bool = False, late: bool = False
+    ) -> None:
+        """Draws the plan that `plan` gives with the pins that stand, as SVG, in a file of this
+        name. The command `upload-planner` draws it: the one that the environment variable
+        UPLOAD_PLANNER_COMMAND names, otherwise the one on PATH.
+
+        Raises NoPlan where there is no plan, FileNotFoundError where the command is not there,
+        and OSError with its words where it fails, as when the file cannot be written.
+
+        >>> header = Header(units=2, delay=1, decoder=4, buckets=[Bucket(3, 2)], rates=3, choices=2)
+        >>> job = Job.write(header, [0, 2, 4], [[(4, 10), (2, 30)], [(5, 12), (2, 40)]])
+        >>> session = Session(job)
+        >>> session.pin(1, 1)
+
+        This draws where the command is named.
+
+        >>> import os, tempfile
+        >>> if os.environ.get("UPLOAD_PLANNER_COMMAND"):
+        ...     with tempfile.TemporaryDirectory() as folder:
+        ...         path = os.path.join(folder, "plan.svg")
+        ...         session.picture(path)
+        ...         with open(path, encoding="utf-8") as drawn:
+        ...             assert "<svg" in drawn.read()
+
+        No plan holds unit 2 at its choice 0.
+
+        >>> session.pin(2, 0)
+        >>> session.picture("plan.svg")
+        Traceback (most recent call last):
+            ...
+        upload_planner.NoPlan: refused 13: no plan is admissible
+        """
+        with self._lock:
+            pins, least = self._pins(), self._least_total()
+        if least is None:
+            raise NoPlan()
+        options = ["--picture", os.path.abspath(path)]
+        for unit, choice in pins.items():
+            options += ["--pin", f"{unit}={choice}"]
+        if even:
+            options.append("--even")
+        if late:
+            options.append("--late")
+        _draw(self.job, options)
 
     def larger_buckets(self) -> List[Tuple[int, Optional[int]]]:
         """What a larger bucket would bring with the pins that stand: each size of the first bucket

@@ -23,16 +23,19 @@
 //! one that sends late.
 //!
 //! [`write()`] makes the bytes of a job from its header and lists, and [`trial`] those of
-//! a job to try things with, from its header and a starting state; [`open`],
-//! [`archive`], [`calls()`], [`plan`], [`replay`], [`report`], [`turn`], [`change`], [`sizes`]
-//! and [`playlist`] take these bytes and read them again. They fill lists that the caller lends;
-//! [`written`], [`trial_job`], [`called`], [`best_plan`], [`replayed`], [`turned`], [`changed`],
-//! [`larger_buckets`] and [`playlist_plans`] make the lists themselves. Nothing is kept between
-//! calls. A list that is filled may be longer than needed: what stands past the part named as
-//! written keeps its values. Wherever a job is read, its own refusals come first: 1 to 5, and for
-//! those that open it 17. A refusal writes nothing, except that [`Refusal::NoPlan`] comes after
-//! the search and leaves `table` written, and no other list. Of a playlist this is said of the
-//! programme that is refused; what the programmes before it have written stays.
+//! a job to try things with, from its header and a starting state; [`read`] and
+//! [`read_archive`] give header and lists back. [`open`], [`archive`], [`calls()`], [`plan`],
+//! [`replay`], [`report`], [`turn`], [`change`], [`sizes`] and [`playlist`] take these bytes and
+//! read them again. All these fill lists that the caller lends; [`written`], [`trial_job`],
+//! [`contents`], [`archived_contents`], [`called`], [`best_plan`], [`replayed`], [`turned`],
+//! [`changed`], [`larger_buckets`] and [`playlist_plans`] make the lists themselves.
+//!
+//! Nothing is kept between calls. A list that is filled may be longer than needed: what stands
+//! past the part named as written keeps its values. Wherever a job is read, its own refusals come
+//! first: 1 to 5, and for those that open it 17. A refusal writes nothing, except that
+//! [`Refusal::NoPlan`] comes after the search and leaves `table` written, and no other list. Of a
+//! playlist this is said of the programme that is refused; what the programmes before it have
+//! written stays.
 //!
 //! An editor who pins and lifts, and wants to see each time what the best plan comes
 //! to, opens a [`Session`]. It keeps the pins and the table from click to click, and of
@@ -48,11 +51,11 @@
 //! A drain of 0 was once typed for a line without a limit, and says the opposite: what
 //! is sent stays in the bucket. Jobs with it, in either bucket, are refused with 17,
 //! directly after 3 and before the next record is looked at: by [`open`], [`calls()`],
-//! [`plan`], [`change`], [`sizes`], [`playlist`], [`write()`] and [`trial`], by [`called`],
-//! [`best_plan`], [`changed`], [`larger_buckets`], [`playlist_plans`], [`written`] and
-//! [`trial_job`], and by [`Session::open`]. Such jobs that are stored are opened by [`archive`],
-//! which takes all other jobs too; [`replay`], [`report`], [`turn`], [`replayed`] and [`turned`]
-//! take what it takes.
+//! [`plan`], [`change`], [`sizes`], [`playlist`], [`read`], [`write()`] and [`trial`], by
+//! [`called`], [`best_plan`], [`changed`], [`larger_buckets`], [`playlist_plans`], [`contents`],
+//! [`written`] and [`trial_job`], and by [`Session::open`]. Such jobs that are stored are opened
+//! by [`archive`], which takes all other jobs too; [`read_archive`], [`replay`], [`report`],
+//! [`turn`], [`archived_contents`], [`replayed`] and [`turned`] take what it takes.
 //!
 //! The work is done by the library `libupload.a`, whose code is proved to meet
 //! its contract. It takes no memory and reads and writes only what is lent to
@@ -173,8 +176,8 @@ pub enum Refusal {
     /// 16: a list's length is not what the header calls for.
     Lengths,
     /// 17: the drain of a bucket is 0, so that the line never drains. [`archive`],
-    /// [`replay`], [`report`] and [`turn`] take such a job. Of a [`Contract`] it is
-    /// refused too.
+    /// [`read_archive`], [`replay`], [`report`] and [`turn`] take such a job. Of a
+    /// [`Contract`] it is refused too.
     NeverDrains,
     /// 18: the interval after which the contract changes is not from 1 to T − 1.
     NotWithin,
@@ -453,7 +456,7 @@ pub struct Bucket {
 }
 
 /// The header of a job, from which [`write()`] and [`written`] make its bytes, and [`trial`]
-/// and [`trial_job`] those of a trial job.
+/// and [`trial_job`] those of a trial job. [`read`] and [`contents`] give it back.
 #[derive(Clone, Copy, Debug, PartialEq, Eq, Hash)]
 pub struct Header {
     /// N, from 1 to 512.
@@ -479,6 +482,15 @@ pub struct Header {
 }
 
 impl Header {
+    /// From the fields that reading wrote, so many of them.
+    fn of(fields: [u16; numbers::FIELDS_MOST], written: usize) -> Header {
+        let [units, delay, decoder, bucket, drain, level, fill, rates, choices, second @ ..] =
+            fields;
+        let second = (written == numbers::FIELDS_MOST).then_some(second);
+        let second = second.map(|[size, drain, level]| Bucket { size, drain, level });
+        Header { units, delay, decoder, bucket, drain, level, fill, rates, choices, second }
+    }
+
     /// The header as the numbers that the library takes: nine, and three more
     /// where there is a second bucket.
     pub fn numbers(self) -> Vec<u16> {
@@ -542,11 +554,27 @@ impl Contract<'_> {
 /// The bytes of the largest job.
 const LARGEST_JOB: usize = 3_074_112;
 
-/// How many buckets the line of a job has, if [`open`] or [`archive`] takes it: the
-/// kind of its header says so.
-fn buckets_of(job: &[u8]) -> usize {
-    match job {
-        [_, _, 8, 0, ..] => 2,
+/// Where a set of pins has the kind of the job's header, the size of the decoder and that of
+/// the first bucket.
+const SET_KIND: usize = 0;
+const SET_DECODER: usize = 3;
+const SET_BUCKET: usize = 4;
+
+/// The kind of the header of a line with two buckets.
+const TWO_BUCKETS: u32 = 8;
+
+/// The set without a pin of a job that [`open`] or [`archive`] takes: with it the library tells
+/// the header.
+fn set_of(job: &[u8]) -> Result<Vec<u32>, Refusal> {
+    let mut set = vec![0; numbers::SET_NUMBERS];
+    checked(numbers::archive_set(job, &mut set))?;
+    Ok(set)
+}
+
+/// How many buckets the line has of the job that a set belongs to.
+fn buckets_in(set: &[u32]) -> usize {
+    match set[SET_KIND] {
+        TWO_BUCKETS => 2,
         _ => 1,
     }
 }
@@ -568,15 +596,13 @@ pub struct Opened {
     pub bucket: u16,
 }
 
-/// Where the size of the first bucket stands in a job, with a header of either kind.
-const JOB_BUCKET: usize = 10;
-
 impl Opened {
     /// From what opening or the archive wrote for a job.
-    fn of(values: [u64; numbers::OPEN_VALUES], job: &[u8]) -> Opened {
+    fn of(values: [u64; numbers::OPEN_VALUES], job: &[u8]) -> Result<Opened, Refusal> {
         let [bytes, units, intervals, table_words] = values.map(|value| value as usize);
-        let bucket = u16::from_le_bytes([job[JOB_BUCKET], job[JOB_BUCKET + 1]]);
-        Opened { bytes, units, intervals, table_words, buckets: buckets_of(job), bucket }
+        let set = set_of(job)?;
+        let (buckets, bucket) = (buckets_in(&set), set[SET_BUCKET] as u16);
+        Ok(Opened { bytes, units, intervals, table_words, buckets, bucket })
     }
 
     /// How many bytes a plan has.
@@ -851,7 +877,7 @@ fn checked(number: u32) -> Result<(), Refusal> {
 pub fn open(job: &[u8]) -> Result<Opened, Refusal> {
     let mut values = [0; numbers::OPEN_VALUES];
     checked(numbers::open(job, &mut values))?;
-    Ok(Opened::of(values, job))
+    Opened::of(values, job)
 }
 
 /// Opens a stored job, on a line that may never drain: checks all else as [`open`] does
@@ -909,7 +935,7 @@ pub fn open(job: &[u8]) -> Result<Opened, Refusal> {
 pub fn archive(job: &[u8]) -> Result<Opened, Refusal> {
     let mut values = [0; numbers::OPEN_VALUES];
     checked(numbers::archive(job, &mut values))?;
-    Ok(Opened::of(values, job))
+    Opened::of(values, job)
 }
 
 /// Makes the calls in turn, refused ones included. `answers`: one byte for each
@@ -967,7 +993,7 @@ pub fn plan(
     let mut values = [0; numbers::PLAN_VALUES_MOST];
     let (calls, aim, order) = (numbers_of(calls), aim.number(), order.number());
     checked(numbers::plan(job, &calls, aim, order, answers, table, entries, &mut values))?;
-    Ok(Totals::of(values, buckets_of(job)))
+    Ok(Totals::of(values, buckets_in(&set_of(job)?)))
 }
 
 /// Makes the calls as [`calls()`] does, then follows a plan interval by interval
@@ -990,7 +1016,7 @@ pub fn replay(
 ) -> Result<Replayed, Refusal> {
     let mut values = [0; numbers::REPLAY_VALUES_MOST];
     checked(numbers::replay(job, &numbers_of(calls), entries, levels, &mut values))?;
-    Ok(Replayed::of(values, buckets_of(job)))
+    Ok(Replayed::of(values, buckets_in(&set_of(job)?)))
 }
 
 /// The effective buffer sizes of a plan, admissible or not.
@@ -1092,11 +1118,8 @@ fn change_with(
     checked(numbers::change(
         job, set, old, first, rates, sizes, drains, order, lent.0, lent.1, lent.2,
     ))?;
-    Ok(Totals::of(values, buckets_of(job)))
+    Ok(Totals::of(values, buckets_in(set)))
 }
-
-/// Where the decoder's size stands in a set.
-const SET_DECODER: usize = 3;
 
 /// A change with lists of its own; the answers are left out.
 fn changed_with(
@@ -2330,6 +2353,248 @@ pub fn written(
     let mut job = vec![0; header.job_bytes().min(LARGEST_JOB)];
     write(header, rates, sizes, distortions, &mut job)?;
     Ok(job)
+}
+
+/// A function of [`numbers`] that reads a job back, by the door of opening or by that of the
+/// archive.
+type Reading = fn(&[u8], &mut [u16], &mut [u16], &mut [u16], &mut [u32], &mut [u64]) -> u32;
+
+fn read_with(
+    reading: Reading,
+    job: &[u8],
+    rates: &mut [u16],
+    sizes: &mut [u16],
+    distortions: &mut [u32],
+) -> Result<(Header, usize), Refusal> {
+    let mut fields = [0; numbers::FIELDS_MOST];
+    let mut values = [0; numbers::READ_VALUES];
+    checked(reading(job, &mut fields, rates, sizes, distortions, &mut values))?;
+    let [bytes, written] = values.map(|value| value as usize);
+    Ok((Header::of(fields, written), bytes))
+}
+
+/// Reads a job back: its header and lists, as [`write()`] takes them. Says the header, and how
+/// many bytes the job took.
+///
+/// - `rates`: P numbers are written.
+/// - `sizes`: N × M numbers are written by unit and choice, unit after unit: number
+///   (u − 1) × M + c is what unit u takes at choice c, in grains.
+/// - `distortions`: N × M numbers are written in the order of `sizes`.
+///
+/// Lists of [`numbers::RATES_MOST`], n / 6 and n / 6 numbers are long enough for every job of n
+/// bytes. Written again, what is read is the bytes that the job took.
+///
+/// # Errors
+///
+/// In this order: 1 to 5 for the job, with 17 directly after 3; 12 where a list is too short.
+///
+/// # Examples
+///
+/// A byte stands behind the job, and is not looked at.
+///
+/// ```
+/// use upload_planner::{numbers, read, write, written, Header, Refusal};
+///
+/// let header = Header {
+///     units: 2,
+///     delay: 1,
+///     decoder: 4,
+///     bucket: 3,
+///     drain: 2,
+///     level: 0,
+///     fill: 0,
+///     rates: 3,
+///     choices: 2,
+///     second: None,
+/// };
+/// let mut job = written(&header, &[0, 2, 4], &[4, 2, 5, 2], &[10, 30, 12, 40])?;
+/// job.push(7);
+///
+/// let mut rates = [9; numbers::RATES_MOST];
+/// let (mut sizes, mut distortions) = (vec![9; job.len() / 6], vec![9; job.len() / 6]);
+/// let (found, bytes) = read(&job, &mut rates, &mut sizes, &mut distortions)?;
+/// assert_eq!((found, bytes), (header, 64));
+/// assert_eq!(rates[..4], [0, 2, 4, 9]);
+/// assert_eq!(sizes[..5], [4, 2, 5, 2, 9]);
+/// assert_eq!(distortions[..5], [10, 30, 12, 40, 9]);
+///
+/// // The same bytes again; and no room for the last distortion.
+/// let mut again = [0; 64];
+/// write(&found, &rates[..3], &sizes[..4], &distortions[..4], &mut again)?;
+/// assert_eq!(again, job[..64]);
+/// let short = read(&job, &mut rates, &mut sizes, &mut distortions[..3]);
+/// assert_eq!(short, Err(Refusal::ListTooShort));
+/// # Ok::<(), Refusal>(())
+/// ```
+pub fn read(
+    job: &[u8],
+    rates: &mut [u16],
+    sizes: &mut [u16],
+    distortions: &mut [u32],
+) -> Result<(Header, usize), Refusal> {
+    read_with(numbers::read, job, rates, sizes, distortions)
+}
+
+/// Reads a stored job back, whose line may never drain: all else is as in [`read`]. A job that
+/// [`open`] takes is read as there. A drain in the header may be 0, and such a job is not
+/// written again.
+///
+/// # Errors
+///
+/// In this order: 1 to 5 for the job; 12 where a list is too short.
+pub fn read_archive(
+    job: &[u8],
+    rates: &mut [u16],
+    sizes: &mut [u16],
+    distortions: &mut [u32],
+) -> Result<(Header, usize), Refusal> {
+    read_with(numbers::read_archive, job, rates, sizes, distortions)
+}
+
+/// What a job holds: its header and its lists, as [`written`] takes them. [`contents`] and
+/// [`archived_contents`] read it from the job's bytes.
+#[derive(Clone, Debug, PartialEq, Eq, Hash)]
+pub struct Contents {
+    /// The header.
+    pub header: Header,
+    /// The rates in grains, P of them, strictly rising.
+    pub rates: Vec<u16>,
+    /// What the units take in grains, N × M numbers by unit and choice, unit after unit.
+    pub sizes: Vec<u16>,
+    /// Their distortions, in the order of `sizes`.
+    pub distortions: Vec<u32>,
+}
+
+impl Contents {
+    /// What a unit, counted from 1, takes at a choice, counted from 0, and the distortion that
+    /// it then has; `None` where the job has no such unit or choice.
+    pub fn coding(&self, unit: u16, choice: u16) -> Option<(u16, u32)> {
+        if choice >= self.header.choices {
+            return None;
+        }
+        let before = usize::from(unit).checked_sub(1)? * usize::from(self.header.choices);
+        let place = before + usize::from(choice);
+        Some((*self.sizes.get(place)?, *self.distortions.get(place)?))
+    }
+
+    /// The bytes of the job, as [`written`] makes them. Where nothing was altered, they are
+    /// those that were read.
+    ///
+    /// # Errors
+    ///
+    /// In this order: 3, then 17 for the header; 16 where a list has another length; 4; 5.
+    pub fn job(&self) -> Result<Vec<u8>, Refusal> {
+        written(&self.header, &self.rates, &self.sizes, &self.distortions)
+    }
+}
+
+fn contents_with(reading: Reading, job: &[u8]) -> Result<Contents, Refusal> {
+    // A choice takes six bytes of the job. What stands behind the largest job calls for no room.
+    let most = job.len().min(LARGEST_JOB) / 6;
+    let mut rates = vec![0; numbers::RATES_MOST];
+    let (mut sizes, mut distortions) = (vec![0; most], vec![0; most]);
+    let (header, _) = read_with(reading, job, &mut rates, &mut sizes, &mut distortions)?;
+    let codings = usize::from(header.units) * usize::from(header.choices);
+    rates.truncate(header.rates.into());
+    sizes.truncate(codings);
+    distortions.truncate(codings);
+    Ok(Contents { header, rates, sizes, distortions })
+}
+
+/// [`read`] with lists of its own, as long as the job needs.
+///
+/// # Errors
+///
+/// Numbers 1 to 5; 17 directly after 3.
+///
+/// # Examples
+///
+/// A job is there as bytes alone, a distortion in it is corrected, and the plan follows.
+///
+/// ```
+/// use upload_planner::{best_plan, contents, written, Aim, Header, Order, Refusal};
+///
+/// let header = Header {
+///     units: 2,
+///     delay: 1,
+///     decoder: 4,
+///     bucket: 3,
+///     drain: 2,
+///     level: 0,
+///     fill: 0,
+///     rates: 3,
+///     choices: 2,
+///     second: None,
+/// };
+/// let job = written(&header, &[0, 2, 4], &[4, 2, 5, 2], &[10, 30, 12, 40])?;
+///
+/// let mut held = contents(&job)?;
+/// assert_eq!(held.header, header);
+/// assert_eq!(held.rates, [0, 2, 4]);
+/// assert_eq!(held.sizes, [4, 2, 5, 2]);
+/// assert_eq!(held.distortions, [10, 30, 12, 40]);
+/// assert_eq!(held.job()?, job);
+///
+/// // Unit 2 takes five grains at choice 0, and loses 12; there is no unit 3.
+/// assert_eq!(held.coding(2, 0), Some((5, 12)));
+/// assert_eq!((held.coding(2, 2), held.coding(3, 0)), (None, None));
+///
+/// // Unit 1 at its second choice is better than was thought.
+/// held.distortions[1] = 5;
+/// let best = best_plan(&held.job()?, &[], Aim::Total, Order::Early)?;
+/// assert_eq!(best.totals.distortion, 5 + 40);
+///
+/// // The last byte is missing.
+/// assert_eq!(contents(&job[..63]), Err(Refusal::Cut));
+/// # Ok::<(), Refusal>(())
+/// ```
+pub fn contents(job: &[u8]) -> Result<Contents, Refusal> {
+    contents_with(numbers::read, job)
+}
+
+/// [`read_archive`] with lists of its own, as long as the job needs.
+///
+/// # Errors
+///
+/// Numbers 1 to 5.
+///
+/// # Examples
+///
+/// The drain of a stored job was typed as 0 for a line without a limit. The job is mended with
+/// the largest drain there is.
+///
+/// ```
+/// use upload_planner::{archived_contents, contents, open, written, Header, Refusal};
+///
+/// let header = Header {
+///     units: 2,
+///     delay: 1,
+///     decoder: 4,
+///     bucket: 3,
+///     drain: 2,
+///     level: 0,
+///     fill: 0,
+///     rates: 3,
+///     choices: 2,
+///     second: None,
+/// };
+/// let mut job = written(&header, &[0, 2, 4], &[4, 2, 5, 2], &[10, 30, 12, 40])?;
+/// assert_eq!(archived_contents(&job), contents(&job));
+///
+/// // The drain stands in bytes 12 and 13.
+/// job[12] = 0;
+/// assert_eq!(contents(&job), Err(Refusal::NeverDrains));
+/// let mut held = archived_contents(&job)?;
+/// assert_eq!(held.header, Header { drain: 0, ..header });
+///
+/// // As it is it is not written again.
+/// assert_eq!(held.job(), Err(Refusal::NeverDrains));
+/// held.header.drain = 4_095;
+/// assert!(open(&held.job()?).is_ok());
+/// # Ok::<(), Refusal>(())
+/// ```
+pub fn archived_contents(job: &[u8]) -> Result<Contents, Refusal> {
+    contents_with(numbers::read_archive, job)
 }
 
 /// Writes the bytes of a trial job and says how many they are: [`Header::job_bytes`]. It

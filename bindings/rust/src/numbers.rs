@@ -6,10 +6,10 @@
 //! Calls are numbers, three a call: [`PIN`] or [`LIFT`], the unit, the choice,
 //! which a lift does not look at. A call of another kind is refused with 2, then
 //! a last call that is cut with 1, both right after the job's numbers, which come
-//! first: 1 to 5, and of [`open`], [`calls`], [`plan`], [`playlist`], [`set`] and all that take
-//! a set but [`replay_set`] also 17. An aim that is neither [`TOTAL`] nor [`EVEN`] is refused
-//! with 2 too, right after the job's numbers and before the calls', or after the set's 6,
-//! and so is an order that is neither [`EARLY`] nor [`LATE`], right after the aim, or where
+//! first: 1 to 5, and of [`open`], [`calls`], [`plan`], [`playlist`], [`read`], [`set`] and all
+//! that take a set but [`replay_set`] also 17. An aim that is neither [`TOTAL`] nor [`EVEN`] is
+//! refused with 2 too, right after the job's numbers and before the calls', or after the set's
+//! 6, and so is an order that is neither [`EARLY`] nor [`LATE`], right after the aim, or where
 //! there is none in its place. A `values` list is one of those to be filled: where it is too
 //! short, its 12 comes right after theirs.
 //!
@@ -75,6 +75,9 @@ pub const REPLAY_VALUES: usize = 6;
 pub const REPLAY_VALUES_MOST: usize = 7;
 /// How many values [`write()`] and [`trial`] write: the bytes that the job took.
 pub const WRITE_VALUES: usize = 1;
+/// How many values [`read`] and [`read_archive`] write: the bytes that the job took, and how
+/// many fields were written.
+pub const READ_VALUES: usize = 2;
 /// How many values [`pin_and_see`] and [`lift_and_see`] write: the least total distortion,
 /// or [`NEVER`](crate::NEVER) where no plan holds the pins.
 pub const SEE_VALUES: usize = 1;
@@ -90,13 +93,18 @@ pub const LEVELS: usize = 2;
 /// the second bucket's comes last.
 pub const LEVELS_MOST: usize = 3;
 
-/// How many fields [`write()`] and [`trial`] take for a job with one bucket: N, d, the
-/// sizes of decoder and bucket, the drain, the starting levels of decoder and bucket, P, M.
+/// How many fields [`write()`] and [`trial`] take for a job with one bucket, and [`read`] and
+/// [`read_archive`] write: N, d, the sizes of decoder and bucket, the drain, the starting levels
+/// of decoder and bucket, P, M.
 pub const FIELDS: usize = 9;
-/// How many fields [`write()`] and [`trial`] take for a job with two buckets: those nine,
-/// then the second bucket's size, drain and starting level. A count that is neither is
-/// refused with 3, as a field out of range is.
+/// How many fields [`write()`] and [`trial`] take for a job with two buckets, and [`read`] and
+/// [`read_archive`] write: those nine, then the second bucket's size, drain and starting level.
+/// Of those that are taken a count that is neither is refused with 3, as a field out of range
+/// is; of those that are written a list of so many is long enough for every job.
 pub const FIELDS_MOST: usize = 12;
+/// The most rates that a job has: for those that [`read`] and [`read_archive`] write a list of
+/// so many is long enough for every job.
+pub const RATES_MOST: usize = 16;
 
 #[link(name = "upload", kind = "static")]
 extern "C" {
@@ -294,6 +302,36 @@ extern "C" {
         values_len: usize,
     ) -> u32;
 
+    fn upload_read(
+        job: *const u8,
+        job_len: usize,
+        fields: *mut u16,
+        fields_len: usize,
+        rates: *mut u16,
+        rates_len: usize,
+        sizes: *mut u16,
+        sizes_len: usize,
+        distortions: *mut u32,
+        distortions_len: usize,
+        values: *mut u64,
+        values_len: usize,
+    ) -> u32;
+
+    fn upload_read_archive(
+        job: *const u8,
+        job_len: usize,
+        fields: *mut u16,
+        fields_len: usize,
+        rates: *mut u16,
+        rates_len: usize,
+        sizes: *mut u16,
+        sizes_len: usize,
+        distortions: *mut u32,
+        distortions_len: usize,
+        values: *mut u64,
+        values_len: usize,
+    ) -> u32;
+
     fn upload_trial(
         fields: *const u16,
         fields_len: usize,
@@ -305,7 +343,7 @@ extern "C" {
     ) -> u32;
 }
 
-// In all twenty: a slice's pointer is aligned, never null, and good for the
+// In all twenty-two: a slice's pointer is aligned, never null, and good for the
 // slice's length; slices that are written overlap no other. That is all the
 // library asks, and it reads and writes nothing else.
 
@@ -656,6 +694,61 @@ pub fn write(
             distortions.len(),
             job.as_mut_ptr(),
             job.len(),
+            values.as_mut_ptr(),
+            values.len(),
+        )
+    }
+}
+
+/// Reads a job back: its header and lists, as [`write()`] takes them. For a job of n bytes lists
+/// of [`FIELDS_MOST`], [`RATES_MOST`], n / 6, n / 6 and [`READ_VALUES`] numbers are long enough.
+pub fn read(
+    job: &[u8],
+    fields: &mut [u16],
+    rates: &mut [u16],
+    sizes: &mut [u16],
+    distortions: &mut [u32],
+    values: &mut [u64],
+) -> u32 {
+    unsafe {
+        upload_read(
+            job.as_ptr(),
+            job.len(),
+            fields.as_mut_ptr(),
+            fields.len(),
+            rates.as_mut_ptr(),
+            rates.len(),
+            sizes.as_mut_ptr(),
+            sizes.len(),
+            distortions.as_mut_ptr(),
+            distortions.len(),
+            values.as_mut_ptr(),
+            values.len(),
+        )
+    }
+}
+
+/// Reads a stored job back, whose line may never drain, and all else as [`read`] does.
+pub fn read_archive(
+    job: &[u8],
+    fields: &mut [u16],
+    rates: &mut [u16],
+    sizes: &mut [u16],
+    distortions: &mut [u32],
+    values: &mut [u64],
+) -> u32 {
+    unsafe {
+        upload_read_archive(
+            job.as_ptr(),
+            job.len(),
+            fields.as_mut_ptr(),
+            fields.len(),
+            rates.as_mut_ptr(),
+            rates.len(),
+            sizes.as_mut_ptr(),
+            sizes.len(),
+            distortions.as_mut_ptr(),
+            distortions.len(),
             values.as_mut_ptr(),
             values.len(),
         )

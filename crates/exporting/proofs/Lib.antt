@@ -4,6 +4,7 @@ pub mod Rooms
 pub mod Counts
 pub mod SetRooms
 pub mod Exports
+pub mod Contents
 pub mod Sets
 pub mod Changes
 pub mod Larger

@@ -9,12 +9,12 @@ use Rattle.base.specs.Refusals.{condition}
 use Rattle.playlists.specs.Calls as playlists
 use Rattle.playlists.specs.Calls.{programmes, refused-list, playlist-call}
 use Rattle.playlists.specs.Claims.{IsList, Run}
-use Rattle.playlists.proofs.Playlists.{playlist-calls}
+use Rattle.playlists.proofs.Playlists.{run-numbers, playlist-calls}
 use Rattle.exporting.specs.Playlists.{told, playlisted, after-list, Playing, Playlists}
 use Rattle.exporting.proofs.Exports.{in-order-through}
 
 -- place and number, told from one number
-apart : (place n r : ℕ) → r ≡ 256 * place + n → n ≤ 255 → (r % 256 ≡ n) × (r / 256 ≡ place)
+apart : (place n r : ℕ) → r ≡ 256 * place + n → n ≤ 22 → (r % 256 ≡ n) × (r / 256 ≡ place)
 apart place n r e h = (omega (arith, e), omega (arith, e))
 
 refusal-shown : (table entries totals : List ℕ) (n : ℕ) → after-list (record { answer = refused-list n; table = table; entries = entries; totals = totals }) ≡ playlisted n table entries totals
@@ -29,7 +29,7 @@ played b ns table entries totals r run = record {
   lists = (refl, refl, refl);
   done = λ e. ap told e;
   refused-number = λ place n e. ap told e;
-  told-apart = λ place n e h. apart place n (told (r .answer)) (ap told e) h;
+  told-apart = λ place n e. apart place n (told (r .answer)) (ap told e) (run-numbers run place n e);
 }
 
 pub playlisted-calls : Playlists

@@ -36,7 +36,7 @@ pub record Playing (b ns table entries totals : List ℕ) (r : Playlisted) : Typ
   pub lists : (r .table ≡ inner .table) × (r .entries ≡ inner .entries) × (r .totals ≡ inner .totals)
   pub done : inner .answer ≡ finished → r .number ≡ 0
   pub refused-number : (place n : ℕ) → inner .answer ≡ refused-at place n → r .number ≡ 256 * place + n
-  pub told-apart : (place n : ℕ) → inner .answer ≡ refused-at place n → n ≤ 255 → (r .number % 256 ≡ n) × (r .number / 256 ≡ place)
+  pub told-apart : (place n : ℕ) → inner .answer ≡ refused-at place n → (r .number % 256 ≡ n) × (r .number / 256 ≡ place)
 
 abbrev pub Playlists : Type 0
 Playlists = (b ns table entries totals : List ℕ) → let r = playlist-export b ns table entries totals in InOrder r (λ n. playlisted n table entries totals) (condition 21 (IsList ns) ∷ []) (Playing b ns table entries totals r)

@@ -11,9 +11,9 @@ use Rattle.model.specs.Table.{InLayer, Bounded}
 use Rattle.format.specs.Limits.{AllKept}
 use Rattle.format.specs.Parser.{took, Each}
 use Rattle.format.specs.Parser as P
-use Rattle.format.specs.JobBytes.{no-bucket, Door, opening, archive, drain-limits, Formed, largest-sizes, bucket-limits, rate-limits, coding-limits, policed, header-in, parse, encode, UnitKept, WellFormed}
+use Rattle.format.specs.JobBytes.{Policed, no-bucket, Door, opening, archive, drain-limits, Formed, largest-sizes, bucket-limits, rate-limits, coding-limits, policed, header-in, parse, encode, UnitKept, WellFormed}
 use Rattle.format.specs.Claims.{InLimits, Limited, Drains, OpensExactly, TwoDoors}
-use Rattle.format.proofs.Header.{buckets-count}
+use Rattle.format.proofs.Header.{buckets-count, bucket-told}
 use Rattle.format.proofs.RoundTrip.{parse-encode, encode-parse, sized}
 use Rattle.format.proofs.Doors.{none-idle, all-drain}
 use Rattle.format.proofs.Places.{well-read, other-door, not-drained}
@@ -204,11 +204,8 @@ limits j = (limited j, within j)
 
 -- a job's drains, as the door asks for them, and as its header tells them
 drain-told : (bs : List Bucket) (ls : List ℕ) → length ls ≡ length bs → (i : ℕ) → i < length bs → getD (zipWith policed bs ls) i no-bucket .drain ≡ bucketAt bs i .drain
-unfolding zipWith policed
-drain-told [] ls e i h = absurd (omega arith)
-drain-told (a ∷ bs) [] e i h = absurd (omega arith)
-drain-told (a ∷ bs) (l ∷ ls) e zero h = refl
-drain-told (a ∷ bs) (l ∷ ls) e (suc i) h = drain-told bs ls (omega arith) i (omega arith)
+unfolding policed
+drain-told bs ls e i h = ap (λ (k : Policed). k .drain) (bucket-told bs ls e i h)
 
 pub drains-told : (d : Door) (j : Job) → Formed d j → Drains d j
 unfolding header-in

@@ -7,6 +7,7 @@ pub mod Choices
 pub mod Parsing
 pub mod Doors
 pub mod Header
+pub mod HeaderValues
 pub mod Spelling
 pub mod Exact
 pub mod Orders
@@ -14,6 +15,7 @@ pub mod Either
 pub mod RoundTrip
 pub mod Bounds
 pub mod Opening
+pub mod Numbers
 pub mod Places
 pub mod Opened
 pub mod Examples

@@ -71,7 +71,7 @@ pub codings-number : (u : List Coding) → AllOf 5 (coding-limits u)
 codings-number [] = tt
 codings-number (c ∷ u) = (refl, (refl, codings-number u))
 
-form-number : (n : ℕ) (vs : List ℕ) → AllOf 3 (header-form n .limits vs)
+pub form-number : (n : ℕ) (vs : List ℕ) → AllOf 3 (header-form n .limits vs)
 unfolding header-form
 form-number n vs = header-number (header-of vs)
 

@@ -15,7 +15,7 @@ use Rattle.format.specs.Records.{Form, record-due, kind-in, record-eithe
 use Rattle.format.specs.Limits.{AllKept}
 use Rattle.format.specs.JobBytes.{Header, further-buckets, policed-by, header-of, codings, entry-widths, bucket-widths, header-widths, header-form, rates-form, unit-form, job-of, header-in, header-parser, unit-parser, parse, UnitKept, Door, opening, archive, drain-limits, header-limits, draining, header-read}
 use Rattle.format.proofs.Doors.{header-by, by-header, draining-refused}
-use Rattle.format.specs.Places.{field-at, header-size, rates-size, unit-size, rate-place, rate-at, coding-place, coding-at}
+use Rattle.format.specs.Places.{field-at, header-size, rates-size, unit-size, job-size, rate-place, rate-at, coding-place, coding-at}
 use Rattle.format.specs.Claims.{WellRead, LooksUp}
 use Rattle.format.proofs.Fields.{nth-field}
 use Rattle.format.proofs.Records.{total-same, total-entries}
@@ -272,6 +272,23 @@ looks-up d b j n e =
       rate = λ y l. rate-here d b j n t (header-in j) h y l;
       coding = λ u x o l k. coding-here d b j n t (header-in j) h (u - 1) x (omega arith) k u refl;
     }
+
+-- readings that all take s bytes
+many-size : {A : Type 0} (p : Parser A) (s : ℕ) → ((b : List ℕ) (a : A) (k : ℕ) → p b ≡ took a k → k ≡ s) → (n : ℕ) (b : List ℕ) (xs : List A) (m : ℕ) → many n p b ≡ took xs m → m ≡ n * s
+unfolding many
+many-size p s same zero b xs m e = done-is [] b xs m e .1 ∙ sym (zero-mul s)
+many-size p s same (suc n) b xs m e =
+    let t = many-is p n b xs m e in
+    omega (arith, t .total-size, same b (t .value) (t .size) (t .first), many-size p s same n (drop (t .size) b) (t .values) (t .sizes) (t .others), suc-mul n s)
+
+-- how many bytes a job takes
+pub read-size : (d : Door) (b : List ℕ) (j : Job) (n : ℕ) → parse d b ≡ took j n → n ≡ job-size (header-in j)
+read-size d b j n e =
+    let t = parse-is d b j n e in
+    let h = header-of-parts d b j n t in
+    t .size
+    ∙ ap (λ (k : ℕ). header-size (t .header) + rates-size (t .header .rates) + k) (many-size (unit-parser (t .header .choices)) (unit-size (t .header .choices)) (λ c a k z. unit-is (t .header .choices) c a k z .size) (t .header .units) _ (t .units) (t .sizes) (t .units-taken))
+    ∙ ap job-size h
 
 -- what was read lies within the bytes
 many-within : {A : Type 0} (p : Parser A) → ((b : List ℕ) (a : A) (k : ℕ) → p b ≡ took a k → k ≤ length b) → (n : ℕ) (b : List ℕ) (xs : List A) (m : ℕ) → many n p b ≡ took xs m → m ≤ length b

@@ -90,7 +90,7 @@ unfolding header-of nine-values with-policed
 again h [] l = absurd (omega arith)
 again h (p ∷ ks) l = rw (policed-back ks)
 
-header-again : (h : Header) → 1 ≤ length (h .buckets) → header-of (header-values h) ≡ h
+pub header-again : (h : Header) → 1 ≤ length (h .buckets) → header-of (header-values h) ≡ h
 unfolding header-values with-policed
 header-again h l = again h (h .buckets) l
 

@@ -168,6 +168,14 @@ pub record OpeningOrder (d : Door) (b : List ℕ) : Type 0 where
 abbrev pub Refusals : Type 0
 Refusals = (d : Door) (b : List ℕ) → RecordOrders b × OpeningOrder d b
 
+-- the numbers of opening: 1 to 5, and 17
+abbrev pub OwnNumber : ℕ → Type 0
+OwnNumber n = ((1 ≤ n) × (n ≤ 5)) ⊎ (n ≡ 17)
+
+-- a job is refused by no others, and so never by 0
+abbrev pub OwnNumbers : Type 0
+OwnNumbers = (d : Door) (b : List ℕ) (n : ℕ) → parse d b ≡ refused n → OwnNumber n
+
 -- a choice as a number: 65,535 stands for none, and every other number for itself
 pub record ChoiceNumbers (x : ℕ) : Type 0 where
   pub mark : x ≡ 65535 → choice-of x ≡ none

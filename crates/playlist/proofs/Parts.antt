@@ -6,8 +6,7 @@ use mathlib.Core.Option.{none, some}
 use mathlib.Core.List.{List, [], _∷_, map}
 use native.Mathlib.Omega.{arith}
 use lib.Dec.{eqb}
-use lib.ListN.{length, take, drop, length-map, length-drop}
-use lib.Seq.{length-take-le}
+use lib.ListN.{length, take, drop, length-map}
 use borrow.Author.Tests.{eqb-true, eq-eqb, ne-eqb, le-leb, lt-leb, not-false}
 use Rattle.base.specs.If.{if_then_else_, one-if}
 use Rattle.base.specs.Refusals.{test, guarded}
@@ -22,10 +21,10 @@ use Rattle.header.specs.Answers.{plain, policed-of}
 use Rattle.job.proofs.Answers.{Held}
 use Rattle.planner.specs.Answers.{bucket-levels}
 use Rattle.playlists.specs.Calls as calls
-use Rattle.playlists.specs.Calls.{Standing, Turn, part, starting, as-many, behind-tests, after, plan-part, stops}
+use Rattle.playlists.specs.Calls.{Standing, Turn, part, as-many, behind-tests, plan-turn, part-turn, stops}
 use Rattle.playlist.specs.declared.Standing as code
 use Rattle.playlist.specs.declared.Turn.the-variants as turn
-use Rattle.playlist.specs.Answers.{programme, carries, stands, turned, starts-at, Opened, plan-turn, part-turn}
+use Rattle.playlist.specs.Answers.{programme, carries, stands, turned, starts-at, Opened}
 
 -- as many levels as buckets: one of each, or two
 same-count : {A B : Type 0} (a a2 : A) (b b2 : B) (s t : Bool) → eqb (length (a ∷ one-if s a2)) (length (b ∷ one-if t b2)) ≡ Bool·beq s t
@@ -84,7 +83,7 @@ module _ (b : List ℕ) (s : code.Standing) (table entries totals : List ℕ) wh
     many-is t e = many-not J (s .any) (bucket-levels (s .levels)) (length (plain h .buckets)) count-is ∙ ap not (other-is ∙ e)
 
     abbrev work : Turn
-    work = after J (starting J (st .carried)) st (plan-part b J st .answer) (plan-part b J st)
+    work = plan-turn b J st
 
     seen : part-turn b st ≡ guarded (λ n. stops n st) (behind-tests J k (length b) (st .carried)) work
     unfolding part-turn on-took
@@ -108,8 +107,7 @@ module _ (b : List ℕ) (s : code.Standing) (table entries totals : List ℕ) wh
         unfolding starts-at
         opened = record { opens = opens; drains = (k, took-is); alike = alike (s .any) (bucket-levels (s .levels)) (plain h) (other-is ∙ q) }
 
-        pub part-opened : plan-turn b st ≡ part-turn b st
-        unfolding plan-turn
+        pub part-opened : plan-turn b J st ≡ part-turn b st
         part-opened = sym (past ∙ guarded-last (λ n. stops n st) _ work (many-is false q))
 
 -- one programme of the list
@@ -121,12 +119,6 @@ module _ (b : List ℕ) (first size : ℕ) (s : code.Standing) (table entries to
   unfolding turned calls.turn
   turn-outside h = sym (guarded-here (λ n. stops n between) _ _ _ (lt-leb (first + size) (length b) h))
 
-  module _ (h : first + size ≤ length b) where
-    sized : length (take size (drop first b)) ≡ size
-    sized = length-take-le size (drop first b) (omega (arith, length-drop first b))
-
-    pub turn-inside : part-turn (take size (drop first b)) between ≡ calls.turn b (programme first size) between
-    unfolding calls.turn part part-turn
-    turn-inside =
-        ap (λ (n : ℕ). on-took (λ n. stops n between) (parse opening (take size (drop first b))) (λ j taken. guarded (λ n. stops n between) (behind-tests j taken n (between .carried)) (after j (starting j (between .carried)) between (plan-part (take size (drop first b)) j between .answer) (plan-part (take size (drop first b)) j between)))) sized
-        ∙ sym (guarded-last (λ n. stops n between) _ _ (le-leb (first + size) (length b) h))
+  pub turn-inside : first + size ≤ length b → part-turn (take size (drop first b)) between ≡ calls.turn b (programme first size) between
+  unfolding calls.turn part
+  turn-inside h = sym (guarded-last (λ n. stops n between) _ _ (le-leb (first + size) (length b) h))

@@ -28,12 +28,12 @@ use Rattle.starting.specs.Calls.{levels-call}
 use Rattle.planner.specs.declared.BucketLevels.{BucketLevels}
 use Rattle.planner.specs.declared.Planned.the-variants as p
 use Rattle.planner.specs.Answers.{answered, planned, bucket-levels}
-use Rattle.playlists.specs.Calls.{Standing, starting, led-to, five, after, rest-of, plan-part, stops, goes-on}
+use Rattle.playlists.specs.Calls.{Standing, starting, led-to, five, after, rest-of, plan-part, plan-turn, stops, goes-on}
 use Rattle.playlists.proofs.Turns.{Balanced, balanced, plan-refused}
 use Rattle.playlist.specs.declared.Standing as code
 use Rattle.playlist.specs.declared.Turn.{Turn}
 use Rattle.playlist.specs.declared.Turn.the-variants as turn
-use Rattle.playlist.specs.Answers.{carries, stands, turned, starts-at, led-by, LeadsTo, end-for, Opened, plan-turn}
+use Rattle.playlist.specs.Answers.{carries, stands, turned, starts-at, led-by, LeadsTo, end-for, Opened}
 use Rattle.base.proofs.Lent.{part-all, put-back}
 
 -- the carried levels, or a job's own
@@ -183,7 +183,7 @@ module _ (b : List ℕ) (h : Header) (s : code.Standing) (o : Opened b h s) (tab
     places = omega (arith, balance .places)
 
     -- the next programme's turn comes
-    pub turn-best : (d u : ℕ) (levels : BucketLevels) (list new : List ℕ) → d ≡ s .done + 1 → u ≡ s .used + 3 * (h .units + h .delay) → bucket-levels levels ≡ led-by h from x → list ≡ putMid (s .used) (end - s .used) entries e → new ≡ over-at (5 * s .done) (five (totals-of x)) totals → turned (turn.GoesOn (record { done = d; used = u; any = true; levels = levels })) s t list new ≡ plan-turn b st
+    pub turn-best : (d u : ℕ) (levels : BucketLevels) (list new : List ℕ) → d ≡ s .done + 1 → u ≡ s .used + 3 * (h .units + h .delay) → bucket-levels levels ≡ led-by h from x → list ≡ putMid (s .used) (end - s .used) entries e → new ≡ over-at (5 * s .done) (five (totals-of x)) totals → turned (turn.GoesOn (record { done = d; used = u; any = true; levels = levels })) s t list new ≡ plan-turn b J st
     unfolding turned stands carries if_then_else_ plan-turn planned answered
     turn-best d u levels list new ed eu el es put =
         let same : e ≡ found .entries = ap (λ (r : planning.Planned). r .entries) q in
@@ -191,7 +191,7 @@ module _ (b : List ℕ) (h : Header) (s : code.Standing) (o : Opened b h s) (tab
         ∙ sym (after-best J (starting J (st .carried)) st found t e (totals-of x) q)
 
   -- the programme is refused
-  pub turn-refused : (n : ℕ) (t e : List ℕ) → planned (p.Refused n) t e ≡ found → (r : Turn) (list : List ℕ) → r ≡ turn.Stops n → list ≡ putMid (s .used) (end - s .used) entries e → turned r s t list totals ≡ plan-turn b st
+  pub turn-refused : (n : ℕ) (t e : List ℕ) → planned (p.Refused n) t e ≡ found → (r : Turn) (list : List ℕ) → r ≡ turn.Stops n → list ≡ putMid (s .used) (end - s .used) entries e → turned r s t list totals ≡ plan-turn b J st
   unfolding turned stands plan-turn planned answered
   turn-refused n t e q r list is es =
       let x : found .answer ≡ refused n = ap (λ (r : planning.Planned). r .answer) (sym q) in

@@ -6,8 +6,7 @@ use mathlib.Core.List.{List, map, zipWith}
 use lib.Dec.{leb}
 use lib.ListN.{length, getD}
 use Rattle.base.specs.If.{if_then_else_}
-use Rattle.base.specs.Refusals.{guarded}
-use Rattle.format.specs.Parser.{took, on-took}
+use Rattle.format.specs.Parser.{took}
 use Rattle.format.specs.JobBytes as format
 use Rattle.format.specs.JobBytes.{job-in, Opens, parse, opening}
 use Rattle.interval.specs.declared.Totals.{Totals}
@@ -15,7 +14,7 @@ use Rattle.interval.specs.Answers.{totals-of}
 use Rattle.planner.specs.declared.BucketLevels.{BucketLevels}
 use Rattle.planner.specs.Answers.{bucket-levels}
 use Rattle.playlists.specs.Calls as calls
-use Rattle.playlists.specs.Calls.{Programme, programmes, Standing, at-first, starting, behind-tests, stops, goes-on, after, plan-part, finished, refused-list, refused-at, play}
+use Rattle.playlists.specs.Calls.{Programme, programmes, Standing, at-first, stops, goes-on, finished, refused-list, refused-at, play}
 use Rattle.playlist.specs.declared.Outcome.{Outcome}
 use Rattle.playlist.specs.declared.Outcome.the-variants as o
 use Rattle.playlist.specs.declared.Turn.{Turn}
@@ -84,16 +83,6 @@ pub record Opened (b : List ℕ) (h : format.Header) (s : code.Standing) : Type 
   pub opens : Opens b h
   pub drains : (k : ℕ) × (parse opening b ≡ took (job-in b) k)
   pub alike : length (starts-at h s) ≡ length (h .buckets)
-
--- planning a programme that opened, and one whose bytes these are
-unfoldable pub plan-turn : List ℕ → Standing → calls.Turn
-plan-turn b st = after (job-in b) (starting (job-in b) (st .carried)) st (plan-part b (job-in b) st .answer) (plan-part b (job-in b) st)
-
-unfoldable pub part-turn : List ℕ → Standing → calls.Turn
-part-turn b st =
-    on-took (λ n. stops n st) (parse opening b)
-    (λ j taken. guarded (λ n. stops n st) (behind-tests j taken (length b) (st .carried))
-    (after j (starting j (st .carried)) st (plan-part b j st .answer) (plan-part b j st)))
 
 -- a list of so many programmes
 pub record Going (ns : List ℕ) (count : ℕ) : Type 0 where

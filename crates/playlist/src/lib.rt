@@ -6,11 +6,12 @@ ghost use mathlib.Core.Path.{_≡_};
 ghost use Prim.Native.Nat.{_+_, _*_, _≤_};
 ghost use lib.ListN.{length, getD};
 ghost use Rattle.base.specs.Lent.{over-at};
+ghost use Rattle.format.specs.JobBytes.{job-in};
 ghost use Rattle.header.specs.Answers.{plain};
 ghost use Rattle.interval.specs.Answers.{totals-of};
 ghost use Rattle.planner.specs.Answers.{bucket-levels};
-ghost use Rattle.playlists.specs.Calls.{five, turn, playlist-call};
-ghost use Rattle.playlist.specs.Answers.{played, turned, stands, programme, starts-at, Lasts, LeadsTo, led-by, end-for, Room, Opened, plan-turn, part-turn, Going, runs};
+ghost use Rattle.playlists.specs.Calls.{five, plan-turn, part-turn, turn, playlist-call};
+ghost use Rattle.playlist.specs.Answers.{played, turned, stands, programme, starts-at, Lasts, LeadsTo, led-by, end-for, Room, Opened, Going, runs};
 use best::Order;
 use header::Door;
 use header::Header;
@@ -146,7 +147,7 @@ fn plan_opened(
     totals: &mut [u64],
 ) -> Turn
     requires { ⌜ Opened (now job) (plain header) standing × Room standing (now entries) ⌝ }
-    ensures { λ r. ⌜ turned r standing (now (table .exit)) (now (entries .exit)) (now (totals .exit)) ≡ plan-turn (now (job .entry)) (stands standing (now (table .entry)) (now (entries .entry)) (now (totals .entry))) ⌝ }
+    ensures { λ r. ⌜ turned r standing (now (table .exit)) (now (entries .exit)) (now (totals .exit)) ≡ plan-turn (now (job .entry)) (job-in (now (job .entry))) (stands standing (now (table .entry)) (now (entries .entry)) (now (totals .entry))) ⌝ }
 {
     let set = PinSet::fresh(header);
     let from = levels_for(header, standing);

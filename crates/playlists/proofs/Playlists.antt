@@ -1,7 +1,7 @@
 -- A list of programmes: the programmes that numbers tell, `Programmes`, and one after another, planned or refused, `PlaylistCalls`.
 use Prim.Native.Nat.{ℕ, zero, suc, _+_, _-_, _*_, _≤_}
 use mathlib.Core.Path.{_≡_, refl, sym, ap, _∙_}
-use mathlib.Core.Logic.{_↔_}
+use mathlib.Core.Logic.{_↔_, inl, inr}
 use mathlib.Core.Bool.{Bool, true, false}
 use mathlib.Core.Option.{Option, none, some}
 use mathlib.Core.List.{List, [], _∷_, _++_}
@@ -24,17 +24,18 @@ use Rattle.model.specs.Best.{late, total}
 use Rattle.model.specs.Table.{words}
 use Rattle.model.specs.Claims.{kept-open}
 use Rattle.format.specs.JobBytes.{opening}
-use Rattle.format.specs.Claims.{InLimits}
+use Rattle.format.specs.Claims.{InLimits, OwnNumber}
 use Rattle.format.proofs.Limits.{not-true, is-kept, of-kept}
+use Rattle.format.proofs.Numbers.{own-numbers}
 use Rattle.format.proofs.Bounds.{limited}
 use Rattle.format.proofs.Places.{well-read}
 use Rattle.planning.specs.Calls.{Planned, refuse}
 use Rattle.planning.specs.Claims.{PlanClaim}
 use Rattle.starting.specs.Calls.{start-with}
 use Rattle.starting.specs.Claims.{LevelsFit}
-use Rattle.playlists.specs.Calls.{Programme, programmes, part, Standing, at-first, starting, five, Turn, stops, goes-on, as-many, after, rest-of, ended, onward, play, is-list, playlist-call}
+use Rattle.playlists.specs.Calls.{Programme, programmes, part, Standing, at-first, starting, five, Turn, stops, goes-on, as-many, after, rest-of, ended, onward, finished, refused-at, Played, play, is-list, playlist-call}
 use Rattle.playlists.specs.Claims.{StartsAt, its-own, carried-on, Opens, HasRoom, PlannedOne, Stops, passes-slice, unread, bytes-left, other-buckets, level-over, short-table, short-list, no-plan, Run, all-planned, stopped, next, IsList, Programmes, Parts, PlaylistCalls}
-use Rattle.playlists.proofs.Turns.{Tried, too-full, few-words, few-bytes, searched, tried, given, Seen, outside, not-read, left, others, opened, seen, Roomy, roomy, room-left, some-interval, leads, goes-same}
+use Rattle.playlists.proofs.Turns.{Tried, too-full, few-words, few-bytes, searched, tried, given, Seen, outside, not-read, left, others, opened, part-size, seen, Roomy, roomy, room-left, some-interval, leads, goes-same}
 
 -- the programmes of a list are its pairs
 first-at : (ns : List ℕ) (i : ℕ) → i + 1 ≤ length (programmes ns) → getD (programmes ns) i (record { first = 0; size = 0 }) .first ≡ getD ns (2 * i) 0
@@ -70,7 +71,7 @@ programmes-are ns = record { first = first-at ns; size = size-at ns; no-more = n
 pub parts : Parts
 unfolding part
 parts b p h = record {
-  size = length-take-le (p .size) (drop (p .first) b) (omega (arith, length-drop (p .first) b));
+  size = part-size b p h;
   bytes = λ i k. getD-take (p .size) (drop (p .first) b) i 0 k ∙ getD-drop (p .first) b i 0;
 }
 
@@ -217,6 +218,32 @@ run b (p ∷ ps) st used = go (turned b p st used (seen b p st)) (λ st′ u. ru
     go : {t : Turn} → Turned b p st t → ((st′ : Standing) → st′ .used ≤ length (st′ .entries) → Run b ps st′ (play b ps st′)) → Run b (p ∷ ps) st (onward t (λ n. play b ps n))
     go (halted s) ih = stopped s
     go (moved {st′} q u) ih = next q (ih st′ u)
+
+-- the numbers by which a programme is refused
+own-number : {n : ℕ} → OwnNumber n → n ≤ 22
+own-number (inl h) = omega (arith, h .1)
+own-number (inr e) = omega (arith, e)
+
+stops-number : {b : List ℕ} {p : Programme} {st : Standing} {n : ℕ} {table : List ℕ} → Stops b p st n table → n ≤ 22
+stops-number (passes-slice f) = omega arith
+stops-number (unread {n} h q) = own-number (own-numbers opening _ n q)
+stops-number (bytes-left h q f) = omega arith
+stops-number (other-buckets h q s f) = omega arith
+stops-number (level-over o f) = omega arith
+stops-number (short-table o f w) = omega arith
+stops-number (short-list o f w l) = omega arith
+stops-number (no-plan o f w l q t d s) = omega arith
+
+same-number : {p q m n : ℕ} → refused-at p m ≡ refused-at q n → m ≡ n
+same-number e = cc
+
+not-finished : {A : Type 0} {p n : ℕ} → finished ≡ refused-at p n → A
+not-finished e = let z : _≡_ {A = ℕ} 0 1 = cc in absurd (omega arith)
+
+pub run-numbers : {b : List ℕ} {ps : List Programme} {st : Standing} {r : Played} → Run b ps st r → (place n : ℕ) → r .answer ≡ refused-at place n → n ≤ 22
+run-numbers all-planned place n e = not-finished e
+run-numbers (stopped s) place n e = let k = stops-number s in let q = same-number e in omega (arith, k, q)
+run-numbers (next p r) place n e = run-numbers r place n e
 
 -- a list is one of 1 to 64 pairs
 list-iff : (ns : List ℕ) → (is-list ns ≡ true) ↔ IsList ns

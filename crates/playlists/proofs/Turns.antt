@@ -39,7 +39,7 @@ use Rattle.planning.specs.Claims.{BestWritten, PlanClaim}
 use Rattle.starting.specs.Calls.{levels-fit, start-with}
 use Rattle.starting.specs.Claims.{LevelsFit, Asks}
 use Rattle.starting.proofs.Starting.{fits-iff, levels-calls, levels-keep}
-use Rattle.playlists.specs.Calls.{Programme, part, Standing, starting, led-to, five, Turn, stops, goes-on, as-many, behind-tests, after, rest-of, plan-part, turn}
+use Rattle.playlists.specs.Calls.{Programme, part, Standing, starting, led-to, five, Turn, stops, goes-on, as-many, behind-tests, after, rest-of, plan-part, plan-turn, part-turn, turn}
 
 -- what planning from levels comes to: refused by 20, 11 or 12, or as is claimed of a search
 pub data Tried (j : Job) (ls table entries : List ℕ) : Planned → Type 0 where
@@ -209,19 +209,24 @@ pub data Seen (b : List ℕ) (p : Programme) (st : Standing) : Turn → Type 0 w
   others : {j : Job} → p .first + p .size ≤ length b → parse opening (part b p) ≡ took j (p .size) → as-many j (st .carried) ≡ false → Seen b p st (stops 22 st)
   opened : {j : Job} → p .first + p .size ≤ length b → parse opening (part b p) ≡ took j (p .size) → as-many j (st .carried) ≡ true → Seen b p st (after j (starting j (st .carried)) st (plan-part (part b p) j st .answer) (plan-part (part b p) j st))
 
+pub part-size : (b : List ℕ) (p : Programme) → p .first + p .size ≤ length b → length (part b p) ≡ p .size
+unfolding part
+part-size b p h = length-take-le (p .size) (drop (p .first) b) (omega (arith, length-drop (p .first) b))
+
 pub seen : (b : List ℕ) (p : Programme) (st : Standing) → Seen b p st (turn b p st)
-unfolding turn behind-tests
+unfolding turn part-turn plan-turn behind-tests
 seen b p st =
     by-test (Seen b p st) _ _ _ _ _
     (λ e.
     let h = leb-true (p .first + p .size) (length b) e in
+    let n = part-size b p h in
     by-none (Seen b p st) _ _ (by-reading (Seen b p st) _ _ _
     (λ n q. not-read h q)
     (λ j k q. by-test (Seen b p st) _ _ _ _ _
     (λ s.
-    let whole : parse opening (part b p) ≡ took j (p .size) = q ∙ ap (took j) (eqb-true k (p .size) s) in
+    let whole : parse opening (part b p) ≡ took j (p .size) = q ∙ ap (took j) (eqb-true k (length (part b p)) s ∙ n) in
     by-test (Seen b p st) _ _ _ _ _ (λ m. by-none (Seen b p st) _ _ (opened h whole m)) (λ m. others h whole m))
-    (λ s. left h q (eqb-false k (p .size) s)))))
+    (λ s. left h q (λ i. eqb-false k (length (part b p)) s (i ∙ sym n))))))
     (λ e. outside (λ h. omega (arith, leb-false (p .first + p .size) (length b) e)))
 
 pub goes-same : {x y : Standing} → goes-on x ≡ goes-on y → x ≡ y

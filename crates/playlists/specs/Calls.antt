@@ -99,13 +99,19 @@ rest-of st = if leb (each * (st .done + 1)) (length (st .totals)) then drop (st 
 unfoldable pub plan-part : List ℕ → Job → Standing → Planned
 plan-part b j st = levels-call b (fresh (header-in j)) (starting j (st .carried)) total late (st .table) (rest-of st)
 
--- one programme: 22 where it passes the slice, the numbers of opening, the tests above, then 20 and 11 to 13
+-- a programme that opened
+unfoldable pub plan-turn : List ℕ → Job → Standing → Turn
+plan-turn b j st = after j (starting j (st .carried)) st (plan-part b j st .answer) (plan-part b j st)
+
+-- one whose bytes are these: the numbers of opening, the tests above, then 20 and 11 to 13
+unfoldable pub part-turn : List ℕ → Standing → Turn
+part-turn b st =
+    on-took (λ n. stops n st) (parse opening b)
+    (λ j taken. guarded (λ n. stops n st) (behind-tests j taken (length b) (st .carried)) (plan-turn b j st))
+
+-- one of the list: 22 where it passes the slice
 unfoldable pub turn : List ℕ → Programme → Standing → Turn
-turn b p st =
-    guarded (λ n. stops n st) (test 22 (leb (p .first + p .size) (length b)) ∷ [])
-    (on-took (λ n. stops n st) (parse opening (part b p))
-    (λ j taken. guarded (λ n. stops n st) (behind-tests j taken (p .size) (st .carried))
-    (after j (starting j (st .carried)) st (plan-part (part b p) j st .answer) (plan-part (part b p) j st))))
+turn b p st = guarded (λ n. stops n st) (test 22 (leb (p .first + p .size) (length b)) ∷ []) (part-turn (part b p) st)
 
 -- what the call answers: all programmes are planned; a refusal of the list; or that of a programme, with its place, counted from 1
 pub data Outcome : Type 0 where

@@ -16,6 +16,7 @@ use Rattle.format.specs.Parser.{all-bytes}
 use Rattle.format.specs.Records.{Form, head-values, record-bytes}
 use Rattle.format.specs.JobBytes.{Policed, Header, further-buckets, bucket-values, no-bucket, nine-values, header-values, unit-values, entry-widths, bucket-widths, header-widths, header-kind, header-form, rates-form, unit-form, job-of, header-in, unit-bytes, header-bytes, encode}
 use Rattle.format.specs.Places.{header-size, rates-size, unit-size}
+use Rattle.format.proofs.HeaderValues.{bucket-count}
 use Rattle.format.proofs.RoundTrip.{header-total}
 use Rattle.format.proofs.Spelling.{bytes-length}
 use Rattle.header.specs.declared.Header as code
@@ -88,11 +89,6 @@ bucket-twos : (ks : List Policed) → bucket-widths (length ks) ≡ replicate (l
 unfolding bucket-widths bucket-values
 bucket-twos [] = refl
 bucket-twos (k ∷ ks) = ap (λ (ws : List ℕ). 2 ∷ 2 ∷ 2 ∷ ws) (bucket-twos ks)
-
-bucket-count : (ks : List Policed) → length (bucket-values ks) ≡ 3 * length ks
-unfolding bucket-values
-bucket-count [] = refl
-bucket-count (k ∷ ks) = omega (arith, bucket-count ks)
 
 -- a header's record: its head and nine fields, then those of the buckets behind the first
 head-is : (n : ℕ) → head-values (header-form n) ≡ (20 + 6 * n) ∷ header-kind n ∷ []

@@ -5,6 +5,7 @@ ghost use Rattle.format.specs.JobBytes.{opening, archive};
 ghost use Rattle.model.specs.Pins.{pin, lift};
 ghost use Rattle.contract.specs.Answers.{contract};
 ghost use Rattle.exporting.specs.Changes.{change-export};
+ghost use Rattle.exporting.specs.Contents.{contents, read-export};
 ghost use Rattle.exporting.specs.Larger.{listed, sizes-export};
 ghost use Rattle.exporting.specs.Playlists.{playlisted, playlist-export};
 ghost use Rattle.exporting.specs.Sets.{set-export, call-export, seen, see-export, set-planned, set-plan-export, set-replay-export};
@@ -250,6 +251,52 @@ pub extern "C" fn upload_write(
     ensures { λ r. ⌜ written r (now (job .exit)) (now (values .exit)) ≡ write-export (now (fields .entry)) (now (rates .entry)) (now (sizes .entry)) (now (distortions .entry)) (now (job .entry)) (now (values .entry)) ⌝ }
 {
     written::write(fields, rates, sizes, distortions, job, values)
+}
+
+// Reads a job back, as `upload_write` takes it: the nine fields of its header, or twelve, its rates, and its sizes and distortions by unit and choice, unit after unit. Values: how many bytes the job took, and how many fields its header has. What stands behind the numbers written stays.
+#[no_mangle]
+pub extern "C" fn upload_read(
+    job: &[u8],
+    fields: &mut [u16],
+    rates: &mut [u16],
+    sizes: &mut [u16],
+    distortions: &mut [u32],
+    values: &mut [u64],
+) -> u32
+    ensures { λ r. ⌜ contents r (now (fields .exit)) (now (rates .exit)) (now (sizes .exit)) (now (distortions .exit)) (now (values .exit)) ≡ read-export (now (fields .entry)) (now (rates .entry)) (now (sizes .entry)) (now (distortions .entry)) (now (values .entry)) opening (now (job .entry)) ⌝ }
+{
+    reader::read_back(
+        job,
+        Door::Opening,
+        fields,
+        rates,
+        sizes,
+        distortions,
+        values,
+    )
+}
+
+// Reads a stored job back, as `upload_read` does but for 17: a bucket may have drain 0.
+#[no_mangle]
+pub extern "C" fn upload_read_archive(
+    job: &[u8],
+    fields: &mut [u16],
+    rates: &mut [u16],
+    sizes: &mut [u16],
+    distortions: &mut [u32],
+    values: &mut [u64],
+) -> u32
+    ensures { λ r. ⌜ contents r (now (fields .exit)) (now (rates .exit)) (now (sizes .exit)) (now (distortions .exit)) (now (values .exit)) ≡ read-export (now (fields .entry)) (now (rates .entry)) (now (sizes .entry)) (now (distortions .entry)) (now (values .entry)) archive (now (job .entry)) ⌝ }
+{
+    reader::read_back(
+        job,
+        Door::Archive,
+        fields,
+        rates,
+        sizes,
+        distortions,
+        values,
+    )
 }
 
 // Writes the trial job of the nine fields of a header, or twelve, and a starting state. Values: how many bytes the job took. Another number of fields is no header.

@@ -7,26 +7,29 @@ use mathlib.Core.List.{List, [], _∷_, _++_, map}
 use native.Mathlib.Omega.{arith}
 use borrow.Author.Tests.{leb-true, le-leb}
 use lib.Dec.{leb}
-use lib.ListN.{length, take, drop, length-map}
+use lib.ListN.{length, take, drop}
 use lib.Seq.{length-take-le}
 use Rattle.base.specs.Answer.{gives}
 use Rattle.base.specs.Refusals.{test, unless, guarded}
-use Rattle.base.proofs.Refusals.{guarded-here, guarded-last}
+use Rattle.base.proofs.Refusals.{refusal-last, unless-none, guarded-here, guarded-last}
 use Rattle.base.specs.Lent.{Ended, over, refuse}
 use Rattle.model.specs.Job.{Coding, Job}
 use Rattle.base.proofs.Answers.{not-refused, gives-same}
 use Rattle.base.proofs.Lent.{over-length, over-rest}
+use Rattle.format.specs.Fields.{Bytes}
 use Rattle.format.specs.Limits.{broken, AllKept}
-use Rattle.format.specs.Parser.{Each, no-more, one-more}
-use Rattle.format.specs.JobBytes.{Header, job-of, header-in, encode, UnitKept, WellFormed, opening, drain-limits, Formed}
+use Rattle.format.specs.Parser.{took}
+use Rattle.format.specs.JobBytes.{Header, job-of, header-in, encode, WellFormed, opening, drain-limits, Formed, parse}
+use Rattle.format.specs.Claims.{WrittenBack}
 use Rattle.format.proofs.Limits.{all-kept, none-broken}
 use Rattle.format.proofs.Header.{header-back}
-use Rattle.format.proofs.RoundTrip.{level-each, job-back, parse-encode, encode-parse}
+use Rattle.format.proofs.RoundTrip.{level-each, parse-encode, encode-parse}
 use Rattle.writing.specs.Lists.{joined, parted, sizes-in, distortions-in, codings-from, job-from}
-use Rattle.writing.specs.Calls.{write-limits, room-tests, write-in, write-call}
+use Rattle.writing.specs.Calls.{write-limits, room-tests, write-in, write-refusal, write-call}
 use Rattle.writing.specs.Claims.{Written, Writes, Rewrites}
 use Rattle.writing.proofs.Order.{Accepted, accepted, accepts}
-use Rattle.writing.proofs.Lists.{joined-parted, parted-length, parted-joined, joined-length, sizes-back, distortions-back, codings-count, codings-back, joined-kept, parted-kept}
+use Rattle.writing.proofs.Own.{own-sizes, own-distortions, own-job}
+use Rattle.writing.proofs.Lists.{joined-parted, parted-length, sizes-back, distortions-back, codings-count, codings-back, joined-kept, parted-kept}
 
 module _ (h : Header) (rates sizes distortions : List ℕ) where
   module _ (a : Accepted h rates sizes distortions) where
@@ -98,35 +101,19 @@ pub writes : Writes
 unfolding write-call
 writes h rates sizes distortions out = call-good h rates sizes distortions out (broken (write-limits h rates sizes distortions)) refl
 
--- a job's own lists
-each-count : (m : ℕ) (us : List (List Coding)) → Each (UnitKept m) us → Each (λ u. length u ≡ m) us
-each-count m [] no-more = no-more
-each-count m (u ∷ us) (one-more k t) = one-more (k .count) (each-count m us t)
-
-module _ (j : Job) (w : WellFormed j) where
-  own-units : parted (header-in j .units) (header-in j .choices) (joined (j .units)) ≡ j .units
-  unfolding header-in
-  own-units = parted-joined (j .choices) (j .units) (each-count (j .choices) (j .units) (w .units))
-
-  own-job : job-from (header-in j) (j .line .rates) (sizes-in j) (distortions-in j) ≡ j
-  unfolding job-from sizes-in distortions-in
-  own-job =
-      ap (job-of (header-in j) (j .line .rates)) (ap (parted (header-in j .units) (header-in j .choices)) (codings-back (joined (j .units))) ∙ own-units)
-      ∙ sym (job-back j w)
-
-  own-accepted : AllKept (drain-limits opening (header-in j .buckets)) → Accepted (header-in j) (j .line .rates) (sizes-in j) (distortions-in j)
-  unfolding sizes-in distortions-in header-in
-  own-accepted q =
-      let n = joined-length (j .choices) (j .units) (each-count (j .choices) (j .units) (w .units)) in
-      let s = length-map (joined (j .units)) (λ (c : Coding). c .size) in
-      let d = length-map (joined (j .units)) (λ (c : Coding). c .distortion) in
-      record {
-        header = w .header;
-        drains = q;
-        lengths = omega arith;
-        rates-kept = w .rates;
-        codings-kept = rw codings-back (joined-kept (j .choices) (j .units) (w .units));
-      }
+-- a job's own lists are accepted
+own-accepted : (j : Job) (w : WellFormed j) → AllKept (drain-limits opening (header-in j .buckets)) → Accepted (header-in j) (j .line .rates) (sizes-in j) (distortions-in j)
+unfolding sizes-in distortions-in header-in
+own-accepted j w q =
+    let n = own-sizes j w in
+    let m = own-distortions j w in
+    record {
+      header = w .header;
+      drains = q;
+      lengths = omega arith;
+      rates-kept = w .rates;
+      codings-kept = rw codings-back (joined-kept (j .choices) (j .units) (w .units));
+    }
 
 -- a list that has room for a job's bytes
 pub room-for : (j : Job) (out : List ℕ) {n : ℕ} → length (encode j) ≡ n → n ≤ length out → write-in j out ≡ record { answer = gives n; list = over (encode j) out }
@@ -137,12 +124,27 @@ over-same : (j : Job) (out l : List ℕ) (n : ℕ) → l ≡ encode j → length
 unfolding over
 over-same j out l n e k = rw (k, e)
 
+-- a job that opens, from its own lists: its bytes are those that it took, and nothing refuses it
+module _ (b : List ℕ) (B : Bytes b) (j : Job) (n : ℕ) (e : parse opening b ≡ took j n) where
+  abbrev back : WrittenBack opening b j n
+  back = encode-parse opening b B j n e
+
+  own-size : length (encode j) ≡ n
+  own-size = ap length (sym (back .same)) ∙ length-take-le n b (back .size)
+
+  own-kept : AllKept (write-limits (header-in j) (j .line .rates) (sizes-in j) (distortions-in j))
+  own-kept = accepts (header-in j) (j .line .rates) (sizes-in j) (distortions-in j) (own-accepted j (back .formed .well-formed) (back .formed .drains))
+
+  pub own-unrefused : (out : ℕ) → n ≤ out → write-refusal (header-in j) (j .line .rates) (sizes-in j) (distortions-in j) out ≡ none
+  unfolding write-refusal room-tests
+  own-unrefused out room =
+      let size : length (encode (job-from (header-in j) (j .line .rates) (sizes-in j) (distortions-in j))) ≡ n = ap (λ (i : Job). length (encode i)) (own-job j (back .formed .well-formed)) ∙ own-size in
+      unless-none some (broken (write-limits (header-in j) (j .line .rates) (sizes-in j) (distortions-in j))) _ (none-broken _ own-kept) ∙ refusal-last _ (le-leb _ out (omega (arith, size)))
+
 pub rewrites : Rewrites
 rewrites b B j n e out room =
     let r = encode-parse opening b B j n e in
-    let w = r .formed .well-formed in
-    let k : length (encode j) ≡ n = ap length (sym (r .same)) ∙ length-take-le n b (r .size) in
-    taken (header-in j) (j .line .rates) (sizes-in j) (distortions-in j) out (accepts (header-in j) (j .line .rates) (sizes-in j) (distortions-in j) (own-accepted j w (r .formed .drains)))
-    ∙ ap (λ (i : Job). write-in i out) (own-job j w)
-    ∙ room-for j out k room
-    ∙ over-same j out (take n b) n (r .same) k
+    taken (header-in j) (j .line .rates) (sizes-in j) (distortions-in j) out (own-kept b B j n e)
+    ∙ ap (λ (i : Job). write-in i out) (own-job j (r .formed .well-formed))
+    ∙ room-for j out (own-size b B j n e) room
+    ∙ over-same j out (take n b) n (r .same) (own-size b B j n e)

@@ -3,7 +3,8 @@ use Prim.Native.Nat.{ℕ, _+_, _-_}
 use mathlib.Core.Path.{_≡_, ap, _∙_}
 use native.Mathlib.Omega.{arith}
 use lib.ListN.{take, drop}
-use Rattle.playlist.specs.Answers.{part-turn, stands}
+use Rattle.playlists.specs.Calls.{part-turn}
+use Rattle.playlist.specs.Answers.{stands}
 use Rattle.playlist.proofs.Parts.{turn-outside, turn-inside}
 use borrow.Author.Needs.{needs}
 use Rattle.playlist.proofs.plan_programme.Statement.{statement}
