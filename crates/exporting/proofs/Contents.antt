@@ -1,4 +1,4 @@
--- The claims of reading a job back: `ReadingBack`, `Restores`, `RewritesRead` and `Enough`.
+-- The claims of reading a job back: `ReadingBack`, `Restores`, `SameByArchive`, `RewritesRead` and `Enough`.
 use Prim.Native.Nat.{ℕ, suc, _+_, _*_, _-_, _<_, _≤_}
 use mathlib.Core.Path.{_≡_, refl, sym, _∙_, ap}
 use mathlib.Core.Logic.{_↔_, _⊎_, inl, inr}
@@ -25,7 +25,7 @@ use Rattle.format.specs.Claims.{OwnNumber}
 use Rattle.format.proofs.Header.{buckets-count, bucket-told}
 use Rattle.format.proofs.HeaderValues.{ThreeAt, values-count, further-at}
 use Rattle.format.proofs.RoundTrip.{header-again, encode-parse}
-use Rattle.format.proofs.Bounds.{limited}
+use Rattle.format.proofs.Bounds.{limited, two-doors}
 use Rattle.format.proofs.Numbers.{own-numbers}
 use Rattle.format.proofs.Places.{well-read, read-size, read-within}
 use Rattle.writing.specs.Lists.{sizes-in, distortions-in}
@@ -33,7 +33,7 @@ use Rattle.writing.proofs.Own.{own-sizes, own-distortions, size-there, distorti
 use Rattle.writing.proofs.Writes.{own-unrefused, rewrites}
 use Rattle.exporting.specs.Exports.{number-of, written, after-write, job-export}
 use Rattle.exporting.specs.Contents.{Contents, contents, read-values, unread, read-tests, held, read-held, read-export}
-use Rattle.exporting.specs.ContentsClaims.{field-count, coding-count, ReadRoom, ReadBack, ReadingBack, taken-read, fields-read, rates-read, sizes-read, distortions-read, Restores, Rewritten, RewritesRead, Enough}
+use Rattle.exporting.specs.ContentsClaims.{field-count, coding-count, ReadRoom, ReadBack, ReadingBack, taken-read, fields-read, rates-read, sizes-read, distortions-read, job-read, Restored, Restores, SameByArchive, Rewritten, RewritesRead, Enough}
 use Rattle.exporting.proofs.Fields.{is-header}
 use Rattle.exporting.proofs.Rooms.{behind}
 
@@ -99,6 +99,11 @@ module _ (j : Job) (w : WellFormed j) (fields rates sizes distortions values : L
     field : (i x : ℕ) → i < field-count j → getD (header-values (header-in j)) i 0 ≡ x → getD (over (header-values (header-in j)) fields) i 0 ≡ x
     field i x l e = at-over (header-values (header-in j)) fields i x fields-fit (omega (arith, own-fields j w)) e
 
+    -- what stands behind the rates
+    rates-behind : (k : ℕ) → drop (length (j .line .rates)) (held fields rates sizes distortions values j k .rates) ≡ drop (length (j .line .rates)) rates
+    unfolding held
+    rates-behind k = over-rest (j .line .rates) rates (h .1 .0) _ refl
+
     in-lists : (k : ℕ) → ReadBack j fields rates sizes distortions values k (held fields rates sizes distortions values j k)
     unfolding held read-values
     in-lists k = record {
@@ -121,7 +126,7 @@ module _ (j : Job) (w : WellFormed j) (fields rates sizes distortions values : L
       taken-value = at-over _ values 0 _ (h .1 .1 .1 .1 .0) (omega arith) refl;
       fields-value = at-over _ values 1 _ (h .1 .1 .1 .1 .0) (omega arith) (own-fields j w);
       fields-rest = over-rest (header-values (header-in j)) fields fields-fit (field-count j) (own-fields j w);
-      rates-rest = over-rest (j .line .rates) rates (h .1 .0) _ refl;
+      rates-rest = rates-behind k;
       sizes-rest = over-rest (sizes-in j) sizes sizes-fit (coding-count j) (own-sizes j w);
       distortions-rest = over-rest (distortions-in j) distortions distortions-fit (coding-count j) (own-distortions j w);
       values-rest = over-rest (read-values j k) values (h .1 .1 .1 .1 .0) 2 refl;
@@ -154,9 +159,9 @@ refused-by k (t ∷ ts) a n e = go (t .passes) refl (λ f. refused-by k ts (a .1
     go true q r = r (sym (refusal-past t ts q) ∙ e)
     go false q r = sym (a .0) ∙ some-same (sym (refusal-here t ts q) ∙ e)
 
-no-zero : (n : ℕ) → OwnNumber n → n ≡ 0 → ⊥
-no-zero n (inl h) e = omega arith
-no-zero n (inr h) e = omega arith
+no-zero : (d : Door) (n : ℕ) → OwnNumber d n → n ≡ 0 → ⊥
+no-zero d n (inl h) e = omega arith
+no-zero d n (inr h) e = omega (arith, h .1)
 
 module _ (fields rates sizes distortions values : List ℕ) where
   abbrev lists : Job → ℕ → Contents
@@ -185,7 +190,7 @@ module _ (fields rates sizes distortions values : List ℕ) where
       }
 
       go : (p : P.Result Job) → parse d b ≡ p → on-took (unread fields rates sizes distortions values) p (read-held fields rates sizes distortions values) .number ≡ 0 → ReadZero d b
-      go (P.refused n) e z = absurd (no-zero n (own-numbers d b n e) z)
+      go (P.refused n) e z = absurd (no-zero d n (own-numbers d b n e) z)
       go (P.took j k) e z = tested j k e (refusal (read-tests fields rates sizes distortions values j)) refl (unfold guarded in z)
 
   -- what the lists then hold, as the writer takes it, is the job's own
@@ -211,13 +216,28 @@ module _ (fields rates sizes distortions values : List ℕ) where
     own-header-read : header-of (fields-read (lists j k)) ≡ header-in j
     own-header-read = ap header-of own-fields-read ∙ header-again (header-in j) (omega (arith, w .header))
 
+    own-job-read : job-read (lists j k) ≡ j
+    own-job-read = rw (own-header-read, own-rates-read, own-sizes-read, own-distortions-read) (own-job j w)
+
 pub restores : Restores
 restores d b B fields rates sizes distortions values z =
     let r = read-zero fields rates sizes distortions values d b z in
     let back = encode-parse d b B (r .job) (r .taken) (r .parsed) in
     let w = back .formed .well-formed in
-    rw (r .is, own-header-read fields rates sizes distortions values (r .job) w (r .taken) (r .room), own-rates-read fields rates sizes distortions values (r .job) w (r .taken) (r .room), own-sizes-read fields rates sizes distortions values (r .job) w (r .taken) (r .room), own-distortions-read fields rates sizes distortions values (r .job) w (r .taken) (r .room))
-    (ap encode (own-job (r .job) w) ∙ sym (back .same) ∙ ap (λ (n : ℕ). take n b) (sym (in-lists (r .job) w fields rates sizes distortions values (r .room) (r .taken) .taken-value)))
+    let same = own-job-read fields rates sizes distortions values (r .job) w (r .taken) (r .room) in
+    let taken = in-lists (r .job) w fields rates sizes distortions values (r .room) (r .taken) .taken-value in
+    rw (r .is) (restored (r .job) (r .taken) (r .parsed) (back .same) _ same taken)
+  where
+    restored : (j : Job) (k : ℕ) → parse d b ≡ P.took j k → take k b ≡ encode j → (c : Contents) → job-read c ≡ j → taken-read c ≡ k → Restored d b c
+    restored j k e bytes c same taken = record {
+      read = rw (same, taken) e;
+      bytes = rw (same, taken) (sym bytes);
+    }
+
+-- opening's job is the archive's, with as many bytes
+pub same-by-archive : SameByArchive
+unfolding read-export
+same-by-archive b j k e fields rates sizes distortions values = rw (two-doors b j k .opening-iff .0 e .0, e) refl
 
 -- as many fields as a header has
 nine-or-twelve : (j : Job) (w : WellFormed j) → (length (header-values (header-in j)) ≡ 9) ⊎ (length (header-values (header-in j)) ≡ 12)

@@ -1,4 +1,4 @@
--- What is claimed of reading a job back: in which order it is refused, what stands where and what stays, that what was read is written to the bytes it was read from, and which lists are long enough for any job. Each claim is a type, which a theorem of proofs/ inhabits.
+-- What is claimed of reading a job back: in which order it is refused, what stands where and what stays, that what was read is the job that the door takes and is written to the bytes it was read from, that the archive reads a job that opens as opening does, and which lists are long enough for any job. Each claim is a type, which a theorem of proofs/ inhabits.
 use Prim.Native.Nat.{ℕ, suc, _+_, _*_, _-_, _<_, _≤_}
 use mathlib.Core.Path.{_≡_}
 use mathlib.Core.Logic.{_↔_}
@@ -10,7 +10,7 @@ use Rattle.base.specs.Lent.{over}
 use Rattle.model.specs.Job.{bucketAt, Job, codingAt}
 use Rattle.format.specs.Fields.{Bytes}
 use Rattle.format.specs.Parser as P
-use Rattle.format.specs.JobBytes.{header-of, Door, opening, parse, encode}
+use Rattle.format.specs.JobBytes.{header-of, Door, archive, opening, parse, encode}
 use Rattle.writing.specs.Lists.{job-from}
 use Rattle.writing.specs.Calls.{write-call}
 use Rattle.exporting.specs.Exports.{written, write-export}
@@ -91,9 +91,20 @@ module _ (r : Contents) where
   abbrev pub distortions-read : List ℕ
   distortions-read = take (getD (r .fields) 0 0 * getD (r .fields) 8 0) (r .distortions)
 
--- what either door reads back is the job whose bytes were read
+  abbrev pub job-read : Job
+  job-read = job-from (header-of fields-read) rates-read sizes-read distortions-read
+
+-- what either door reads back is the job that the door takes, with as many bytes, and these are the bytes written of it
+pub record Restored (d : Door) (b : List ℕ) (r : Contents) : Type 0 where
+  pub read : parse d b ≡ P.took (job-read r) (taken-read r)
+  pub bytes : encode (job-read r) ≡ take (taken-read r) b
+
 abbrev pub Restores : Type 0
-Restores = (d : Door) (b : List ℕ) → Bytes b → (fields rates sizes distortions values : List ℕ) → let r = read-export fields rates sizes distortions values d b in r .number ≡ 0 → encode (job-from (header-of (fields-read r)) (rates-read r) (sizes-read r) (distortions-read r)) ≡ take (taken-read r) b
+Restores = (d : Door) (b : List ℕ) → Bytes b → (fields rates sizes distortions values : List ℕ) → let r = read-export fields rates sizes distortions values d b in r .number ≡ 0 → Restored d b r
+
+-- a job that opens is read back by the archive as by opening
+abbrev pub SameByArchive : Type 0
+SameByArchive = (b : List ℕ) (j : Job) (k : ℕ) → parse opening b ≡ P.took j k → (fields rates sizes distortions values : List ℕ) → read-export fields rates sizes distortions values archive b ≡ read-export fields rates sizes distortions values opening b
 
 -- what opening reads back is written to the same bytes, and what stands behind them stays: by the writer, and by its exported call
 pub record Rewritten (b : List ℕ) (r : Contents) (out : List ℕ) : Type 0 where

@@ -17,5 +17,6 @@ pub mod Bounds
 pub mod Opening
 pub mod Numbers
 pub mod Places
+pub mod Bytes
 pub mod Opened
 pub mod Examples

@@ -18,8 +18,8 @@ use Rattle.format.specs.Places.{unit-size}
 use Rattle.format.specs.Claims.{ReadsBack, WritesBack, Sized}
 use Rattle.format.proofs.Records.{total-same, total-entries}
 use Rattle.format.proofs.Header.{buckets-apart, header-back}
-use Rattle.format.proofs.Exact.{Exact, RecordGood, record-length, exact-record, exact-map, exact-then, exact-many, exact-same, exact-written}
 use Rattle.format.proofs.Either.{FilledGood, exact-either, first-form, second-form, either-form}
+use Rattle.format.proofs.Exact.{Exact, RecordGood, record-length, exact-record, exact-map, exact-then, exact-many, exact-same, exact-written}
 use mathlib.Core.Logic.{_⊎_, inl, inr}
 
 -- values of two bytes

@@ -88,6 +88,27 @@ TwoDoors = (b : List ℕ) (j : Job) (n : ℕ) → DoorsClaim b j n
 abbrev pub u16-at : List ℕ → ℕ → ℕ
 u16-at b at = getD b at 0 + 256 * getD b (at + 1) 0
 
+-- a u32 at a place, the lower half first
+abbrev pub u32-at : List ℕ → ℕ → ℕ
+u32-at b at = u16-at b at + 65536 * u16-at b (at + 2)
+
+-- where a job's first rate stands: behind a header's record of 22 bytes, 6 more for each further bucket, and the 4 of its own record's head
+abbrev pub first-rate : Job → ℕ
+first-rate j = 26 + 6 * (length (j .line .buckets) - 1)
+
+-- where a unit's entry for a choice stands: behind P rates, the records of the units before it, its own record's head and the entries before it
+abbrev pub entry-of : Job → ℕ → ℕ → ℕ
+entry-of j u x = first-rate j + 2 * length (j .line .rates) + (u - 1) * (4 + 6 * j .choices) + 4 + 6 * x
+
+-- what document 01 says of a job's bytes behind its header: each rate is a u16, and each entry a u16 of size and a u32 of distortion
+pub record Placed (b : List ℕ) (j : Job) : Type 0 where
+  pub rate : (y : ℕ) → y < length (j .line .rates) → getD (j .line .rates) y 0 ≡ u16-at b (first-rate j + 2 * y)
+  pub size : (u x : ℕ) → 1 ≤ u → u ≤ length (j .units) → x < j .choices → codingAt j (u - 1) x .size ≡ u16-at b (entry-of j u x)
+  pub distortion : (u x : ℕ) → 1 ≤ u → u ≤ length (j .units) → x < j .choices → codingAt j (u - 1) x .distortion ≡ u32-at b (entry-of j u x + 2)
+
+abbrev pub Placing : Type 0
+Placing = (d : Door) (b : List ℕ) (j : Job) (n : ℕ) → parse d b ≡ took j n → Placed b j
+
 -- a record's length, which counts kind and body, and its kind are those due
 abbrev pub Due : ℕ → ℕ → List ℕ → Type 0
 Due kind body b = (u16-at b 0 ≡ 2 + body) × (u16-at b 2 ≡ kind)
@@ -168,13 +189,13 @@ pub record OpeningOrder (d : Door) (b : List ℕ) : Type 0 where
 abbrev pub Refusals : Type 0
 Refusals = (d : Door) (b : List ℕ) → RecordOrders b × OpeningOrder d b
 
--- the numbers of opening: 1 to 5, and 17
-abbrev pub OwnNumber : ℕ → Type 0
-OwnNumber n = ((1 ≤ n) × (n ≤ 5)) ⊎ (n ≡ 17)
+-- the numbers of a job: 1 to 5, and by the door of opening 17
+abbrev pub OwnNumber : Door → ℕ → Type 0
+OwnNumber d n = ((1 ≤ n) × (n ≤ 5)) ⊎ ((d ≡ opening) × (n ≡ 17))
 
 -- a job is refused by no others, and so never by 0
 abbrev pub OwnNumbers : Type 0
-OwnNumbers = (d : Door) (b : List ℕ) (n : ℕ) → parse d b ≡ refused n → OwnNumber n
+OwnNumbers = (d : Door) (b : List ℕ) (n : ℕ) → parse d b ≡ refused n → OwnNumber d n
 
 -- a choice as a number: 65,535 stands for none, and every other number for itself
 pub record ChoiceNumbers (x : ℕ) : Type 0 where

@@ -220,9 +220,9 @@ run b (p ∷ ps) st used = go (turned b p st used (seen b p st)) (λ st′ u. ru
     go (moved {st′} q u) ih = next q (ih st′ u)
 
 -- the numbers by which a programme is refused
-own-number : {n : ℕ} → OwnNumber n → n ≤ 22
+own-number : {n : ℕ} → OwnNumber opening n → n ≤ 22
 own-number (inl h) = omega (arith, h .1)
-own-number (inr e) = omega (arith, e)
+own-number (inr h) = omega (arith, h .1)
 
 stops-number : {b : List ℕ} {p : Programme} {st : Standing} {n : ℕ} {table : List ℕ} → Stops b p st n table → n ≤ 22
 stops-number (passes-slice f) = omega arith

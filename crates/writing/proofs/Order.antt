@@ -3,21 +3,30 @@ use Prim.Native.Nat.{ℕ}
 use mathlib.Core.Path.{_≡_, _∙_}
 use mathlib.Core.Option.{some}
 use mathlib.Core.List.{List, _++_}
+use native.Mathlib.Omega.{arith}
 use Rattle.format.specs.Limits.{Limit, broken, AllKept}
 use Rattle.format.specs.JobBytes.{Header, header-limits, opening, drain-limits, rate-limits, coding-limits}
 use Rattle.format.proofs.Limits.{all-kept-join, all-kept-part, broken-first, broken-later}
 use Rattle.writing.specs.Lists.{codings-from}
 use Rattle.writing.specs.Calls.{length-limits, write-limits}
+use Rattle.writing.specs.Claims.{Lengths}
 
 -- what keeps all limits, part by part
 pub record Accepted (h : Header) (rates sizes distortions : List ℕ) : Type 0 where
   pub header : AllKept (header-limits h)
   pub drains : AllKept (drain-limits opening (h .buckets))
-  pub lengths : AllKept (length-limits h rates sizes distortions)
+  pub lengths : Lengths h rates sizes distortions
   pub rates-kept : AllKept (rate-limits 0 rates)
   pub codings-kept : AllKept (coding-limits (codings-from sizes distortions))
 
 module _ (h : Header) (rates sizes distortions : List ℕ) where
+  -- the limits of the lengths are kept exactly where the lists are as long as the header calls for
+  pub kept-lengths : AllKept (length-limits h rates sizes distortions) → Lengths h rates sizes distortions
+  kept-lengths k = omega arith
+
+  pub lengths-kept : Lengths h rates sizes distortions → AllKept (length-limits h rates sizes distortions)
+  lengths-kept l = omega arith
+
   -- the limits that are looked at after those of the header, and after those of the lengths
   abbrev later : List Limit
   later = rate-limits 0 rates ++ coding-limits (codings-from sizes distortions)
@@ -35,14 +44,14 @@ module _ (h : Header) (rates sizes distortions : List ℕ) where
       let d = all-kept-part (drain-limits opening (h .buckets)) after-drains (a .1) in
       let b = all-kept-part (length-limits h rates sizes distortions) later (d .1) in
       let c = all-kept-part (rate-limits 0 rates) (coding-limits (codings-from sizes distortions)) (b .1) in
-      record { header = a .0; drains = d .0; lengths = b .0; rates-kept = c .0; codings-kept = c .1 }
+      record { header = a .0; drains = d .0; lengths = kept-lengths (b .0); rates-kept = c .0; codings-kept = c .1 }
 
   pub accepts : Accepted h rates sizes distortions → AllKept (write-limits h rates sizes distortions)
   unfolding write-limits
   accepts a =
       all-kept-join (header-limits h) after-header (a .header)
       (all-kept-join (drain-limits opening (h .buckets)) after-drains (a .drains)
-      (all-kept-join (length-limits h rates sizes distortions) later (a .lengths)
+      (all-kept-join (length-limits h rates sizes distortions) later (lengths-kept (a .lengths))
       (all-kept-join (rate-limits 0 rates) (coding-limits (codings-from sizes distortions)) (a .rates-kept) (a .codings-kept))))
 
   -- the first group that is not kept decides

@@ -22,8 +22,8 @@ use Rattle.format.proofs.Opening.{kept-drains, header-number, rates-number, cod
 use Rattle.format.proofs.RoundTrip.{sized}
 use Rattle.writing.specs.Lists.{codings-from, job-from}
 use Rattle.writing.specs.Calls.{length-limits, write-limits, room-tests, write-in, write-refusal, write-call}
-use Rattle.writing.specs.Claims.{Asks, Refusals}
-use Rattle.writing.proofs.Order.{accepted, accepts, at-header, at-drains, at-lengths, at-rates, at-codings}
+use Rattle.writing.specs.Claims.{Lengths, Asks, Refusals}
+use Rattle.writing.proofs.Order.{kept-lengths, lengths-kept, accepted, accepts, at-header, at-drains, at-lengths, at-rates, at-codings}
 use Rattle.writing.proofs.Writes.{header-given, well-given, taken}
 
 module _ (h : Header) (rates sizes distortions out : List ℕ) where
@@ -94,7 +94,7 @@ pub no-idle : (h : Header) → AllKept (header-limits h) → (Idle h → ⊥) �
 no-idle h a f = all-drain (h .buckets) (kept-drains largest-sizes (h .buckets) (a .1 .1 .1 .1 .1 .1 .1) (omega arith)) (idle-or (h .buckets) (λ i l q. f (i, l, q)))
 
 -- all limits from the five parts
-all-limits : (h : Header) (rates sizes distortions : List ℕ) → AllKept (header-limits h) → AllKept (drain-limits opening (h .buckets)) → AllKept (length-limits h rates sizes distortions) → AllKept (rate-limits 0 rates) → AllKept (coding-limits (codings-from sizes distortions)) → AllKept (write-limits h rates sizes distortions)
+all-limits : (h : Header) (rates sizes distortions : List ℕ) → AllKept (header-limits h) → AllKept (drain-limits opening (h .buckets)) → Lengths h rates sizes distortions → AllKept (rate-limits 0 rates) → AllKept (coding-limits (codings-from sizes distortions)) → AllKept (write-limits h rates sizes distortions)
 all-limits h rates sizes distortions a q b c d = accepts h rates sizes distortions (record { header = a; drains = q; lengths = b; rates-kept = c; codings-kept = d })
 
 -- the same order of the refusal that is found before writing
@@ -105,11 +105,11 @@ refusal-order h rates sizes distortions out = (
   λ a. (
     λ f. first-is 17 (at-drains h rates sizes distortions 17 a (idle-broken h f)),
     λ idle. let q = no-idle h a idle in (
-      λ f. first-is 16 (at-lengths h rates sizes distortions 16 a q (broken-one 16 (length-limits h rates sizes distortions) (refl, (refl, (refl, tt))) f)),
+      λ f. first-is 16 (at-lengths h rates sizes distortions 16 a q (broken-one 16 (length-limits h rates sizes distortions) (refl, (refl, (refl, tt))) (λ k. f (kept-lengths h rates sizes distortions k)))),
       λ b. (
-        λ f. first-is 4 (at-rates h rates sizes distortions 4 a q b (broken-one 4 (rate-limits 0 rates) (rates-number 0 rates) f)),
+        λ f. first-is 4 (at-rates h rates sizes distortions 4 a q (lengths-kept h rates sizes distortions b) (broken-one 4 (rate-limits 0 rates) (rates-number 0 rates) f)),
         λ c. (
-          λ f. first-is 5 (at-codings h rates sizes distortions a q b c ∙ broken-one 5 (coding-limits (codings-from sizes distortions)) (codings-number (codings-from sizes distortions)) f),
+          λ f. first-is 5 (at-codings h rates sizes distortions a q (lengths-kept h rates sizes distortions b) c ∙ broken-one 5 (coding-limits (codings-from sizes distortions)) (codings-number (codings-from sizes distortions)) f),
           λ d. (
             λ f. kept (all-limits h rates sizes distortions a q b c d) ∙ refusal-here _ [] (lt-leb (length (encode (job-from h rates sizes distortions))) (length out) (omega (arith, size-given h rates sizes distortions out (all-limits h rates sizes distortions a q b c d)))),
             λ l. kept (all-limits h rates sizes distortions a q b c d) ∙ refusal-last _ (le-leb (length (encode (job-from h rates sizes distortions))) (length out) (omega (arith, size-given h rates sizes distortions out (all-limits h rates sizes distortions a q b c d)))),
@@ -133,11 +133,11 @@ refusals h rates sizes distortions out = (
     λ a. (
       λ f. refused-by h rates sizes distortions out 17 (at-drains h rates sizes distortions 17 a (idle-broken h f)),
       λ idle. let q = no-idle h a idle in (
-        λ f. refused-by h rates sizes distortions out 16 (at-lengths h rates sizes distortions 16 a q (broken-one 16 (length-limits h rates sizes distortions) (refl, (refl, (refl, tt))) f)),
+        λ f. refused-by h rates sizes distortions out 16 (at-lengths h rates sizes distortions 16 a q (broken-one 16 (length-limits h rates sizes distortions) (refl, (refl, (refl, tt))) (λ k. f (kept-lengths h rates sizes distortions k)))),
         λ b. (
-          λ f. refused-by h rates sizes distortions out 4 (at-rates h rates sizes distortions 4 a q b (broken-one 4 (rate-limits 0 rates) (rates-number 0 rates) f)),
+          λ f. refused-by h rates sizes distortions out 4 (at-rates h rates sizes distortions 4 a q (lengths-kept h rates sizes distortions b) (broken-one 4 (rate-limits 0 rates) (rates-number 0 rates) f)),
           λ c. (
-            λ f. refused-by h rates sizes distortions out 5 (at-codings h rates sizes distortions a q b c ∙ broken-one 5 (coding-limits (codings-from sizes distortions)) (codings-number (codings-from sizes distortions)) f),
+            λ f. refused-by h rates sizes distortions out 5 (at-codings h rates sizes distortions a q (lengths-kept h rates sizes distortions b) c ∙ broken-one 5 (coding-limits (codings-from sizes distortions)) (codings-number (codings-from sizes distortions)) f),
             λ d. (
               λ f. too-short h rates sizes distortions out (all-limits h rates sizes distortions a q b c d) (omega arith),
               λ l. done h rates sizes distortions out (all-limits h rates sizes distortions a q b c d) l,

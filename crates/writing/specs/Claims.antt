@@ -1,5 +1,5 @@
 -- What is claimed of writing a job: each claim is a type, which a theorem of proofs/ inhabits.
-use Prim.Native.Nat.{ℕ, _≤_}
+use Prim.Native.Nat.{ℕ, _*_, _≤_}
 use mathlib.Core.Path.{_≡_}
 use mathlib.Core.List.{List, [], _∷_, _++_}
 use lib.ListN.{length, take, drop}
@@ -14,7 +14,11 @@ use Rattle.format.specs.JobBytes.{Header, header-limits, rate-limits, coding-li
 use Rattle.format.specs.Claims.{Idle}
 use Rattle.format.specs.Places.{job-size}
 use Rattle.writing.specs.Lists.{sizes-in, distortions-in, codings-from}
-use Rattle.writing.specs.Calls.{length-limits, write-call}
+use Rattle.writing.specs.Calls.{write-call}
+
+-- as many rates as the header calls for, and a size and a distortion for each of M choices of each of N units
+abbrev pub Lengths : Header → List ℕ → List ℕ → List ℕ → Type 0
+Lengths h rates sizes distortions = (length rates ≡ h .rates) × (length sizes ≡ h .units * h .choices) × (length distortions ≡ h .units * h .choices)
 
 module _ (h : Header) (rates sizes distortions out : List ℕ) where
   -- what is written opens and holds the same header, rates and lists, and the bytes behind it are unchanged
@@ -33,7 +37,7 @@ module _ (h : Header) (rates sizes distortions out : List ℕ) where
   Asks =
       condition 3 (AllKept (header-limits h))
       ∷ condition 17 (Idle h → ⊥)
-      ∷ condition 16 (AllKept (length-limits h rates sizes distortions))
+      ∷ condition 16 (Lengths h rates sizes distortions)
       ∷ condition 4 (AllKept (rate-limits 0 rates))
       ∷ condition 5 (AllKept (coding-limits (codings-from sizes distortions)))
       ∷ condition 12 (job-size h ≤ length out)
