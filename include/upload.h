@@ -52,8 +52,9 @@
 
    Each function answers 0, or the number of the refusal; upload_playlist tells the
    programme's place in the same number. Wherever a job is read, its own numbers
-   come first: 1 to 5, and by the door of opening 17, directly after 3. A refusal
-   writes nothing, with one exception: UPLOAD_NO_PLAN comes after the search and
+   come first: 1 to 5, and by the door of opening 17, directly after 3. In
+   upload_playlist 21 and the 22 of an entry that passes the bytes come before
+   them. A refusal writes nothing, with one exception: UPLOAD_NO_PLAN comes after the search and
    leaves `table` written, and no other list. Of a playlist this is said of the
    programme that is refused: what was written for those before it stays.
 
@@ -734,7 +735,7 @@ static inline const char *upload_refusal_words(uint32_t number)
     case UPLOAD_CARRIED_OVER:
         return "the level of a bucket is over its size in the new contract or the next programme";
     case UPLOAD_NOT_A_LIST:
-        return "the playlist has no entry, or more than 64";
+        return "the playlist has no entry, more than 64, or an odd count of numbers";
     case UPLOAD_PROGRAMME:
         return "an entry passes the bytes, bytes are left behind its job, or it has another "
                "number of buckets than the first";

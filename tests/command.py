@@ -11,7 +11,9 @@ import itertools
 import os
 import pathlib
 import random
+import re
 import resource
+import shlex
 import struct
 import subprocess
 import sys
@@ -20,6 +22,7 @@ import xml.etree.ElementTree
 
 COMMAND = pathlib.Path(sys.argv[1]).resolve()
 EXAMPLES = pathlib.Path(sys.argv[2]).resolve()
+TOP = pathlib.Path(__file__).resolve().parent.parent
 
 NO_UNIT = 65535
 NEVER_DRAINS = "refused 17: the drain of a bucket is 0, so that the line never drains"
@@ -61,9 +64,29 @@ class Answer:
         return [" ".join(line.split()) for part in behind for line in part.splitlines()]
 
 
-def run(*arguments, given=b""):
+def run(*arguments, given=b"", **other):
     words = [str(COMMAND)] + [str(argument) for argument in arguments]
-    return Answer(subprocess.run(words, input=given, capture_output=True, timeout=60))
+    return Answer(subprocess.run(words, input=given, capture_output=True, timeout=60, **other))
+
+
+LITTLE_MEMORY = 64000000
+
+
+def limited(most):
+    """Holds a process that is started to so many bytes of memory."""
+    return lambda: resource.setrlimit(resource.RLIMIT_AS, (most, most))
+
+
+def run_within(most, *arguments):
+    """The same, with so many bytes of memory at most."""
+    return run(*arguments, preexec_fn=limited(most))
+
+
+def run_behind(file, *arguments):
+    """The same, with a file as standard input and bytes without end behind it."""
+    words = " ".join(shlex.quote(str(argument)) for argument in [COMMAND, *arguments])
+    shell = ["sh", "-c", f"cat {shlex.quote(str(file))} /dev/zero | {words}"]
+    return Answer(subprocess.run(shell, capture_output=True, timeout=60, preexec_fn=limited(LITTLE_MEMORY)))
 
 
 def refused(name, answer, words, status=1):
@@ -80,6 +103,17 @@ def misused(name, command, answer, words):
     due, more = ["usage:", *named], ["more:", *named, "--help"]
     found = [line.split()[: len(due)] for line in lines[1:2]] + [line.split() for line in lines[2:]]
     check(f"{name}: what is due", found, [due, more])
+
+
+NOT_A_JOB = "not the bytes of a job (make TEXT JOB makes one of a text)"
+
+
+def noted(name, behind, hint=""):
+    """What is said of bytes behind a job."""
+    if behind == 0:
+        return ""
+    words = "1 byte behind the job is" if behind == 1 else f"{behind} bytes behind the job are"
+    return f"upload-planner: {name}: {words} not looked at{hint}\n"
 
 
 # Jobs, by document 01 and, for two buckets, E5.
@@ -209,7 +243,8 @@ def check_text(work):
         job = read_job(data)
         shown = run("show", example)
         cells = [" ".join(line.split()) for line in shown.out.splitlines() if line]
-        check(f"show {example.name}", (shown.status, cells, shown.error), (0, job.lines(), ""))
+        note = noted(example, len(data) - len(job.bytes()))
+        check(f"show {example.name}", (shown.status, cells, shown.error), (0, job.lines(), note))
         made = run("make", "-", "-", given=shown.bytes)
         if job.drain == 0:
             refused(f"make {example.name}", made, f"standard input: line 5: drain 0: {NEVER_DRAINS}")
@@ -236,6 +271,8 @@ def check_text(work):
         "comments": "\n\n".join(f"{line} # {line}" for line in job.lines()),
         "in another order": "\n".join(job.header_lines()[::-1] + [HEAD] + job.table_lines()[::-1]),
         "without levels": "\n".join(line for line in job.lines() if "level" not in line),
+        "capitals": "\n".join(job.lines()).upper(),
+        "a capital each": "\n".join(job.lines()).title(),
     }
     for name, form in forms.items():
         answer = run("make", "-", "-", given=form.encode())
@@ -296,7 +333,7 @@ def check_text_errors(work):
 
     for word in ["-1", "1.5", "one", "+1", "0x1"]:
         lines, at = with_line(two, "delay", f"delay {word}")
-        wrong(lines, f'line {at}: delay "{word}" is no whole number')
+        wrong(lines, f'line {at}: delay "{word}" is no whole number from 0')
     lines, at = with_line(two, "delay", "delay")
     wrong(lines, f"line {at}: delay takes one number, and 0 are there")
     lines, at = with_line(two, "delay", "delay 1 2")
@@ -322,8 +359,8 @@ def check_text_errors(work):
         ("rates 0 2 4096", "rate 2: 4096 is over 4095"),
         ("rates 0 4 2", "rate 2: 2 is not over 4, the rate before it"),
         ("rates 2 2 4", "rate 1: 2 is not over 2, the rate before it"),
-        ("rates 0 two 4", 'rate 1: "two" is no whole number'),
-        ("rates 0,,4", 'rate 1: "" is no whole number'),
+        ("rates 0 two 4", 'rate 1: "two" is no whole number from 0'),
+        ("rates 0,,4", 'rate 1: "" is no whole number from 0'),
     ]
     for line, words in rates:
         lines, at = with_line(two, "rates", line)
@@ -334,15 +371,16 @@ def check_text_errors(work):
     rows = [
         ("0 0 4 10", "unit 0 is under 1"),
         ("3 0 4 10", "unit 3 is over 2"),
-        ("x 0 4 10", 'unit "x" is no whole number'),
+        ("x 0 4 10", 'unit "x" is no whole number from 0'),
         ("1 2 4 10", "unit 1, choice 2 is over 1"),
-        ("1 -1 4 10", 'unit 1, choice "-1" is no whole number'),
+        ("1 -1 4 10", 'unit 1, choice "-1" is no whole number from 0'),
         ("1 0 4096 10", "unit 1, choice 0: grains 4096 is over 4095"),
         ("2 1 4 1000001", "unit 2, choice 1: distortion 1000001 is over 1000000"),
         ("2 1 4 4294967297", "unit 2, choice 1: distortion 4294967297 is over 1000000"),
-        ("2 1 4.0 10", 'unit 2, choice 1: grains "4.0" is no whole number'),
-        ("2,1,,10", 'unit 2, choice 1: grains "" is no whole number'),
-        ("2 1 4 ten", 'unit 2, choice 1: distortion "ten" is no whole number'),
+        ("2 1 4.0 10", 'unit 2, choice 1: grains "4.0" is no whole number from 0'),
+        ("2,1,,10", 'unit 2, choice 1: grains "" is no whole number from 0'),
+        ("2 1 4 ten", 'unit 2, choice 1: distortion "ten" is no whole number from 0'),
+        ("1", "4 columns are due, unit, choice, grains, distortion, and 1 is there"),
         ("1 0 4", "4 columns are due, unit, choice, grains, distortion, and 3 are there"),
         ("1 0 4 10 5", "4 columns are due, unit, choice, grains, distortion, and 5 are there"),
     ]
@@ -425,7 +463,8 @@ def check_refused_jobs(_):
     ]
     for (given, number), command in itertools.product(cases, ["plan", "sizes"]):
         answer = run(command, "-", given=given)
-        words = f"upload-planner: standard input: refused {number}: "
+        named = f"{NOT_A_JOB}: " if number < 3 else ""
+        words = f"upload-planner: standard input: {named}refused {number}: "
         check(f"{command} refuses {number}", (answer.status, answer.out, answer.error[: len(words)]), (1, "", words))
     for given, number in cases[:-1]:
         answer = run("show", "-", given=given)
@@ -593,16 +632,36 @@ def check_playlist(work):
     behind.write_bytes(job.read_bytes() + b"\0")
     two.write_bytes(job_a(bucket=5, drain=1, second=[5, 1, 0]).bytes())
     plans = work / "plans.bin"
-    head = ["programme", "planned", "distortion", "source", "channel", "unused", "second-unused", "file"]
+    head = ["programme", "planned", "distortion", "source", "channel", "unused", "second-unused"]
+    head += ["bucket", "second", "file"]
 
     answer = run("playlist", job, "--entries", plans, job)
-    first, second = f"1 yes 50 6 6 1 - {job}", f"2 yes 70 4 4 0 - {job}"
+    # Of 0 + 6 grains 2 drain, for the third drain goes by; of 4 + 4 then 3.
+    first, second = f"1 yes 50 6 6 1 - 4 - {job}", f"2 yes 70 4 4 0 - 5 - {job}"
     found = (answer.status, answer.out.splitlines()[0].split(), answer.rows())
     check("a playlist", found, (0, head, table(first, second)))
     again = entries((0, NO_UNIT), (1, 1), (1, 1))
     check("entries of a playlist", plans.read_bytes(), LATE_A + again)
     answer = run("playlist", two)
-    check("a playlist with two buckets", answer.rows(), table(f"1 yes 50 6 6 1 1 {two}"))
+    check("a playlist with two buckets", answer.rows(), table(f"1 yes 50 6 6 1 1 4 4 {two}"))
+    # The levels at the end are those of the plans, followed one after another.
+    parts = [
+        job_a(bucket=200, drain=2, fill=9, second=[60, 3, 20]),
+        job_a(bucket=100, drain=1, fill=50, second=[50, 1, 1], delay=2),
+        job_a(bucket=90, drain=4, second=[40, 2, 0]),
+    ]
+    names = [work / f"part{place}.bin" for place in range(3)]
+    for name, part in zip(names, parts):
+        name.write_bytes(part.bytes())
+    answer = run("playlist", *names, "--entries", plans)
+    left, fills, ends = plans.read_bytes(), [9, 20], []
+    for part in parts:
+        length = 3 * (len(part.units) + part.delay)
+        part.fill, part.second = fills[0], part.second[:2] + fills[1:]
+        rows, _ = follow(part, left[:length])
+        fills, left = [int(level) for level in rows[-1][-2:]], left[length:]
+        ends.append([str(level) for level in fills])
+    check("levels at the ends of a playlist", ([row[7:9] for row in answer.rows()], left), (ends, b""))
     check("a playlist from standard input", run("playlist", "-", given=job.read_bytes()).rows()[0][:6], first.split()[:6])
 
     over = "the level of a bucket is over its size in the new contract or the next programme"
@@ -622,12 +681,14 @@ def check_playlist(work):
         plans.write_bytes(b"kept")
         answer = run("playlist", *names, "--entries", plans)
         rows = table(first, second)[: place - 1]
-        rows += [f"{at + 1} no - - - - - {name}".split() for at, name in enumerate(names) if at + 1 >= place]
-        error = f"upload-planner: {names[place - 1]}: refused {number}: programme {place}: {words}\n"
+        rows += [f"{at + 1} no - - - - - - - {name}".split() for at, name in enumerate(names) if at + 1 >= place]
+        named = f"{NOT_A_JOB}: " if number < 3 else ""
+        error = f"upload-planner: {names[place - 1]}: {named}refused {number}: programme {place}: {words}\n"
         found = (answer.status, answer.error, answer.rows(), plans.read_bytes())
         check(f"a playlist that is refused at {place} with {number}", found, (1, error, rows, b"kept"))
     answer = run("playlist", *[job] * 65)
-    refused("a playlist of 65", answer, "refused 21: the playlist has no entry, or more than 64")
+    words = "refused 21: the playlist has no entry, more than 64, or an odd count of numbers"
+    refused("a playlist of 65", answer, words)
 
 
 def trial(fields, state, second=None):
@@ -698,7 +759,7 @@ def check_trial(work):
 
     wrong(trial_arguments(fields, 2**32), '--state "4294967296" is no number from 0 to 4294967295')
     wrong(trial_arguments(fields, -1), '--state "-1" is no number from 0 to 4294967295')
-    wrong(trial_arguments(["two"] + fields[1:], 1), '--units "two" is no whole number')
+    wrong(trial_arguments(["two"] + fields[1:], 1), '--units "two" is no whole number from 0')
     wrong(trial_arguments(fields, 1)[:-2], "--state is missing")
     wrong(trial_arguments(fields, 1)[2:], "--units is missing")
     wrong(trial_arguments(fields, 1, [1]), "--second-drain is missing")
@@ -715,14 +776,13 @@ def check_large(work):
     check("totals of 512 units", planned.totals(), sums)
     check("replay of 512 units", run("replay", job, plan).bytes, planned.bytes)
     check("report of 512 units", len(run("report", job, plan).rows()), 513)
-    # The table has four bytes for each word, and the command may have no more than 64 million in all.
-    words = [str(COMMAND), "plan", str(work / "wide.bin")]
-    run("trial", *trial_arguments([512, 64, 255, 255, 20, 0, 0, 16, 1], 1), work / "wide.bin")
-    less = lambda: resource.setrlimit(resource.RLIMIT_AS, (64000000, 64000000))
-    answer = Answer(subprocess.run(words, capture_output=True, timeout=60, preexec_fn=less))
-    told = f"{work / 'wide.bin'}: there is no memory for a table of 37814272 words: refused 11: "
-    told += "the table has fewer words than planning needs"
-    refused("a table that does not fit", answer, told)
+    # The table has four bytes for each word, which is more than the command may have in all.
+    wide = work / "wide.bin"
+    run("trial", *trial_arguments([512, 64, 255, 255, 20, 0, 0, 16, 1], 1), wide)
+    for command, tables in [("plan", "a table"), ("sizes", "a table"), ("sit", "two tables")]:
+        told = f"{wide}: there is no memory for {tables} of 37814272 words: refused 11: "
+        told += "the table has fewer words than planning needs"
+        refused(f"a table that does not fit, {command}", run_within(LITTLE_MEMORY, command, wide), told)
 
     most = work / "most.bin"
     run("trial", *trial_arguments([512, 64, 255, 255, 4095, 0, 0, 16, 1000], 3, [63, 1, 0]), most)
@@ -780,7 +840,7 @@ def check_usage(work):
         arguments = ["change", job, plan, "--after", "1"] + contract[:at] + contract[at + 2 :]
         cases.append((arguments, f"{contract[at]} is missing"))
     cases.append((["change", job, plan] + contract, "--after is missing"))
-    cases.append((["change", job, plan, "--after", "soon"] + contract, '--after "soon" is no whole number'))
+    cases.append((["change", job, plan, "--after", "soon"] + contract, '--after "soon" is no whole number from 0'))
     lists = "is no list of whole numbers, such as 0,2,4"
     cases.append((["change", job, plan, "--after", "1", "--rates", "0,,2"] + contract[2:], f'--rates "0,,2" {lists}'))
     for arguments, words in cases:
@@ -817,6 +877,153 @@ def check_files(work):
         copy.write(job.read_bytes())
     found = subprocess.run([COMMAND, "plan", name], capture_output=True, timeout=60).stdout
     check("a file whose name is no text", found, run("plan", job).bytes)
+
+
+def check_behind(work):
+    """Bytes behind a job are not looked at, and the command says so."""
+    job, plan = EXAMPLES / "job_a.bin", work / "plan.bin"
+    plan.write_bytes(PLAN_A)
+    contract = ["--after", "1", "--rates", "0,1,3", "--sizes", "2", "--drains", "1"]
+    cases = [
+        (["show"], [], ""),
+        (["plan"], [], "; pins are given with --pin"),
+        (["replay"], [plan], "; pins are given with --pin"),
+        (["report"], [plan], ""),
+        (["sizes"], [], "; pins are given with --pin"),
+        (["change"], [plan, *contract], "; pins are given with --pin"),
+        (["sit"], [], "; pins are given in the sitting"),
+    ]
+    behind = work / "behind.bin"
+    for (command, more, hint), count in itertools.product(cases, [0, 1, 16]):
+        behind.write_bytes(job.read_bytes() + b"\0" * count)
+        answer = run(*command, behind, *more)
+        expected = (0, run(*command, job, *more).bytes, noted(behind, count, hint))
+        found = (answer.status, answer.bytes, answer.error)
+        check(f"{command[0]} of a job with {count} bytes behind it", found, expected)
+    behind.write_bytes(job.read_bytes() + b"\0" * 16)
+    answer = run("plan", behind, "--pin", "2=0")
+    error = noted(behind, 16, "; pins are given with --pin") + f"upload-planner: {behind}: "
+    error += "refused 13: no plan is admissible\n"
+    check("a note before a refusal", (answer.status, answer.error), (1, error))
+
+    for command, more, hint in [(["show"], [], ""), (["plan"], [], "; pins are given with --pin")]:
+        answer = run_behind(job, *command, "-", *more)
+        note = noted("standard input", "more", hint)
+        found = (answer.status, answer.bytes, answer.error)
+        check(f"{command[0]} without an end", found, (0, run(*command, job, *more).bytes, note))
+    answer = run_behind(job, "playlist", "-")
+    check("a playlist without an end", (answer.status, "refused 22: programme 1: " in answer.error), (1, True))
+
+
+def check_without_end(work):
+    """No file is read further than is needed."""
+    job, zero = EXAMPLES / "job_a.bin", "/dev/zero"
+    kind = "refused 2: a record, an aim, an order or a call of another kind or length than the one due"
+    for command in ["show", "plan", "sizes", "sit"]:
+        answer = run_within(LITTLE_MEMORY, command, zero)
+        refused(f"{command} of zeros", answer, f"{zero}: {NOT_A_JOB}: {kind}")
+    answer = run_within(LITTLE_MEMORY, "playlist", job, zero)
+    words = f"upload-planner: {zero}: {NOT_A_JOB}: refused 2: programme 2: "
+    check("a playlist of zeros", (answer.status, answer.error.startswith(words)), (1, True))
+    most = "more than 1728 bytes, where 3 intervals have 9"
+    for command in ["replay", "report"]:
+        answer = run_within(LITTLE_MEMORY, command, job, zero)
+        refused(f"{command} of zeros", answer, f"{zero}: {most}: refused 14: the entries are not a plan of this job")
+    made = work / "made.bin"
+    answer = run_within(512000000, "make", zero, made)
+    refused("a text of zeros", answer, f"{zero}: the text is longer than 64000000 bytes")
+    check("a text of zeros writes nothing", made.exists(), False)
+
+
+def check_texts_as_jobs(work):
+    text, plan = work / "paper.txt", work / "plan.bin"
+    text.write_text("\n".join(job_a().lines()) + "\n")
+    plan.write_bytes(PLAN_A)
+    kind = "refused 2: a record, an aim, an order or a call of another kind or length than the one due"
+    contract = ["--after", "1", "--rates", "0,1,3", "--sizes", "2", "--drains", "1"]
+    cases = [["show"], ["plan"], ["replay", plan], ["report", plan], ["sizes"], ["change", plan, *contract], ["sit"]]
+    for command, *more in cases:
+        refused(f"{command} of a text", run(command, text, *more), f"{text}: {NOT_A_JOB}: {kind}")
+
+
+def check_overwriting(work):
+    """An output is no input and no other output."""
+    job, plan, link = work / "job.bin", work / "plan.bin", work / "link.bin"
+    text, other = work / "job.txt", work / ".." / work.name / "job.bin"
+    job.write_bytes(job_a().bytes())
+    plan.write_bytes(PLAN_A)
+    text.write_text("\n".join(job_a().lines()))
+    os.symlink(job, link)
+    contract = ["--after", "1", "--rates", "0,1,3", "--sizes", "2", "--drains", "1"]
+    cases = [
+        (["plan", job, "--entries", job], "--entries and JOB"),
+        (["plan", job, "--picture", job], "--picture and JOB"),
+        (["plan", job, "--entries", other], "--entries and JOB"),
+        (["plan", job, "--entries", link], "--entries and JOB"),
+        (["plan", link, "--picture", job], "--picture and JOB"),
+        (["plan", job, "--entries", work / "new", "--picture", work / "new"], "--entries and --picture"),
+        (["plan", work / "none", "--entries", work / "none"], "--entries and JOB"),
+        (["replay", job, plan, "--picture", plan], "--picture and ENTRIES"),
+        (["report", job, plan, "--picture", job], "--picture and JOB"),
+        (["sizes", job, "--picture", job], "--picture and JOB"),
+        (["change", job, plan, *contract, "--entries", plan], "--entries and ENTRIES"),
+        (["playlist", work / "none", job, "--entries", job], "--entries and JOB"),
+        (["make", text, text], "TEXT and JOB"),
+    ]
+    kept = [job.read_bytes(), plan.read_bytes(), text.read_bytes()]
+    for arguments, names in cases:
+        misused(f"{arguments[0]}: {names}", arguments[0], run(*arguments), f"{names} name the same file")
+    check("nothing is written over", [job.read_bytes(), plan.read_bytes(), text.read_bytes()], kept)
+    check("nothing is written", (work / "new").exists(), False)
+    done = run("plan", job, "--entries", plan, "--picture", work / "new.svg")
+    check("outputs of their own", (done.status, plan.read_bytes()), (0, PLAN_A))
+    check("a job read twice", run("playlist", job, job).status, 0)
+
+
+def check_help(work):
+    """What the help says, and the example of trial."""
+
+    def said(command):
+        return " ".join(run(command, "--help").out.split())
+
+    example = said("trial").split("Example:")[1].replace("\\", " ").split()
+    words = "--units 8 --delay 2 --decoder 60 --bucket 20 --drain 15 --rates 10 --choices 4 --state 7 trial.bin"
+    check("the example of trial", example, ["upload-planner", "trial", *words.split()])
+    check("the example of trial makes a job", run(*example[1:], cwd=work).status, 0)
+    check("the example of trial has a plan", run("plan", work / "trial.bin").status, 0)
+    words = "interval S they have indices of the new rates, so that replay, report and change, which go by the job's own "
+    check("help of change about its entries", f"behind {words}contract, do not take them" in said("change"), True)
+    check("help of replay", "draws the plan, its levels up to a violation" in said("replay"), True)
+    check("help of report", "draws the plan itself, as replay does" in said("report"), True)
+
+    for word in ["-h", "help"]:
+        check(f"help by {word}", run(word).bytes, run("--help").bytes)
+    for command in COMMANDS:
+        check(f"help of {command} by -h", run(command, "-h").bytes, run(command, "--help").bytes)
+    header = re.search(r'^#define UPLOAD_VERSION "(.*)"$', (TOP / "include/upload.h").read_text(), re.MULTILINE)
+    package = re.search(r'^version = "(.*)"$', (TOP / "bindings/rust/Cargo.toml").read_text(), re.MULTILINE)
+    answer = run("--version")
+    found = (answer.status, answer.error, answer.out, f"upload-planner {package.group(1)}\n")
+    check("version", found, (0, "", *[f"upload-planner {header.group(1)}\n"] * 2))
+
+
+def title_of(picture):
+    root = xml.etree.ElementTree.parse(picture).getroot()
+    return root.find("{http://www.w3.org/2000/svg}title").text
+
+
+def check_titles(work):
+    job, plan, picture = EXAMPLES / "job_a.bin", work / "plan.bin", work / "picture.svg"
+    plan.write_bytes(PLAN_A)
+    for command, *more in [["plan"], ["replay", plan], ["report", plan], ["sizes"]]:
+        for title, options in [("job_a.bin", []), ("Trial & error", ["--title", "Trial & error"])]:
+            picture.unlink(missing_ok=True)
+            run(command, job, *more, "--picture", picture, *options)
+            check(f"title of {command}", title_of(picture), title)
+        words = "--title is given without --picture"
+        misused(f"{command}: {words}", command, run(command, job, *more, "--title", "x"), words)
+    run("plan", "-", "--picture", picture, given=job.read_bytes())
+    check("title of a picture of standard input", title_of(picture), "standard input")
 
 
 def check_pictures(work):
@@ -878,6 +1085,12 @@ GROUPS = [
     check_large,
     check_usage,
     check_files,
+    check_behind,
+    check_without_end,
+    check_texts_as_jobs,
+    check_overwriting,
+    check_help,
+    check_titles,
     check_pictures,
     check_random,
 ]

@@ -14,6 +14,7 @@ import math
 import os
 import pathlib
 import re
+import resource
 import struct
 import subprocess
 import sys
@@ -333,8 +334,9 @@ def check_series(picture, job, course):
     check_bars(picture, "sent", "sent", course.sent, middles, job.intervals)
     behind = middles[job.delay:]
     check_steps(picture, "choices", "choice", course.choices, behind)
-    ratio = picture.panels["distortion"].place_by_ratio
-    check_steps(picture, "distortion", "distortion", course.distortions, behind, ratio)
+    panel = picture.panels["distortion"]
+    place = panel.place_by_ratio if "logarithmic" in panel.legend[0] else panel.place
+    check_steps(picture, "distortion", "distortion", course.distortions, behind, place)
 
 
 def check_limits(picture, job):
@@ -515,11 +517,20 @@ def check_sizes(name, data, pins, none, work):
     if len(panel.scale) > 1:
         middles = picture.middles(len(listed), LEFT)[none:]
         check_steps(picture, "sizes", "total", totals, middles)
-    if totals:
-        expected = f"size {listed[none][0]}: total {totals[0]:,}"
-        check(f"{name}: first total", picture.head[1], expected)
-    else:
-        check(f"{name}: no total", picture.head[1], "no plan with a bucket of any of these sizes")
+    check(f"{name}: what is said of sizes", picture.head[1:], told_of_sizes(listed[none:]))
+    remark = "" if min(totals, default=0) == 0 else " (axis not from 0)"
+    check(f"{name}: name of the panel", panel.legend[0], f"Distortion{remark}")
+
+
+def told_of_sizes(planned):
+    """The first total, and from where on nothing is gained: one line where that is the same."""
+    if not planned:
+        return ["no plan with a bucket of any of these sizes"]
+    first, last = planned[0], planned[-1]
+    enough = next(size for size, total in planned if total == last[1])
+    larger = " and larger" if enough != last[0] else ""
+    lines = [f"size {first[0]}: total {int(first[1]):,}"] if enough != first[0] else []
+    return [*lines, f"size {enough}{larger}: total {int(last[1]):,}"]
 
 
 def check_all_sizes(work):
@@ -532,6 +543,8 @@ def check_all_sizes(work):
     check_sizes("late", job_bytes(1, 4, 1, 1, [0, 2, 4], coding), {1: 0}, 2, work)
     check_sizes("never", job_bytes(1, 4, 250, 1, [0, 2, 4], coding), {2: 0}, 6, work)
     check_sizes("one size", job_bytes(1, 4, 255, 1, [0, 2, 4], coding), {}, 0, work)
+    # The rates are so small that every bucket holds them.
+    check_sizes("all equal", job_bytes(1, 4, 1, 4, [0, 2, 4], coding), {}, 0, work)
 
 
 def check_too_large(work):
@@ -546,14 +559,43 @@ def check_too_large(work):
     check_plan(picture, Job(data), course, {})
 
 
+def check_distortions(work):
+    """The scale of distortions with 0 among them and without: its lines, and its name."""
+    foot = "Distortion (logarithmic, 0 at the foot)"
+    ratios = "Distortion (logarithmic)"
+    million = [0, 100_000, 200_000, 500_000, 1_000_000]
+    for distortions, name, lines in [
+        ((0, 0, 1_000_000), foot, million),
+        ((0, 12), foot, [0, 1, 2, 5, 10, 20]),
+        ((0, 30, 5_000), foot, [0, 10, 100, 1_000]),
+        ((0, 1, 1_000_000), foot, [0, *(10**power for power in range(7))]),
+        ((0, 0), "Distortion", [0, 1]),
+        ((0, 1), "Distortion", [0, 1]),
+        ((0, 3), "Distortion", [0, 1, 2, 3]),
+        ((3, 400), ratios, [2, 5, 10, 20, 50, 100, 200, 500]),
+    ]:
+        data = job_bytes(0, 0, 0, 1, [0], [[(0, distortion)] for distortion in distortions])
+        (work / "job.bin").write_bytes(data)
+        arguments = ["plan", work / "job.bin", "--entries", work / "entries.bin"]
+        picture = picture_of(f"distortions {distortions}", work, *arguments)
+        panel = picture.panels["distortion"]
+        check(f"{picture.name}: name", panel.legend[0], name)
+        check(f"{picture.name}: lines", [value for value, _ in panel.scale], lines)
+        job, plan = Job(data), (work / "entries.bin").read_bytes()
+        check_plan(picture, job, Course(job, plan, {}), {})
+
+
 def check_title(work):
-    """A name with all that XML has a meaning for, and a character that it does not allow."""
+    """A name with all that XML has a meaning for, and a character that it does not allow. A long
+    one is whole as the picture's title, and what is drawn of it are its two ends."""
     data = (EXAMPLES / "job_a.bin").read_bytes()
     for name in ["a&b<c>\"d'.bin", "\u00e9\u4e16.bin", "bell\x07.bin", "x" * 120 + ".bin"]:
         (work / name).write_bytes(data)
         picture = picture_of(f"title {name!r}", work, "plan", work / name)
         title = picture.title.replace("\ufffd", "\x07")
         check(f"title {name!r}", title.endswith(name), True)
+        short = f"{title[:27]}\u2026{title[-27:]}" if len(title) > 55 else title
+        check(f"title {name!r}, drawn", picture.head[0].replace("\ufffd", "\x07"), short)
 
 
 def read_compared(text, pins, first, second):
@@ -622,12 +664,17 @@ def check_sitting(work):
     check("sit: quit", run("sit", "job_a.bin", text="quit\nplan\n").count("\n"), 1)
     check_job_a()
     nowhere = run("sit", "job_a.bin", text=f"picture {work}/none/a.svg\nlist\n").splitlines()
-    check("sit: a file that cannot be written", "none/a.svg: " in nowhere[1], True)
+    unwritten = f"{work}/none/a.svg cannot be written: "
+    check("sit: a file that cannot be written", nowhere[1].startswith(unwritten), True)
     check("sit: goes on", nowhere[2], "no pins")
     unchanged = run("sit", "job_a.bin", text="compare a.svg").splitlines()
     check("sit: no change yet", unchanged[1:], ["no pin was set or lifted yet"])
     run("sit", "never_drains.bin", status=1)
+    check_one_plan(work)
+    check_entries(work)
+    check_comments(work)
     check_streams()
+    check_room(work)
 
 
 def check_job_a():
@@ -645,6 +692,60 @@ def check_job_a():
     check("sit: Job A, lifted", told[11:], lifted)
 
 
+def check_one_plan(work):
+    """Where one of two plans is not there, or neither, the answer says so."""
+    job, compare = work / "job.bin", f"compare {work / 'none.svg'}"
+    # One grain is there and one comes: units 1 and 2 cannot both have their choice of two.
+    coding = [[(2, 5), (1, 9)]] * 3
+    job.write_bytes(job_bytes(0, 2, 2, 2, [0, 1], coding, level=1))
+    lines = ["pin 1 0", "pin 2 0", compare, f"entries {work / 'none.bin'}"]
+    lines += ["pin 3 1", compare, "lift 1", compare]
+    told = run("sit", job, text="\n".join(lines)).splitlines()
+    expected = [
+        "there is no plan after the last change",
+        "there is no plan before the last change, nor after",
+        "there was no plan before the last change",
+    ]
+    found = [line for line in told if line.startswith("there ")]
+    check("sit: one of two plans, or neither", found, expected)
+    check("sit: no plan to write", "no plan to write" in told, True)
+    files = [name for name in ("none.svg", "none.bin") if (work / name).exists()]
+    check("sit: nothing is written without a plan", files, [])
+
+
+def check_entries(work):
+    """The plan that a sitting writes is that of planning with the pins that it lists."""
+    lines = f"pin 20 4\npin 48 18\nlist\nentries {work / 'sat.bin'}\nentries\n"
+    told = run("sit", "programme.job", text=lines).splitlines()
+    check("sit: written", told[-2:], [f"written: {work / 'sat.bin'}", "due: entries FILE"])
+    check("sit: pins as options", told[-3], "--pin 20=4 --pin 48=18")
+    run("plan", "programme.job", *told[-3].split(), "--entries", work / "planned.bin")
+    same = (work / "sat.bin").read_bytes() == (work / "planned.bin").read_bytes()
+    check("sit: the plan that is written", same, True)
+
+
+def check_comments(work):
+    """A comment may follow a command; a file may have # in its name."""
+    lines = f"pin 1 1 # dear\nlist# no\n  # all\nundo #\nentries {work}/a#1.bin # kept\nlist #\n"
+    told = run("sit", "job_a.bin", text=lines).splitlines()
+    check("sit: pin with a comment", told[1], "total 70, 20 more than before")
+    check("sit: # within a word", told[3], '"list#" is no command; help lists them')
+    check("sit: undo with a comment", told[4], "unit 1 lifted")
+    check("sit: # in the name of a file", told[7:], [f"written: {work}/a#1.bin", "no pins"])
+
+
+def check_room(work):
+    """A job for whose tables there is no memory is refused in words like those of plan."""
+    job = work / "wide.bin"
+    job.write_bytes(job_bytes(64, 255, 255, 20, list(range(16)), [[(1, 1)]] * 512))
+    arguments = [COMMAND, "sit", str(job)]
+    less = lambda: resource.setrlimit(resource.RLIMIT_AS, (64000000, 64000000))
+    ended = subprocess.run(arguments, input=b"", capture_output=True, preexec_fn=less)
+    told = f"upload-planner: {job}: there is no memory for two tables of 37814272 words: refused 11: "
+    told += "the table has fewer words than planning needs\n"
+    check("sit: tables that do not fit", (ended.returncode, ended.stderr.decode()), (1, told))
+
+
 def check_streams():
     """Input that is no text is answered; output that cannot be written is an error."""
     arguments = [COMMAND, "sit", "job_a.bin"]
@@ -656,7 +757,9 @@ def check_streams():
     with open("/dev/full", "w") as full:
         streams = {"stdin": subprocess.DEVNULL, "stdout": full, "stderr": subprocess.PIPE}
         ended = subprocess.run(arguments, cwd=EXAMPLES, **streams)
-    check("sit: output that cannot be written", (ended.returncode, bool(ended.stderr)), (1, True))
+    told = b"upload-planner: standard output cannot be written: "
+    found = (ended.returncode, ended.stderr[:len(told)])
+    check("sit: output that cannot be written", found, (1, told))
 
 
 def check_stored(work):
@@ -690,6 +793,7 @@ def main():
         check_job("programme", (EXAMPLES / "programme.job").read_bytes(), {20: 4}, work)
         check_too_large(work)
         check_all_sizes(work)
+        check_distortions(work)
         check_title(work)
         check_compare(work)
         check_sitting(work)

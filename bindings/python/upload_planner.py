@@ -138,7 +138,7 @@ _REFUSALS = {
     18: "the contract does not change within the programme",
     19: "the old plan has a violation before the contract changes",
     20: "the level of a bucket is over its size in the new contract or the next programme",
-    21: "the playlist has no entry, or more than 64",
+    21: "the playlist has no entry, more than 64, or an odd count of numbers",
     22: "an entry passes the bytes, bytes are left behind its job, or it has another "
     "number of buckets than the first",
 }
@@ -922,11 +922,15 @@ class Session:
         return report(self.job, plan)
 
     def picture(
-        self, path: Union[str, os.PathLike], even: bool = False, late: bool = False
+        self,
+        path: Union[str, os.PathLike],
+        even: bool = False,
+        late: bool = False,
+        title: str = "Best plan",
     ) -> None:
         """Draws the plan that `plan` gives with the pins that stand, as SVG, in a file of this
-        name. The command `upload-planner` draws it: the one that the environment variable
-        UPLOAD_PLANNER_COMMAND names, otherwise the one on PATH.
+        name, with this title above it. The command `upload-planner` draws it: the one that the
+        environment variable UPLOAD_PLANNER_COMMAND names, otherwise the one on PATH.
 
         Raises NoPlan where there is no plan, FileNotFoundError where the command is not there,
         and OSError with its words where it fails, as when the file cannot be written.
@@ -942,9 +946,9 @@ class Session:
         >>> if os.environ.get("UPLOAD_PLANNER_COMMAND"):
         ...     with tempfile.TemporaryDirectory() as folder:
         ...         path = os.path.join(folder, "plan.svg")
-        ...         session.picture(path)
+        ...         session.picture(path, title="Unit 1 is coarse")
         ...         with open(path, encoding="utf-8") as drawn:
-        ...             assert "<svg" in drawn.read()
+        ...             assert "<title>Unit 1 is coarse</title>" in drawn.read()
 
         No plan holds unit 2 at its choice 0.
 
@@ -958,7 +962,7 @@ class Session:
             pins, least = self._pins(), self._least_total()
         if least is None:
             raise NoPlan()
-        options = ["--picture", os.path.abspath(path)]
+        options = ["--picture", os.path.abspath(path), "--title", title]
         for unit, choice in pins.items():
             options += ["--pin", f"{unit}={choice}"]
         if even:

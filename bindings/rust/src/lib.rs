@@ -116,6 +116,9 @@ use std::ops::RangeInclusive;
 
 pub mod numbers;
 
+/// The version of the planner, as `UPLOAD_VERSION` of the C header has it.
+pub const VERSION: &str = "0.1.0";
+
 /// The choice of an interval that decodes no unit.
 pub const NO_UNIT: u16 = 65_535;
 
@@ -264,7 +267,9 @@ impl fmt::Display for Refusal {
             Refusal::CarriedOver => {
                 "the level of a bucket is over its size in the new contract or the next programme"
             }
-            Refusal::NotAList => "the playlist has no entry, or more than 64",
+            Refusal::NotAList => {
+                "the playlist has no entry, more than 64, or an odd count of numbers"
+            }
             Refusal::Programme => {
                 "an entry passes the bytes, bytes are left behind its job, or it has another \
                  number of buckets than the first"

@@ -18,6 +18,8 @@ pub struct Command {
     pub files: &'static [&'static str],
     /// Whether the last of them may be given more than once.
     pub many: bool,
+    /// Whether the last of them is written, and not read.
+    pub writes: bool,
     pub options: &'static [(&'static str, Takes)],
     /// All that is to be said of it, with an example.
     pub help: &'static str,
@@ -46,7 +48,20 @@ pub struct Given {
 
 /// Whether help is asked for.
 pub fn asks_for_help(arguments: &[OsString]) -> bool {
-    arguments.iter().take_while(|argument| *argument != "--").any(|argument| argument == "--help")
+    arguments.iter().take_while(|argument| *argument != "--").any(|argument| is_help(argument))
+}
+
+/// Whether this argument asks for help.
+pub fn is_help(argument: &OsStr) -> bool {
+    argument == "--help" || argument == "-h"
+}
+
+/// A file among the arguments.
+struct Named<'a> {
+    /// As what it is given, such as JOB or --entries.
+    name: &'static str,
+    file: &'a OsStr,
+    written: bool,
 }
 
 impl Given {
@@ -65,6 +80,7 @@ impl Given {
             }
         }
         given.check_files(command)?;
+        given.check_written(command)?;
         Ok(given)
     }
 
@@ -99,6 +115,35 @@ impl Given {
             return Err(Trouble::Usage(format!("{more} is one argument too many")));
         }
         Ok(())
+    }
+
+    /// Whether each file that is written is another than all that are read or written: it would
+    /// take their place.
+    fn check_written(&self, command: &Command) -> Result<(), Trouble> {
+        let named = self.named_files(command);
+        let twice = named.iter().enumerate().find_map(|(place, one)| {
+            let mut others = named[place + 1..].iter();
+            others.find(|other| one.clashes(other)).map(|other| (one.name, other.name))
+        });
+        match twice {
+            Some((one, other)) => {
+                Err(Trouble::Usage(format!("{one} and {other} name the same file")))
+            }
+            None => Ok(()),
+        }
+    }
+
+    /// All files that have a name, those of the options first.
+    fn named_files(&self, command: &Command) -> Vec<Named<'_>> {
+        let written = |name| command.options.contains(&(name, Takes::File));
+        let options = self.options.iter().filter(|(name, _)| written(*name));
+        let options = options.map(|(name, file)| Named { name, file, written: true });
+        let last = command.files.len() - 1;
+        let files = self.files.iter().enumerate().map(|(place, file)| {
+            let (name, written) = (command.files[place.min(last)], command.writes && place == last);
+            Named { name, file, written }
+        });
+        options.chain(files).filter(|named| named.file != files::STANDARD).collect()
     }
 
     /// The files.
@@ -151,6 +196,13 @@ impl Given {
                 quoted(&word)
             ))
         })
+    }
+}
+
+impl Named<'_> {
+    /// Whether these two are one file, and one of them is written.
+    fn clashes(&self, other: &Named) -> bool {
+        (self.written || other.written) && files::same(self.file, other.file)
     }
 }
 

@@ -2,19 +2,20 @@
 
 use std::ffi::OsString;
 
-use upload_planner::{changed, larger_buckets, open, playlist_plans, replayed, trial_job};
+use upload_planner::{changed, contents, larger_buckets, open, playlist_plans};
+use upload_planner::{replayed, trial_job};
 use upload_planner::{Bucket, Contents, Contract, Entry, Header, Levels, PlaylistRefusal};
-use upload_planner::{ProgrammePlan, Refusal};
+use upload_planner::{ProgrammePlan, Refusal, Totals};
 
 use crate::arguments::{Command, Given, Takes};
 use crate::fields::{Fields, FIELDS};
 use crate::files;
-use crate::jobs::{calls, Followed, Job};
+use crate::jobs::{calls, unopened, Followed, Job, LARGEST_JOB};
 use crate::picture;
-use crate::plans::{order, violation};
+use crate::plans::{order, picture_title, violation};
 use crate::table::{self, aligned, cell, Listed};
 use crate::trouble::{Failure, Trouble};
-use crate::words::{quoted, small, whole};
+use crate::words::{quoted, small, whole, NOT_WHOLE};
 
 pub const TRIAL: Command = Command {
     name: "trial",
@@ -24,6 +25,7 @@ pub const TRIAL: Command = Command {
             [--second-level N]] --state N JOB",
     files: &["JOB"],
     many: false,
+    writes: true,
     options: &[
         ("--units", Takes::Value),
         ("--delay", Takes::Value),
@@ -59,8 +61,8 @@ opens, but may have no plan.
     --state        the starting state
 
 Example:
-    upload-planner trial --units 8 --delay 2 --decoder 20 --bucket 10 \\
-        --drain 5 --rates 3 --choices 4 --state 7 trial.bin
+    upload-planner trial --units 8 --delay 2 --decoder 60 --bucket 20 \\
+        --drain 15 --rates 10 --choices 4 --state 7 trial.bin
 ",
     run: trial,
 };
@@ -68,10 +70,11 @@ Example:
 pub const SIZES: Command = Command {
     name: "sizes",
     summary: "lists what a larger bucket brings",
-    usage: "JOB [--pin U=C]... [--picture FILE.svg]",
+    usage: "JOB [--pin U=C]... [--picture FILE.svg [--title TEXT]]",
     files: &["JOB"],
     many: false,
-    options: &[("--pin", Takes::Values), ("--picture", Takes::File)],
+    writes: false,
+    options: &[("--pin", Takes::Values), ("--picture", Takes::File), ("--title", Takes::Value)],
     help: "\
 Lists what a larger bucket brings: for each size of the first bucket, from the
 job's own to 255, the least total distortion, or - where there is no plan.
@@ -81,6 +84,7 @@ JOB is a file with the bytes of a job, or - for standard input.
     --pin U=C      holds unit U at choice C; may be given for each unit
     --picture FILE.svg
                    draws the total against the size
+    --title TEXT   the title of the picture, instead of the name of JOB
 
 Example:
     upload-planner sizes job.bin --picture sizes.svg
@@ -95,6 +99,7 @@ pub const CHANGE: Command = Command {
             [--late] [--entries FILE]",
     files: &["JOB", "ENTRIES"],
     many: false,
+    writes: false,
     options: &[
         ("--after", Takes::Value),
         ("--rates", Takes::Value),
@@ -121,7 +126,10 @@ JOB is a file with the bytes of a job, ENTRIES one with a plan of it, as plan
                    the new drain of each bucket
     --pin U=C      holds unit U at choice C; may be given for each unit
     --late         of plans as good, the one that sends late
-    --entries FILE writes the whole plan, three bytes for each interval
+    --entries FILE writes the whole plan, three bytes for each interval; behind
+                   interval S they have indices of the new rates, so that
+                   replay, report and change, which go by the job's own
+                   contract, do not take them
 
 Example:
     upload-planner change job.bin plan.bin --after 1 \\
@@ -136,14 +144,16 @@ pub const PLAYLIST: Command = Command {
     usage: "JOB... [--entries FILE]",
     files: &["JOB"],
     many: true,
+    writes: false,
     options: &[("--entries", Takes::File)],
     help: "\
 Plans programmes that are sent back to back over one line, up to 64. Each
 starts from the bucket levels at which the one before it ended, and is planned
-late, without pins. A line for each programme says whether it is planned, and
-its totals: distortion, source grains, channel grains and the unused grains of
-each bucket. Work stops at the first one that is refused: the message names its
-place and its file, and no entries are written.
+late, without pins. A line for each programme says whether it is planned, its
+totals: distortion, source grains, channel grains and the unused grains of each
+bucket, and what is in the buckets at its end. Work stops at the first one that
+is refused: the message names its place and its file, and no entries are
+written.
 
 Each JOB is a file with the bytes of one job and nothing behind it; one of them
 may be -, which is standard input. A file may be named more than once.
@@ -175,9 +185,8 @@ fn fields_of(given: &Given) -> Result<Fields, Trouble> {
         let option = format!("--{}", field.name);
         if given.has(&option) {
             let word = given.due(&option)?;
-            let number = small(&word).ok_or_else(|| {
-                Trouble::Usage(format!("{option} {} is no whole number", quoted(&word)))
-            })?;
+            let number = small(&word)
+                .ok_or_else(|| Trouble::Usage(format!("{option} {} {NOT_WHOLE}", quoted(&word))))?;
             fields.give(field, number, format!("{option} {word}"));
         }
     }
@@ -188,6 +197,7 @@ fn fields_of(given: &Given) -> Result<Fields, Trouble> {
 }
 
 fn sizes(given: &Given, output: &mut Vec<u8>) -> Result<(), Failure> {
+    let title = picture_title(given)?;
     let job = Job::open(&given.files()[0])?;
     let pins = job.pins(given)?;
     let opened = open(&job.bytes).map_err(|refusal| job.refused(refusal))?;
@@ -195,7 +205,7 @@ fn sizes(given: &Given, output: &mut Vec<u8>) -> Result<(), Failure> {
     let listed = larger_buckets(&job.bytes, &calls(&pins));
     let totals = listed.map_err(|refusal| job.refused(refusal))?;
     if let Some(file) = given.value("--picture") {
-        files::write(file, picture::of_sizes(&job.name, &totals).as_bytes())?;
+        files::write(file, picture::of_sizes(&title, &totals).as_bytes())?;
     }
     let rows: Vec<Vec<String>> =
         totals.iter().map(|(size, total)| vec![size.to_string(), cell(*total)]).collect();
@@ -245,7 +255,7 @@ fn changed_table(
 fn first_of(given: &Given) -> Result<u32, Trouble> {
     let word = given.due("--after")?;
     let first = whole(&word).map(|first| u32::try_from(first).unwrap_or(u32::MAX));
-    first.ok_or_else(|| Trouble::Usage(format!("--after {} is no whole number", quoted(&word))))
+    first.ok_or_else(|| Trouble::Usage(format!("--after {} {NOT_WHOLE}", quoted(&word))))
 }
 
 /// A refusal of a change, with what it is about.
@@ -335,7 +345,8 @@ fn rest_of(contents: &Contents, contract: Contract, first: u16, reached: Levels)
 
 fn playlist(given: &Given, output: &mut Vec<u8>) -> Result<(), Failure> {
     let names = given.read_files()?;
-    let read: Result<Vec<Vec<u8>>, Trouble> = names.iter().map(|name| files::read(name)).collect();
+    let read: Result<Vec<Vec<u8>>, Trouble> =
+        names.iter().map(|name| files::read(name, LARGEST_JOB)).collect();
     let read = read?;
     let jobs: Vec<&[u8]> = read.iter().map(Vec::as_slice).collect();
     match playlist_plans(&jobs) {
@@ -344,7 +355,7 @@ fn playlist(given: &Given, output: &mut Vec<u8>) -> Result<(), Failure> {
             if let Some(file) = given.value("--entries") {
                 files::write(file, &entries)?;
             }
-            output.extend(programmes(names, &plans).into_bytes());
+            output.extend(programmes(names, &jobs, &plans).into_bytes());
             Ok(())
         }
         Err(refused) => Err(refused_playlist(refused, names, &jobs, output)),
@@ -362,22 +373,62 @@ fn refused_playlist(
     let Some(place) = refused.place else { return trouble.into() };
     // Where the first programme is refused, those before it are no list.
     let planned = playlist_plans(&jobs[..place - 1]).unwrap_or_default();
-    output.extend(programmes(names, &planned).into_bytes());
-    trouble.about(files::name(&names[place - 1]))
+    output.extend(programmes(names, jobs, &planned).into_bytes());
+    trouble.about(unopened(&files::name(&names[place - 1]), refused.refusal))
 }
 
-/// A line for each programme: its totals, or marks for those that are not planned, and its file.
-fn programmes(names: &[OsString], plans: &[ProgrammePlan]) -> String {
+/// A line for each programme: its totals and the levels at its end, or marks for those that are not
+/// planned, and its file.
+fn programmes(names: &[OsString], jobs: &[&[u8]], plans: &[ProgrammePlan]) -> String {
     let mut head = vec!["programme", "planned", "distortion", "source", "channel", "unused"];
-    head.push("second-unused");
+    head.extend(["second-unused", "bucket", "second"]);
+    let ends = end_levels(jobs, plans);
     let rows: Vec<Vec<String>> =
-        (0..names.len()).map(|place| programme(place, plans.get(place))).collect();
+        (0..names.len()).map(|place| programme(place, plans.get(place), ends.get(place))).collect();
     let files = ["file".to_string()].into_iter().chain(names.iter().map(|name| files::name(name)));
     let lines = aligned(&head, &rows).into_iter().zip(files);
     lines.map(|(line, file)| format!("{line}  {file}\n")).collect()
 }
 
-fn programme(place: usize, plan: Option<&ProgrammePlan>) -> Vec<String> {
+/// What is in a line's buckets.
+#[derive(Clone, Copy)]
+struct Ends {
+    bucket: u64,
+    second: Option<u64>,
+}
+
+/// What is in the buckets at the end of each programme.
+fn end_levels(jobs: &[&[u8]], plans: &[ProgrammePlan]) -> Vec<Ends> {
+    // All that were planned open.
+    let headers = jobs.iter().filter_map(|job| Some(contents(job).ok()?.header));
+    let mut before = None;
+    let ends = headers.zip(plans).map(|(header, plan)| {
+        let ends = ends_of(&header, before, &plan.totals);
+        before = Some(ends);
+        ends
+    });
+    ends.collect()
+}
+
+/// What is in the buckets at the end of a programme: the first one starts from its own levels, each
+/// other from those at the end of the one before it.
+fn ends_of(header: &Header, before: Option<Ends>, totals: &Totals) -> Ends {
+    let intervals = u64::from(header.units) + u64::from(header.delay);
+    let end = |start: u64, unused: u64, drain: u16| {
+        start + totals.channel_grains + unused - intervals * u64::from(drain)
+    };
+    let starts = before.unwrap_or(Ends {
+        bucket: header.fill.into(),
+        second: header.second.map(|second| second.level.into()),
+    });
+    let second = header.second.zip(starts.second).zip(totals.second_unused);
+    Ends {
+        bucket: end(starts.bucket, totals.unused_grains, header.drain),
+        second: second.map(|((second, start), unused)| end(start, unused, second.drain)),
+    }
+}
+
+fn programme(place: usize, plan: Option<&ProgrammePlan>, ends: Option<&Ends>) -> Vec<String> {
     let totals = plan.map(|plan| plan.totals);
     let planned = if totals.is_some() { "yes" } else { "no" };
     vec![
@@ -388,5 +439,7 @@ fn programme(place: usize, plan: Option<&ProgrammePlan>) -> Vec<String> {
         cell(totals.map(|totals| totals.channel_grains)),
         cell(totals.map(|totals| totals.unused_grains)),
         cell(totals.and_then(|totals| totals.second_unused)),
+        cell(ends.map(|ends| ends.bucket)),
+        cell(ends.and_then(|ends| ends.second)),
     ]
 }

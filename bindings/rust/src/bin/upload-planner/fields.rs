@@ -50,9 +50,9 @@ struct GivenField {
     place: String,
 }
 
-/// The field of this name.
+/// The field of this name, which may be written with capitals.
 pub fn named(name: &str) -> Option<&'static Field> {
-    FIELDS.iter().find(|field| field.name == name)
+    FIELDS.iter().find(|field| field.name.eq_ignore_ascii_case(name))
 }
 
 fn is_second(name: &str) -> bool {

@@ -7,7 +7,10 @@ use std::ffi::OsString;
 use std::io::{self, Write};
 use std::process::ExitCode;
 
-use crate::arguments::{asks_for_help, Command, Given};
+use upload_planner::VERSION;
+
+use crate::arguments::{asks_for_help, is_help, Command, Given};
+use crate::jobs::Job;
 use crate::trouble::{Failure, Trouble};
 
 mod arguments;
@@ -42,11 +45,12 @@ const SIT: Command = Command {
     usage: "JOB",
     files: &["JOB"],
     many: false,
+    writes: false,
     options: &[],
     help: "\
 A sitting over a job: reads lines from standard input, such as pin 3 0, lift 3,
-plan, undo, list, picture plan.svg and quit, and answers each at once. The line
-help says what there is.
+plan, undo, list, entries plan.bin, picture plan.svg and quit, and answers each
+at once. The line help says what there is.
 
 JOB is a file with the bytes of a job.
 
@@ -58,7 +62,8 @@ Example:
 
 const HELP: &str = "
 Every command but sit takes - in place of a file that it reads, for standard
-input. upload-planner COMMAND --help says more of a command, with an example.
+input. upload-planner COMMAND --help says more of a command, with an example;
+upload-planner --version says the version.
 
 Exit status: 0; 1 where the library refuses, with its number and words on
 standard error, or where a file cannot be read or written; 2 for wrong usage.
@@ -102,8 +107,12 @@ fn run(
 
 fn without_command(arguments: &[OsString], output: &mut Vec<u8>) -> Result<(), Failure> {
     match arguments.first() {
-        Some(first) if first == "--help" => {
+        Some(first) if first == "help" || is_help(first) => {
             output.extend(help().into_bytes());
+            Ok(())
+        }
+        Some(first) if first == "--version" => {
+            output.extend(format!("upload-planner {VERSION}\n").into_bytes());
             Ok(())
         }
         Some(first) => {
@@ -145,10 +154,5 @@ fn sit(given: &Given, _: &mut Vec<u8>) -> Result<(), Failure> {
         let words = "the lines of a sitting come from standard input, so that JOB is a file";
         return Err(Trouble::Usage(words.to_string()).into());
     }
-    let job = files::read(file)?;
-    let sat = sitting::sit(&job, &mut io::stdin().lock(), &mut io::stdout().lock());
-    sat.map_err(|trouble| match trouble {
-        Trouble::Refused(_) => trouble.about(files::name(file)),
-        _ => trouble.into(),
-    })
+    sitting::sit(&Job::open_to_sit(file)?, &mut io::stdin().lock())
 }

@@ -8,20 +8,23 @@ use crate::files;
 use crate::jobs::{calls, Followed, Job};
 use crate::picture::{self, Shown};
 use crate::table::{self, aligned, Listed};
-use crate::trouble::Failure;
+use crate::trouble::{Failure, Trouble};
 
 pub const PLAN: Command = Command {
     name: "plan",
     summary: "plans a job: of all admissible plans the best",
-    usage: "JOB [--pin U=C]... [--even] [--late] [--entries FILE] [--picture FILE.svg]",
+    usage: "JOB [--pin U=C]... [--even] [--late] [--entries FILE] \
+            [--picture FILE.svg [--title TEXT]]",
     files: &["JOB"],
     many: false,
+    writes: false,
     options: &[
         ("--pin", Takes::Values),
         ("--even", Takes::Nothing),
         ("--late", Takes::Nothing),
         ("--entries", Takes::File),
         ("--picture", Takes::File),
+        ("--title", Takes::Value),
     ],
     help: "\
 Prints the plan of least total distortion, a line for each interval, and its
@@ -50,6 +53,7 @@ the job are not looked at.
     --entries FILE writes the plan itself, three bytes for each interval
     --picture FILE.svg
                    draws the plan
+    --title TEXT   the title of the picture, instead of the name of JOB
 
 Example: hold unit 1 at its second choice.
     upload-planner plan job.bin --pin 1=1 --entries plan.bin
@@ -60,10 +64,11 @@ Example: hold unit 1 at its second choice.
 pub const REPLAY: Command = Command {
     name: "replay",
     summary: "follows a plan, up to its first violation",
-    usage: "JOB ENTRIES [--pin U=C]... [--picture FILE.svg]",
+    usage: "JOB ENTRIES [--pin U=C]... [--picture FILE.svg [--title TEXT]]",
     files: &["JOB", "ENTRIES"],
     many: false,
-    options: &[("--pin", Takes::Values), ("--picture", Takes::File)],
+    writes: false,
+    options: &[("--pin", Takes::Values), ("--picture", Takes::File), ("--title", Takes::Value)],
     help: "\
 Follows a plan interval by interval and prints it as plan does. It ends with
 the totals, or with the first violation, such as
@@ -79,7 +84,8 @@ standard input.
 
     --pin U=C      unit U is to have choice C; may be given for each unit
     --picture FILE.svg
-                   draws the plan, up to a violation
+                   draws the plan, its levels up to a violation
+    --title TEXT   the title of the picture, instead of the name of JOB
 
 Example:
     upload-planner replay job.bin plan.bin
@@ -90,10 +96,11 @@ Example:
 pub const REPORT: Command = Command {
     name: "report",
     summary: "lists the effective buffer sizes of a plan",
-    usage: "JOB ENTRIES [--picture FILE.svg]",
+    usage: "JOB ENTRIES [--picture FILE.svg [--title TEXT]]",
     files: &["JOB", "ENTRIES"],
     many: false,
-    options: &[("--picture", Takes::File)],
+    writes: false,
+    options: &[("--picture", Takes::File), ("--title", Takes::Value)],
     help: "\
 Prints the effective buffer sizes of a plan, admissible or not: for each i from
 0 to the number of units the grains that intervals i + 1 to i + delay send.
@@ -103,7 +110,8 @@ with a plan of it, as plan --entries writes it. One of them may be -, which is
 standard input.
 
     --picture FILE.svg
-                   draws the plan, up to a violation
+                   draws the plan itself, as replay does
+    --title TEXT   the title of the picture, instead of the name of JOB
 
 Example:
     upload-planner report job.bin plan.bin
@@ -112,6 +120,7 @@ Example:
 };
 
 fn plan(given: &Given, output: &mut Vec<u8>) -> Result<(), Failure> {
+    let title = picture_title(given)?;
     let job = Job::open(&given.files()[0])?;
     let pins = job.pins(given)?;
     let opened = open(&job.bytes).map_err(|refusal| job.refused(refusal))?;
@@ -123,29 +132,31 @@ fn plan(given: &Given, output: &mut Vec<u8>) -> Result<(), Failure> {
     if let Some(file) = given.value("--entries") {
         files::write(file, &best.entries)?;
     }
-    draw(given, &job, &pins, &followed)?;
+    draw(given, &title, &job, &pins, &followed)?;
     output.extend(listing(&job, &pins, &followed).into_bytes());
     Ok(())
 }
 
 fn replay(given: &Given, output: &mut Vec<u8>) -> Result<(), Failure> {
     let [job, entries] = given.read_files()? else { unreachable!("replay takes two files") };
+    let title = picture_title(given)?;
     let job = Job::stored(job)?;
     let pins = job.pins(given)?;
     let followed = job.follow_file(&pins, entries)?;
-    draw(given, &job, &pins, &followed)?;
+    draw(given, &title, &job, &pins, &followed)?;
     output.extend(listing(&job, &pins, &followed).into_bytes());
     Ok(())
 }
 
 fn report(given: &Given, output: &mut Vec<u8>) -> Result<(), Failure> {
     let [job, entries] = given.read_files()? else { unreachable!("report takes two files") };
-    let job = Job::stored(job)?;
+    let title = picture_title(given)?;
+    let job = Job::stored_without_pins(job)?;
     let followed = job.follow_file(&[], entries)?;
     let mut sums = vec![0; usize::from(job.contents.header.units) + 1];
     buffer_report(&job.bytes, &followed.entries, &mut sums)
         .map_err(|refusal| job.refused(refusal))?;
-    draw(given, &job, &[], &followed)?;
+    draw(given, &title, &job, &[], &followed)?;
     let sums = sums.iter().enumerate();
     let rows: Vec<Vec<String>> =
         sums.map(|(i, sum)| vec![i.to_string(), sum.to_string()]).collect();
@@ -162,12 +173,30 @@ pub fn order(given: &Given) -> Order {
     }
 }
 
+/// The title of a picture of the first file: the one that is given, or the file's name without its
+/// folders.
+pub fn picture_title(given: &Given) -> Result<String, Trouble> {
+    match given.words("--title").into_iter().next() {
+        Some(_) if !given.has("--picture") => {
+            Err(Trouble::Usage("--title is given without --picture".to_string()))
+        }
+        Some(title) => Ok(title),
+        None => Ok(files::short_name(&given.files()[0])),
+    }
+}
+
 /// Draws a plan where a picture is asked for.
-fn draw(given: &Given, job: &Job, pins: &[(u16, u16)], followed: &Followed) -> Result<(), Failure> {
+fn draw(
+    given: &Given,
+    title: &str,
+    job: &Job,
+    pins: &[(u16, u16)],
+    followed: &Followed,
+) -> Result<(), Failure> {
     let Some(file) = given.value("--picture") else { return Ok(()) };
     let Followed { entries, levels, found } = followed;
     let shown = Shown { contents: &job.contents, pins, entries, levels, found };
-    Ok(files::write(file, picture::of_plan(&job.name, &shown).as_bytes())?)
+    Ok(files::write(file, picture::of_plan(title, &shown).as_bytes())?)
 }
 
 /// The table of a plan, then its totals or its violation.

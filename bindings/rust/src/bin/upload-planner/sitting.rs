@@ -1,10 +1,13 @@
 //! A sitting at the keyboard, or from a pipe: a line for each command, and the answer at once.
 
+use crate::files;
+use crate::jobs::Job;
 use crate::picture::{self, Shown};
 use crate::table;
-use crate::trouble::Trouble;
-use std::io::{BufRead, IsTerminal, Write};
-use upload_planner::{contents, open, Aim, BestPlan, Contents, Entry, Levels, Order, Refusal};
+use crate::trouble::{Failure, Trouble};
+use std::ffi::OsStr;
+use std::io::{BufRead, IsTerminal};
+use upload_planner::{open, Aim, BestPlan, Contents, Entry, Levels, Order, Refusal};
 use upload_planner::{Replayed, Session, Totals};
 
 /// How many units are named that changed their choice.
@@ -15,49 +18,58 @@ const HELP: &str = "\
 pin UNIT CHOICE   holds a unit at a choice, and tells what that costs
 lift UNIT         leaves a unit free again
 undo              takes back the last pin or lift, and then the one before it
-list              the pins that stand
+list              the pins that stand, and as options of the other commands
 plan              the choices of the best plan, and its totals
 even              the same for even pictures: the worst unit as good as can be
+entries FILE      writes the best plan, three bytes for each interval
 picture FILE      draws the best plan into an SVG file
 compare FILE      draws the plans before and after the last change over each other
 help              these lines
 quit              ends the sitting, as the end of the input does
+
+What stands behind a # at the beginning of a word is a comment.
 ";
 
 /// Answers the lines of the input one after another until `quit` or the end. A line that is refused
-/// or not understood is answered too, and the sitting goes on. Lines that are empty or begin with
-/// `#` are passed over. There is a prompt if the standard input is a terminal.
+/// or not understood is answered too, and the sitting goes on. Lines that are empty, but for a
+/// comment, are passed over. There is a prompt if the standard input is a terminal.
 ///
 /// # Errors
 ///
-/// A job that is refused; input that cannot be read, or output that cannot be written.
-pub fn sit(job: &[u8], input: &mut dyn BufRead, output: &mut dyn Write) -> Result<(), Trouble> {
-    let prompt = if std::io::stdin().is_terminal() { "> " } else { "" };
-    let mut sitting = Sitting::open(job)?;
-    output.write_all(sitting.opening().as_bytes())?;
-    loop {
-        output.write_all(prompt.as_bytes())?;
-        output.flush()?;
-        let Some(line) = next_line(input)? else { break };
-        if let Said::Quit = sitting.answer(&line, output)? {
-            return Ok(());
-        }
-    }
-    // What comes next at a terminal does not stand behind the last prompt.
-    if !prompt.is_empty() {
-        writeln!(output)?;
-    }
-    Ok(())
+/// A job that is refused or has no room; input that cannot be read, or output that cannot be
+/// written.
+pub fn sit(job: &Job, input: &mut dyn BufRead) -> Result<(), Failure> {
+    let opened = open(&job.bytes).map_err(|refusal| job.refused(refusal))?;
+    // The session has a table, and a plan is made in another one beside it.
+    job.check_room_to_sit(opened.table_words)?;
+    let sat = Sitting::open(job).map_err(Trouble::from).and_then(|mut of| of.answer_all(input));
+    sat.map_err(|trouble| match trouble {
+        Trouble::Refused(refusal) => job.refused(refusal),
+        _ => trouble.into(),
+    })
 }
 
 /// The next line of the input, if there is one. Bytes that are no text become marks, so that the
 /// line is answered and the sitting goes on.
 fn next_line(input: &mut dyn BufRead) -> Result<Option<String>, Trouble> {
     let mut line = Vec::new();
-    match input.read_until(b'\n', &mut line)? {
-        0 => Ok(None),
-        _ => Ok(Some(String::from_utf8_lossy(&line).into_owned())),
+    match input.read_until(b'\n', &mut line) {
+        Ok(0) => Ok(None),
+        Ok(_) => Ok(Some(String::from_utf8_lossy(&line).into_owned())),
+        Err(error) => Err(Trouble::File(format!("standard input cannot be read: {error}"))),
     }
+}
+
+/// A line up to its comment. A # within a word begins none, since a file may be named so.
+fn without_comment(line: &str) -> &str {
+    let begins = |at: &usize| !line[..*at].ends_with(|before: char| !before.is_whitespace());
+    let comment = line.match_indices('#').map(|(at, _)| at).find(begins);
+    &line[..comment.unwrap_or(line.len())]
+}
+
+/// Prints words at once.
+fn say(words: &str) -> Result<(), Trouble> {
+    files::print(words.as_bytes())
 }
 
 /// Whether the sitting goes on.
@@ -124,7 +136,7 @@ impl Held {
 
 /// A sitting between two lines.
 struct Sitting<'a> {
-    contents: Contents,
+    contents: &'a Contents,
     session: Session<'a>,
     /// The changes that can be taken back, the last one at the end.
     done: Vec<Change>,
@@ -136,12 +148,28 @@ struct Sitting<'a> {
 }
 
 impl<'a> Sitting<'a> {
-    fn open(job: &'a [u8]) -> Result<Sitting<'a>, Trouble> {
-        check_room(open(job)?.table_words)?;
-        let session = Session::open(job)?;
+    fn open(job: &'a Job) -> Result<Sitting<'a>, Refusal> {
+        let (contents, session) = (&job.contents, Session::open(&job.bytes)?);
         let now = Held::of(&session, Aim::Total)?;
-        let contents = contents(job)?;
         Ok(Sitting { contents, session, done: Vec::new(), last: None, before: None, now })
+    }
+
+    /// Answers each line of the input.
+    fn answer_all(&mut self, input: &mut dyn BufRead) -> Result<(), Trouble> {
+        let prompt = if std::io::stdin().is_terminal() { "> " } else { "" };
+        say(&self.opening())?;
+        loop {
+            say(prompt)?;
+            let Some(line) = next_line(input)? else { break };
+            if let Said::Quit = self.answer(&line)? {
+                return Ok(());
+            }
+        }
+        // What comes next at a terminal does not stand behind the last prompt.
+        if !prompt.is_empty() {
+            say("\n")?;
+        }
+        Ok(())
     }
 
     /// The line before the first answer.
@@ -153,72 +181,72 @@ impl<'a> Sitting<'a> {
     }
 
     /// Answers a line.
-    fn answer(&mut self, line: &str, output: &mut dyn Write) -> Result<Said, Trouble> {
-        let line = line.trim();
+    fn answer(&mut self, line: &str) -> Result<Said, Trouble> {
+        let line = without_comment(line).trim();
         let (word, rest) = line.split_once(char::is_whitespace).unwrap_or((line, ""));
         let answer = match (word, rest.trim()) {
             ("", _) => String::new(),
-            _ if word.starts_with('#') => String::new(),
             ("quit", "") => return Ok(Said::Quit),
             ("help", "") => HELP.into(),
             ("list", "") => self.list(),
             ("plan", "") => self.table(self.now.as_ref()),
             ("even", "") => self.table(Held::of(&self.session, Aim::Even)?.as_ref()),
-            ("pin", rest) => return self.pin(rest, output),
-            ("lift", rest) => return self.lift(rest, output),
-            ("undo", "") => return self.undo(output),
+            ("pin", rest) => return self.pin(rest),
+            ("lift", rest) => return self.lift(rest),
+            ("undo", "") => return self.undo(),
+            ("entries", file) if !file.is_empty() => self.entries(file),
             ("picture", file) if !file.is_empty() => self.picture(file),
             ("compare", file) if !file.is_empty() => self.compare(file),
-            ("picture" | "compare", _) => format!("due: {word} FILE\n"),
+            ("entries" | "picture" | "compare", _) => format!("due: {word} FILE\n"),
             ("quit" | "help" | "list" | "plan" | "even" | "undo", rest) => {
                 format!("due: {word} alone, without \"{rest}\"\n")
             }
             _ => format!("\"{word}\" is no command; help lists them\n"),
         };
-        output.write_all(answer.as_bytes())?;
+        say(&answer)?;
         Ok(Said::More)
     }
 
-    fn pin(&mut self, rest: &str, output: &mut dyn Write) -> Result<Said, Trouble> {
+    fn pin(&mut self, rest: &str) -> Result<Said, Trouble> {
         match numbers(rest)[..] {
-            [Some(unit), Some(choice)] => self.change(Change::Pin { unit, choice }, output),
-            _ => due("pin UNIT CHOICE, two whole numbers up to 65535", output),
+            [Some(unit), Some(choice)] => self.change(Change::Pin { unit, choice }),
+            _ => due("pin UNIT CHOICE, two whole numbers up to 65535"),
         }
     }
 
-    fn lift(&mut self, rest: &str, output: &mut dyn Write) -> Result<Said, Trouble> {
+    fn lift(&mut self, rest: &str) -> Result<Said, Trouble> {
         match numbers(rest)[..] {
             [Some(unit)] => {
                 // A unit without a pin is refused, and the choice is then not looked at.
                 let choice = self.session.pin_of(unit).unwrap_or(0);
-                self.change(Change::Lift { unit, choice }, output)
+                self.change(Change::Lift { unit, choice })
             }
-            _ => due("lift UNIT, a whole number up to 65535", output),
+            _ => due("lift UNIT, a whole number up to 65535"),
         }
     }
 
     /// Makes a change that undo can take back.
-    fn change(&mut self, change: Change, output: &mut dyn Write) -> Result<Said, Trouble> {
+    fn change(&mut self, change: Change) -> Result<Said, Trouble> {
         match self.make(change) {
             Ok(()) => {
                 self.done.push(change);
-                self.see(change, output)
+                self.see(change)
             }
             Err(refusal) => {
-                output.write_all(self.refused(refusal, change).as_bytes())?;
+                say(&self.refused(refusal, change))?;
                 Ok(Said::More)
             }
         }
     }
 
-    fn undo(&mut self, output: &mut dyn Write) -> Result<Said, Trouble> {
+    fn undo(&mut self) -> Result<Said, Trouble> {
         let Some(change) = self.done.pop() else {
-            output.write_all(b"nothing is left to undo\n")?;
+            say("nothing is left to undo\n")?;
             return Ok(Said::More);
         };
         self.make(change.back())?;
-        writeln!(output, "{}", change.back().words())?;
-        self.see(change.back(), output)
+        say(&format!("{}\n", change.back().words()))?;
+        self.see(change.back())
     }
 
     fn make(&mut self, change: Change) -> Result<(), Refusal> {
@@ -230,16 +258,15 @@ impl<'a> Sitting<'a> {
 
     /// Tells what a change that was made has brought. The total is known at once and is written
     /// before the plan is made, from which the choices come.
-    fn see(&mut self, change: Change, output: &mut dyn Write) -> Result<Said, Trouble> {
+    fn see(&mut self, change: Change) -> Result<Said, Trouble> {
         let before = self.now.as_ref().map(|held| held.totals.distortion);
         let now = self.session.best_total();
-        writeln!(output, "{}{}", told(now), gained(before, now.map(u64::from)))?;
-        output.flush()?;
+        say(&format!("{}{}\n", told(now), gained(before, now.map(u64::from))))?;
         let held = Held::of(&self.session, Aim::Total)?;
         self.before = std::mem::replace(&mut self.now, held);
         self.last = Some(change.words());
         if let (Some(before), Some(now)) = (&self.before, &self.now) {
-            output.write_all(changed(before, now).as_bytes())?;
+            say(&changed(before, now))?;
         }
         Ok(Said::More)
     }
@@ -261,14 +288,16 @@ impl<'a> Sitting<'a> {
         format!("{}{limit}\n", Trouble::Refused(refusal))
     }
 
+    /// The pins, a line for each, and all of them in one line that other commands take.
     fn list(&self) -> String {
         let pin = |(unit, choice)| format!("unit {unit} at choice {choice}\n");
         let pins: String = self.session.pins().map(pin).collect();
         if pins.is_empty() {
-            "no pins\n".into()
-        } else {
-            pins
+            return "no pins\n".into();
         }
+        let option = |(unit, choice)| format!("--pin {unit}={choice}");
+        let options: Vec<String> = self.session.pins().map(option).collect();
+        format!("{pins}{}\n", options.join(" "))
     }
 
     /// The choices of a plan, a line for each unit, and its totals.
@@ -283,6 +312,11 @@ impl<'a> Sitting<'a> {
         choices + "\n" + &table::totals(&held.totals)
     }
 
+    fn entries(&self, file: &str) -> String {
+        let Some(now) = &self.now else { return "no plan to write\n".into() };
+        save("written", file, &now.entries)
+    }
+
     fn picture(&self, file: &str) -> String {
         let Some(now) = &self.now else { return "no plan to draw\n".into() };
         let title = match now.pins.len() {
@@ -290,24 +324,21 @@ impl<'a> Sitting<'a> {
             1 => "Best plan with 1 pin".to_string(),
             pins => format!("Best plan with {pins} pins"),
         };
-        save(file, &picture::of_plan(&title, &now.shown(&self.contents)))
+        save("drawn", file, picture::of_plan(&title, &now.shown(self.contents)).as_bytes())
     }
 
     fn compare(&self, file: &str) -> String {
         let Some(last) = &self.last else { return "no pin was set or lifted yet\n".into() };
-        let (Some(before), Some(now)) = (&self.before, &self.now) else {
-            return "no plan to draw before the last change or after it\n".into();
+        let (before, now) = match (&self.before, &self.now) {
+            (Some(before), Some(now)) => (before, now),
+            (None, Some(_)) => return "there was no plan before the last change\n".into(),
+            (Some(_), None) => return "there is no plan after the last change\n".into(),
+            (None, None) => return "there is no plan before the last change, nor after\n".into(),
         };
         let title = format!("Before and after: {last}");
-        let [before, now] = [before, now].map(|held| held.shown(&self.contents));
-        save(file, &picture::of_two(&title, &before, &now))
+        let [before, now] = [before, now].map(|held| held.shown(self.contents));
+        save("drawn", file, picture::of_two(&title, &before, &now).as_bytes())
     }
-}
-
-/// Tries whether there is memory for the session's table and for that of a plan beside it.
-fn check_room(words: usize) -> Result<(), Refusal> {
-    let room = Vec::<u32>::new().try_reserve_exact(words.saturating_mul(2));
-    room.map_err(|_| Refusal::TableTooShort)
 }
 
 /// The words of a line as numbers.
@@ -316,8 +347,8 @@ fn numbers(rest: &str) -> Vec<Option<u16>> {
 }
 
 /// Says what should have stood in a line.
-fn due(what: &str, output: &mut dyn Write) -> Result<Said, Trouble> {
-    writeln!(output, "due: {what}")?;
+fn due(what: &str) -> Result<Said, Trouble> {
+    say(&format!("due: {what}\n"))?;
     Ok(Said::More)
 }
 
@@ -353,10 +384,11 @@ fn changed(before: &Held, now: &Held) -> String {
     }
 }
 
-/// Writes a picture to a file. That it cannot be written is told, and the sitting goes on.
-fn save(file: &str, picture: &str) -> String {
-    match std::fs::write(file, picture) {
-        Ok(()) => format!("drawn: {file}\n"),
-        Err(error) => format!("{file}: {error}\n"),
+/// Writes a file, and says with a word what was done. That it cannot be written is told, and the
+/// sitting goes on.
+fn save(done: &str, file: &str, bytes: &[u8]) -> String {
+    match files::write(OsStr::new(file), bytes) {
+        Ok(()) => format!("{done}: {file}\n"),
+        Err(trouble) => format!("{trouble}\n"),
     }
 }

@@ -7,7 +7,7 @@ use crate::fields::{self, Field, Fields, FIELDS, RATES};
 use crate::files;
 use crate::jobs::Job;
 use crate::trouble::{Failure, Trouble};
-use crate::words::{quoted, small, whole};
+use crate::words::{quoted, small, there, whole, NOT_WHOLE};
 
 pub const SHOW: Command = Command {
     name: "show",
@@ -15,6 +15,7 @@ pub const SHOW: Command = Command {
     usage: "JOB",
     files: &["JOB"],
     many: false,
+    writes: false,
     options: &[],
     help: "\
 Prints a job as text, in the form that make reads: lines of a name and its
@@ -37,6 +38,7 @@ pub const MAKE: Command = Command {
     usage: "TEXT JOB",
     files: &["TEXT", "JOB"],
     many: false,
+    writes: true,
     options: &[],
     help: "\
 Makes a job from text and writes its bytes to the file JOB. TEXT is a file, or
@@ -56,10 +58,11 @@ Makes a job from text and writes its bytes to the file JOB. TEXT is a file, or
     2 0 5 12
     2 1 2 40
 
-Above the table each name stands once, in any order. decoder-level and
-bucket-level may be left out and are then 0. Where the carrier has two buckets,
-second-bucket and second-drain stand there too, and second-level may. In the
-table each choice of each unit stands once, in any order.
+Above the table each name stands once, in any order, in small letters or in
+capitals. decoder-level and bucket-level may be left out and are then 0. Where
+the carrier has two buckets, second-bucket and second-drain stand there too,
+and second-level may. In the table each choice of each unit stands once, in any
+order.
 
 Columns are parted by blanks, or by a comma or semicolon, as in the CSV of a
 spreadsheet. What follows # is a comment. An error names the line, the unit,
@@ -74,19 +77,26 @@ Example:
 /// The head of the table.
 const HEAD: [&str; 4] = ["unit", "choice", "grains", "distortion"];
 
+/// Over three times what `show` prints of the largest job: there is room for comments.
+const LONGEST_TEXT: usize = 64_000_000;
+
 const MOST_RATE: u16 = 4095;
 const MOST_GRAINS: u16 = 4095;
 const MOST_DISTORTION: u32 = 1_000_000;
 
 fn show(given: &Given, output: &mut Vec<u8>) -> Result<(), Failure> {
-    let job = Job::stored(&given.files()[0])?;
+    let job = Job::stored_without_pins(&given.files()[0])?;
     output.extend(shown(&job.contents).into_bytes());
     Ok(())
 }
 
 fn make(given: &Given, output: &mut Vec<u8>) -> Result<(), Failure> {
     let [text, job] = given.files() else { unreachable!("make takes two files") };
-    let bytes = files::read(text)?;
+    let bytes = files::read(text, LONGEST_TEXT)?;
+    if bytes.len() > LONGEST_TEXT {
+        let words = format!("the text is longer than {LONGEST_TEXT} bytes");
+        return Err(Trouble::Text(words).about(files::name(text)));
+    }
     // Names and numbers are plain letters and digits; in a comment any bytes may stand.
     let read = job_of(&String::from_utf8_lossy(&bytes));
     let made = read.map_err(|failure| failure.within(&files::name(text)))?;
@@ -192,7 +202,7 @@ impl Above {
     fn read<'a>(lines: &mut impl Iterator<Item = Line<'a>>) -> Result<Above, Trouble> {
         let mut above = Above::default();
         for line in lines {
-            if line.cells == HEAD {
+            if is_head(&line.cells) {
                 above.check(line.number)?;
                 return Ok(above);
             }
@@ -206,8 +216,8 @@ impl Above {
         let Some(field) = fields::named(name) else {
             return Err(wrong(line.number, unknown(name)));
         };
-        if let Some(place) = self.fields.place(name) {
-            return Err(wrong(line.number, format!("{name} was given before, in {place}")));
+        if let Some(place) = self.fields.place(field.name) {
+            return Err(wrong(line.number, format!("{} was given before, in {place}", field.name)));
         }
         match field.name {
             RATES => self.take_rates(field, line.number, values),
@@ -221,12 +231,12 @@ impl Above {
         line: usize,
         values: &[&str],
     ) -> Result<(), Trouble> {
-        let (name, count) = (field.name, values.len());
+        let (name, count) = (field.name, there(values.len()));
         let [word] = values else {
-            return Err(wrong(line, format!("{name} takes one number, and {count} are there")));
+            return Err(wrong(line, format!("{name} takes one number, and {count}")));
         };
         let Some(number) = small(word) else {
-            return Err(wrong(line, format!("{name} {} is no whole number", quoted(word))));
+            return Err(wrong(line, format!("{name} {} {NOT_WHOLE}", quoted(word))));
         };
         self.fields.give(field, number, format!("line {line}: {name} {word}"));
         Ok(())
@@ -269,6 +279,12 @@ impl Above {
     }
 }
 
+/// Whether this is the head of the table, which may be written with capitals.
+fn is_head(cells: &[&str]) -> bool {
+    let mut both = cells.iter().zip(HEAD);
+    cells.len() == HEAD.len() && both.all(|(cell, name)| cell.eq_ignore_ascii_case(name))
+}
+
 fn unknown(name: &str) -> String {
     let names: Vec<&str> = FIELDS.iter().map(|field| field.name).collect();
     let (names, head) = (names.join(", "), HEAD.join(" "));
@@ -283,7 +299,7 @@ fn within(
     most: u32,
 ) -> Result<u32, Trouble> {
     let Some(number) = whole(word) else {
-        return Err(Trouble::Text(format!("{place} {} is no whole number", quoted(word))));
+        return Err(Trouble::Text(format!("{place} {} {NOT_WHOLE}", quoted(word))));
     };
     if number < least.into() {
         return Err(Trouble::Text(format!("{place} {word} is under {least}")));
@@ -321,10 +337,10 @@ impl Table {
     }
 
     fn take(&mut self, line: &Line) -> Result<(), Trouble> {
-        let (number, count) = (line.number, line.cells.len());
+        let (number, count) = (line.number, there(line.cells.len()));
         let [unit, choice, grains, distortion] = line.cells[..] else {
             let due = HEAD.join(", ");
-            return Err(wrong(number, format!("4 columns are due, {due}, and {count} are there")));
+            return Err(wrong(number, format!("4 columns are due, {due}, and {count}")));
         };
         let unit = within(&format_args!("line {number}: unit"), unit, 1, self.units as u32)?;
         let place = format_args!("line {number}: unit {unit}, choice");

@@ -1,7 +1,6 @@
 //! What keeps a command from doing what it was asked for.
 
 use std::fmt;
-use std::io;
 
 use upload_planner::{PlaylistRefusal, Refusal};
 
@@ -52,12 +51,6 @@ impl fmt::Display for Trouble {
 impl From<Refusal> for Trouble {
     fn from(refusal: Refusal) -> Trouble {
         Trouble::Refused(refusal)
-    }
-}
-
-impl From<io::Error> for Trouble {
-    fn from(error: io::Error) -> Trouble {
-        Trouble::File(error.to_string())
     }
 }
 

@@ -13,6 +13,17 @@ pub fn small(word: &str) -> Option<u16> {
     whole(word).map(|number| u16::try_from(number).unwrap_or(u16::MAX))
 }
 
+/// What is wrong with a word that is no whole number.
+pub const NOT_WHOLE: &str = "is no whole number from 0";
+
+/// How many of something are there, for a message.
+pub fn there(count: usize) -> String {
+    match count {
+        1 => "1 is there".to_string(),
+        _ => format!("{count} are there"),
+    }
+}
+
 /// A word for a message: the first forty characters, in quotes, of which none is sent as it is that
 /// a terminal would obey.
 pub fn quoted(word: &str) -> String {

@@ -177,12 +177,14 @@ impl Sheet<'_> {
     fn distortion(&self, svg: &mut Svg, (top, bottom): (Tenths, Tenths)) {
         let each = self.layers.iter().map(|layer| &layer.course.distortions.values[..]);
         let all: Vec<u32> = each.collect::<Vec<_>>().concat();
-        let mut panel = self.panel(svg, "distortion", Scale::logarithmic(top, bottom, &all));
+        let scale = Scale::logarithmic(top, bottom, &all);
+        let name = format!("Distortion{}", scale.remark());
+        let mut panel = self.panel(svg, "distortion", scale);
         for layer in self.layers {
             panel.steps("distortion", &layer.course.distortions, layer.ink);
         }
         let signs = self.signs("distortion", " of the unit", Sample::Line);
-        self.end(panel, "Distortion (logarithmic)", &signs);
+        self.end(panel, &name, &signs);
     }
 
     /// Begins a panel.

@@ -17,8 +17,9 @@ pub const ROW: Tenths = 180;
 /// The height of the title, over the lines of the head.
 pub const HEAD: Tenths = 380;
 
-/// A title is cut to so many characters, which fit in the width of a picture.
-const TITLE: usize = 80;
+/// Of a longer title so many characters are shown of its beginning, and as many of its end. They
+/// fit in the width of a picture even where all are capital W.
+const TITLE_PART: usize = 27;
 
 /// A character is taken to be this wide, which is more than most are.
 const CHARACTER: Tenths = 70;
@@ -238,16 +239,24 @@ impl Panel<'_> {
 
 /// The title of a picture and the lines under it.
 pub fn head(svg: &mut Svg, title: &str, lines: &[String]) {
-    let mut shown: String = title.chars().take(TITLE).collect();
-    if title.chars().count() > TITLE {
-        shown.push('\u{2026}');
-    }
     svg.open("id=\"head\"");
-    svg.text((200, 340), Anchor::Start, "font-size=\"20\" font-weight=\"bold\"", &shown);
+    let attributes = "font-size=\"16\" font-weight=\"bold\"";
+    svg.text((200, 340), Anchor::Start, attributes, &shortened(title));
     for (row, line) in (1..).zip(lines) {
         svg.text((200, HEAD + ROW * row), Anchor::Start, "", line);
     }
     svg.close();
+}
+
+/// A title, or of a long one its two ends: the beginning says what it is about, and the end of a
+/// path is the name of the file.
+fn shortened(title: &str) -> String {
+    let characters: Vec<char> = title.chars().collect();
+    if characters.len() <= 2 * TITLE_PART + 1 {
+        return title.to_string();
+    }
+    let (first, last) = (&characters[..TITLE_PART], &characters[characters.len() - TITLE_PART..]);
+    first.iter().chain(&['\u{2026}']).chain(last).collect()
 }
 
 /// The sample of a legend, at the left of its words.

@@ -54,15 +54,34 @@ impl Scale {
         Scale { top, bottom, least, greatest, last, kind: Kind::Linear }
     }
 
-    /// By ratios, between two of the numbers 1, 2, 5, 10, 20 and so on.
+    /// By ratios, between two of the numbers 1, 2, 5, 10, 20 and so on. Where 0 is among the values
+    /// it has its place at the foot; the scale then begins far enough below the greatest value for
+    /// this one to stand high. Under ten there is no such number, and differences are shown.
     pub fn logarithmic(top: Tenths, bottom: Tenths, values: &[u32]) -> Scale {
+        let zero = values.contains(&0);
+        let most = values.iter().copied().max().unwrap_or(0);
+        if zero && most < 10 {
+            return Scale::from_zero(top, bottom, most.max(1));
+        }
         let least = values.iter().copied().filter(|value| *value > 0).min().unwrap_or(1);
-        let greatest = values.iter().copied().max().unwrap_or(0);
-        let least = round_numbers().take_while(|number| *number <= least).last().unwrap_or(1);
-        let greatest = round_numbers().find(|number| *number >= greatest && *number > least);
+        let least = if zero {
+            decade(least).min(decade(most) / 10)
+        } else {
+            round_numbers().take_while(|number| *number <= least).last().unwrap_or(1)
+        };
+        let greatest = round_numbers().find(|number| *number >= most && *number > least);
         let greatest = greatest.expect("the largest round number is over every distortion");
-        let kind = Kind::Logarithmic { zero: values.contains(&0) };
-        Scale { top, bottom, least, greatest, last: greatest, kind }
+        Scale { top, bottom, least, greatest, last: greatest, kind: Kind::Logarithmic { zero } }
+    }
+
+    /// What a reader has to know of the scale, to stand behind the name of the panel.
+    pub fn remark(&self) -> &'static str {
+        match self.kind {
+            Kind::Logarithmic { zero: true } => " (logarithmic, 0 at the foot)",
+            Kind::Logarithmic { zero: false } => " (logarithmic)",
+            Kind::Linear if self.least > 0 => " (axis not from 0)",
+            Kind::Linear => "",
+        }
     }
 
     /// Where a value stands; one that is off the scale stands at its end.
@@ -185,7 +204,12 @@ fn round_numbers() -> impl Iterator<Item = u32> {
 }
 
 fn is_power_of_ten(number: u32) -> bool {
-    10_u32.pow(number.ilog10()) == number
+    decade(number) == number
+}
+
+/// The greatest power of ten up to a number from 1 on.
+fn decade(number: u32) -> u32 {
+    10_u32.pow(number.ilog10())
 }
 
 /// A quotient of numbers from 0 on, to the nearest whole number, halves up.

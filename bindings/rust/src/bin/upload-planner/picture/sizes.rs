@@ -53,10 +53,12 @@ fn draw_totals(
     if skipped > 0 {
         signs.push((Sample::Shade, "no plan".into()));
     }
-    panel.legend("Distortion (axis not from 0)", &signs);
+    let name = format!("Distortion{}", panel.scale.remark());
+    panel.legend(&name, &signs);
 }
 
-/// What the list says in words: its first total, and from where on nothing is gained.
+/// What the list says in words: its first total, and from where on nothing is gained, in one line
+/// where that is from the first on.
 fn lines(totals: &[(u16, Option<u32>)]) -> Vec<String> {
     let mut planned = totals.iter().filter_map(|(size, total)| Some((*size, (*total)?)));
     let Some((first, total)) = planned.next() else {
@@ -67,5 +69,10 @@ fn lines(totals: &[(u16, Option<u32>)]) -> Vec<String> {
     let [total, least] = [total, least].map(|total| grouped(total.into()));
     let largest = totals.last().map_or(first, |of| of.0);
     let on = if enough < largest { " and larger" } else { "" };
-    vec![format!("size {first}: total {total}"), format!("size {enough}{on}: total {least}")]
+    let last = format!("size {enough}{on}: total {least}");
+    if enough > first {
+        vec![format!("size {first}: total {total}"), last]
+    } else {
+        vec![last]
+    }
 }
