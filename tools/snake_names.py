@@ -53,7 +53,9 @@ def read(path):
 
 
 def of_a_function(path):
-    return os.path.basename(path) in OWN_PROOFS and os.path.basename(os.path.dirname(path)) != "proofs"
+    """A function's own proof, and not a file of specs/ that is called Answers."""
+    above = os.path.dirname(path)
+    return os.path.basename(path) in OWN_PROOFS and os.path.basename(above) not in ("proofs", "specs")
 
 
 def snake(name):

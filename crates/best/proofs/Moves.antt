@@ -39,7 +39,7 @@ use Rattle.table.specs.declared.Limit.{Limit}
 use Rattle.line.specs.declared.Candidate.{Candidate}
 use Rattle.decoder.specs.Answers.{coding_if}
 use Rattle.line.specs.Answers.{line_is, candidate_is, IntervalOf, step_of}
-use Rattle.table.specs.Answers.{job-on, open_of, allowed_is, ChoicesFit, CandidateOf, ChoicesIn, ChoicesOf, Starts}
+use Rattle.table.specs.Answers.{job_on, open_of, allowed_is, ChoicesFit, CandidateOf, ChoicesIn, ChoicesOf, Starts}
 use Rattle.best.specs.Answers.{Layered, Reached, chosen, Standing, Moves, BestMove}
 use Rattle.line.proofs.Sizes.{rates_count}
 use Rattle.table.proofs.Jobs.{choices_on}
@@ -70,7 +70,7 @@ one_end s u e = some-injective s u (ap reached e)
 
 module _ (o : Order) (b : List ℕ) (h : Header) (l : Line) (pins : List ℕ) (limit : Limit) (table : List ℕ) (place : ℕ) (at : Levels) (asks : Moves b (plain h) l pins limit table place (levels_of at)) where
   abbrev J : model.Job
-  J = job-on b l
+  J = job_on b l
 
   abbrev M : Open
   M = open_of (lines h.units pins) limit

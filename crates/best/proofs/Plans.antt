@@ -25,12 +25,12 @@ use Rattle.base.proofs.Lent.{over_behind, over_at_length}
 use Rattle.entry.specs.Answers.{entry_numbers}
 use Rattle.line.specs.declared.Line.{Line}
 use Rattle.line.specs.Answers.{line_is, BuffersFit}
-use Rattle.table.specs.Answers.{job-on}
+use Rattle.table.specs.Answers.{job_on}
 use Rattle.best.specs.declared.Move.{Move}
 use Rattle.best.specs.Answers.{Standing, BestMove, PlanRead}
 
 -- the buckets of a line, and what they drain
-pub line_buckets : (b : List ℕ) (l : Line) → (line_of l.buffers []).buckets ≡ (job-on b l).line.buckets
+pub line_buckets : (b : List ℕ) (l : Line) → (line_of l.buffers []).buckets ≡ (job_on b l).line.buckets
 unfolding on_line line_is line_of
 line_buckets b l = refl
 

@@ -6,8 +6,8 @@ use Rattle.trellis.specs.Table.{first_at}
 use Rattle.base.specs.If.{if◌then◌else◌}
 use Rattle.model.specs.Job as model
 use Rattle.model.specs.Step.{reaches, after_sending}
-use Rattle.model.specs.Replay as model-replay
-use Rattle.model.specs.Best as model-best
+use Rattle.model.specs.Replay as model_replay
+use Rattle.model.specs.Best as model_best
 use Rattle.model.specs.Best.{late, early, Open, pairs, least_total, best_plan}
 use Rattle.model.specs.Table.{InLayer, layer_words, words, layer_of, word_in}
 use Rattle.format.specs.Choices.{choice_of}
@@ -29,9 +29,9 @@ use Rattle.table.specs.declared.Choices.{Choices}
 use Rattle.table.specs.declared.Limit.{Limit}
 use Rattle.best.specs.declared.Move.{Move}
 use Rattle.line.specs.Answers.{line_is, LineFits, step_of}
-use Rattle.table.specs.Answers.{job-on, open_of, allowed_is, ChoicesFit, Starts}
+use Rattle.table.specs.Answers.{job_on, open_of, allowed_is, ChoicesFit, Starts}
 
-unfoldable pub order_is : Order → model-best.Order
+unfoldable pub order_is : Order → model_best.Order
 order_is o.Late = late
 order_is o.Early = early
 
@@ -45,12 +45,12 @@ pub record Offers (next : List ℕ) (l : Line) (b : List ℕ) (h : format.Header
   pub count : length s.buckets ≡ length (line_is l).buckets
 
 -- some pair attains the word
-pub record Attained (o : model-best.Order) (line : model.Line) (n : ℕ) (allowed : Allowed) (next : List ℕ) (s : model.Levels) (word : ℕ) : Type 0 where
+pub record Attained (o : model_best.Order) (line : model.Line) (n : ℕ) (allowed : Allowed) (next : List ℕ) (s : model.Levels) (word : ℕ) : Type 0 where
   pub pick : Pair
   pub first : first_at (pair_offer ◌+◌ line allowed (word_in line next) s) word (pairs o (length line.rates) n) ≡ some pick
 
 -- the layers on both sides of an interval, and levels whose word an entry attains
-pub record Layered (o : model-best.Order) (table : List ℕ) (l : Line) (b : List ℕ) (h : format.Header) (c : Choices) (place : ℕ) (s : model.Levels) : Type 0 where
+pub record Layered (o : model_best.Order) (table : List ℕ) (l : Line) (b : List ℕ) (h : format.Header) (c : Choices) (place : ℕ) (s : model.Levels) : Type 0 where
   pub line : LineFits l
   pub choices : ChoicesFit b h c
   pub few : place < 600
@@ -82,11 +82,11 @@ pub record Standing (j : model.Job) (k : Open) (t : ℕ) (s : model.Levels) : Ty
 pub record Moves (b : List ℕ) (h : format.Header) (l : Line) (pins : List ℕ) (limit : Limit) (table : List ℕ) (place : ℕ) (s : model.Levels) : Type 0 where
   pub starts : Starts b h l pins
   pub before : place < h.units + h.delay
-  pub table_is : Tabled (job-on b l) (open_of (lines h.units pins) limit) place table
-  pub stands : Standing (job-on b l) (open_of (lines h.units pins) limit) place s
+  pub table_is : Tabled (job_on b l) (open_of (lines h.units pins) limit) place table
+  pub stands : Standing (job_on b l) (open_of (lines h.units pins) limit) place s
 
 -- the first entry of the best plan from these levels, with what it does and where it leads
-pub record BestMove (j : model.Job) (k : Open) (o : model-best.Order) (place : ℕ) (s : model.Levels) (x : Move) : Type 0 where
+pub record BestMove (j : model.Job) (k : Open) (o : model_best.Order) (place : ℕ) (s : model.Levels) (x : Move) : Type 0 where
   pub entry : model.Entry
   pub rate : entry.rate ≡ x.rate
   pub choice : entry.choice ≡ choice_of x.choice
@@ -99,11 +99,11 @@ pub record BestMove (j : model.Job) (k : Open) (o : model-best.Order) (place : �
 pub record ReadsOff (b : List ℕ) (h : format.Header) (l : Line) (pins : List ℕ) (limit : Limit) (table : List ℕ) (first : ℕ) (s : model.Levels) (entries : List ℕ) : Type 0 where
   pub starts : Starts b h l pins
   pub few : first ≤ h.units + h.delay
-  pub table_is : Tabled (job-on b l) (open_of (lines h.units pins) limit) first table
-  pub stands : Standing (job-on b l) (open_of (lines h.units pins) limit) first s
+  pub table_is : Tabled (job_on b l) (open_of (lines h.units pins) limit) first table
+  pub stands : Standing (job_on b l) (open_of (lines h.units pins) limit) first s
   pub room : entry_size * (h.units + h.delay - first) ≤ length entries
 
 -- the best plan, written over the first entries, and its totals
-pub record PlanRead (j : model.Job) (k : Open) (o : model-best.Order) (first : ℕ) (s : model.Levels) (old : List ℕ) (t : Totals) (new : List ℕ) : Type 0 where
-  pub totals_are : totals_of t ≡ model-replay.totals j first s (best_plan j k first s o)
+pub record PlanRead (j : model.Job) (k : Open) (o : model_best.Order) (first : ℕ) (s : model.Levels) (old : List ℕ) (t : Totals) (new : List ℕ) : Type 0 where
+  pub totals_are : totals_of t ≡ model_replay.totals j first s (best_plan j k first s o)
   pub written : new ≡ over (entry_bytes (best_plan j k first s o)) old

@@ -12,7 +12,7 @@ ghost use Rattle.pinning.specs.PinSet.{lines};
 ghost use Rattle.interval.specs.Answers.{levels_of};
 ghost use Rattle.planning.specs.Rule.{pair_offer};
 ghost use Rattle.line.specs.Answers.{line_is, step_of};
-ghost use Rattle.table.specs.Answers.{job-on, open_of, allowed_is};
+ghost use Rattle.table.specs.Answers.{job_on, open_of, allowed_is};
 ghost use Rattle.best.specs.Answers.{order_is, Offers, Attained, Layered, Reached, chosen, Moves, BestMove, ReadsOff, PlanRead};
 
 use header::{Choice, Header};
@@ -150,7 +150,7 @@ fn best_move(
     at: Levels,
 ) -> Move
     requires { Moves job.now (plain header) line pins.now limit table.now place (levels_of at) }
-    ensures { BestMove (job-on job.now line) (open_of (lines header.units pins.now) limit) (order_is order) place (levels_of at) result }
+    ensures { BestMove (job_on job.now line) (open_of (lines header.units pins.now) limit) (order_is order) place (levels_of at) result }
 {
     let choices = table::choices_in(header, pins, limit, place);
     let pick = best_entry(order, table, line, job, header, choices, place, at);
@@ -183,7 +183,7 @@ pub fn read_off(
     entries: &mut [u8],
 ) -> Totals
     requires { ReadsOff job.now (plain header) line pins.now limit table.now first (levels_of start) entries.old }
-    ensures { PlanRead (job-on job.now line) (open_of (lines header.units pins.now) limit) (order_is order) first (levels_of start) entries.old result entries.new }
+    ensures { PlanRead (job_on job.now line) (open_of (lines header.units pins.now) limit) (order_is order) first (levels_of start) entries.old result entries.new }
 {
     let total = entry::intervals(header);
     let mut at = start;

@@ -21,7 +21,7 @@ use Rattle.calling.specs.Sessions.{calls_refusal, calls_call}
 use Rattle.calls.specs.declared.Called.{Called}
 use Rattle.calls.specs.declared.Called.TheVariants as calls
 use Rattle.calls.specs.declared.PinTotals.{PinTotals}
-use Rattle.calls.specs.Answers.{called-answer}
+use Rattle.calls.specs.Answers.{called_answer}
 use Rattle.calls.specs.Answers as numbers
 use Rattle.values.specs.Lists.{opened_values, pins_list}
 use Rattle.exporting.specs.Exports.{number_of, opened, open_export, called, after_calls, calls_export}
@@ -68,9 +68,9 @@ module _ (job ks answers values : List ℕ) where
       on_calls = behind (λ n. called n answers values) (calls_refusal job ks (length answers)) 3 values _ e room ∙ rw (← i)
 
       pub calls_refused : (n : ℕ) → x ≡ calls.Refused n → called n a values ≡ calls_export job ks answers values
-      unfolding after_calls numbers.called called-answer number_of put
+      unfolding after_calls numbers.called called_answer number_of put
       calls_refused n q = sym (on_calls ∙ rw q)
 
       pub calls_done : (t : PinTotals) → x ≡ calls.Done t → (new : List ℕ) → new ≡ over (t.count ∷ t.size ∷ t.distortion ∷ []) values → called 0 a new ≡ calls_export job ks answers values
-      unfolding after_calls numbers.called called-answer number_of put pins_list
+      unfolding after_calls numbers.called called_answer number_of put pins_list
       calls_done t q new w = sym (on_calls ∙ rw (q, w))

@@ -11,12 +11,12 @@ use Rattle.calls.specs.declared.Called.{Called}
 use Rattle.calls.specs.declared.Called.TheVariants as c
 
 -- the answer of calls alone: the totals of the set that they leave, and the list that was lent
-unfoldable pub called-answer : Called → Answer PinTotals
-called-answer (c.Done t) = gives (record { count = t.count; size = t.size; distortion = t.distortion })
-called-answer (c.Refused n) = refused n
+unfoldable pub called_answer : Called → Answer PinTotals
+called_answer (c.Done t) = gives (record { count = t.count; size = t.size; distortion = t.distortion })
+called_answer (c.Refused n) = refused n
 
 unfoldable pub called : Called → List ℕ → Ended PinTotals
-called x answers = record { answer = called-answer x; list = answers }
+called x answers = record { answer = called_answer x; list = answers }
 
 -- the calls' numbers are written over the first of the answers, and the set is the last that was handed back
 pub record Made (b calls old : List ℕ) (s : code_set.PinSet) (new : List ℕ) : Type 0 where

@@ -26,7 +26,7 @@ use Rattle.interval.specs.declared.Totals.{Totals}
 use Rattle.interval.specs.Answers.{levels_of, totals_of}
 use Rattle.line.specs.declared.Line.{Line}
 use Rattle.line.specs.Answers.{line_is}
-use Rattle.table.specs.Answers.{job-on}
+use Rattle.table.specs.Answers.{job_on}
 use Rattle.replaying.specs.Entries.{entry_size, shaped}
 use Rattle.replaying.proofs.Entries.{shapes}
 use Rattle.replay.proofs.Levels.{bucket_count}
@@ -47,12 +47,12 @@ module _ (b : List ℕ) (h : Header) (l : Line) (p : PinSet) (m : PinMap) (old :
       let o = f.plan.opens in
       let n = intervals_are b h o in
       let i = carried_inside J m old s g.some_entry (omega (arith, g.less, n)) (start_inside J (job_limits b h o)) g.clean in
-      let k = ((shapes J (omega (arith, (job_limits b h o).choices)) (omega (arith, (job_limits b h o).rates))).shaped_iff old).0 (rw o.header_is f.plan.in-shape) in
+      let k = ((shapes J (omega (arith, (job_limits b h o).choices)) (omega (arith, (job_limits b h o).rates))).shaped_iff old).0 (rw o.header_is f.plan.in_shape) in
       record {
         searches = record {
           limits = record {
             from = record {
-              starts = record { opens = o; line = f.line; pins-size = f.ready.size };
+              starts = record { opens = o; line = f.line; pins_size = f.ready.size };
               few = omega (arith, g.less);
               inside = rw w.levels (record {
                 decoder = omega (arith, i.decoder, decoder_is b h o, f.decoder);
@@ -65,11 +65,11 @@ module _ (b : List ℕ) (h : Header) (l : Line) (p : PinSet) (m : PinMap) (old :
           space = omega (arith, g.space, g.less, length-drop (entry_size * s) entries);
         };
         small = w.small;
-        old-long = omega (arith, k.size, n, g.less);
+        old_long = omega (arith, k.size, n, g.less);
         space = omega (arith, g.space, g.less);
       }
 
-pub over_in : (b : List ℕ) (l : Line) (m : PinMap) (old : List ℕ) (s : ℕ) (at : Levels) (sum : Totals) (table entries : List ℕ) (o : Order) → Led (job_in b) m s old at sum → behind (totals_of sum) (take (3 * s) old) entries (search_in (job-on b l) m total o s (levels_of at) table (drop (3 * s) entries)) ≡ change_in (job_in b) (job-on b l) m old s o table entries
+pub over_in : (b : List ℕ) (l : Line) (m : PinMap) (old : List ℕ) (s : ℕ) (at : Levels) (sum : Totals) (table entries : List ℕ) (o : Order) → Led (job_in b) m s old at sum → behind (totals_of sum) (take (3 * s) old) entries (search_in (job_on b l) m total o s (levels_of at) table (drop (3 * s) entries)) ≡ change_in (job_in b) (job_on b l) m old s o table entries
 unfolding change_in
 over_in b l m old s at sum table entries o w = rw (w.totals_are, w.levels)
 

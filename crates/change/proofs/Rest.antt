@@ -23,7 +23,7 @@ use Rattle.interval.specs.declared.Totals.{Totals}
 use Rattle.interval.specs.Answers.{totals_of, line_of}
 use Rattle.line.specs.declared.Line.{Line}
 use Rattle.line.specs.Answers.{line_is, LineFits}
-use Rattle.table.specs.Answers.{job-on}
+use Rattle.table.specs.Answers.{job_on}
 use Rattle.best.proofs.Plans.{drains_most}
 use Rattle.replaying.specs.Entries.{entry_size}
 use Rattle.planning.specs.Calls as calls
@@ -69,7 +69,7 @@ module _ (j : Job) (m : PinMap) (o : Order) (s : ℕ) (at : model.Levels) (table
 -- the totals of both parts fit
 module _ (b : List ℕ) (h : Header) (l : Line) (pins : List ℕ) (s : ℕ) (at : model.Levels) (before : Totals) (old table entries : List ℕ) (c : Continues b h l pins s at before old table entries) (m : PinMap) (o : Order) where
   abbrev J : Job
-  J = job-on b l
+  J = job_on b l
 
   opens : Opens b h
   opens = c.searches.limits.from.starts.opens

@@ -24,7 +24,7 @@ use Rattle.interval.specs.Answers.{levels_of, totals_of}
 use Rattle.line.specs.declared.Line.{Line}
 use Rattle.line.specs.Answers.{line_is}
 use Rattle.line.proofs.Sizes.{layer_size}
-use Rattle.table.specs.Answers.{job-on, words_over}
+use Rattle.table.specs.Answers.{job_on, words_over}
 use Rattle.replaying.specs.Entries.{entry_size}
 use Rattle.front.specs.declared.Front.{Front}
 use Rattle.front.specs.declared.Front.TheVariants as f
@@ -59,7 +59,7 @@ module _ (b : List ℕ) (h : Header) (l : Line) (o : Opens b h) (m : PinMap) (ol
   J = job_in b
 
   abbrev K : Job
-  K = job-on b l
+  K = job_on b l
 
   count : intervals J ≡ h.units + h.delay
   count = intervals_are b h o
@@ -102,10 +102,10 @@ pub record Passed (b : List ℕ) (h : Header) (l : Line) (m : PinMap) (old : Lis
   pub less : s < h.units + h.delay
   pub clean : is_clean (front (job_in b) m s old).result ≡ true
   pub fits : none_over (overfull (line_is l).buckets (carried (job_in b) m s old).buckets) ≡ true
-  pub room : words (job-on b l) ≤ table
+  pub room : words (job_on b l) ≤ table
   pub space : entry_size * (h.units + h.delay) ≤ entries
 
-pub passed : (b : List ℕ) (h : Header) (l : Line) (o : Opens b h) (m : PinMap) (old : List ℕ) (s table entries : ℕ) → refusal (rest_tests (job_in b) (job-on b l) m old s table entries) ≡ none → Passed b h l m old s table entries
+pub passed : (b : List ℕ) (h : Header) (l : Line) (o : Opens b h) (m : PinMap) (old : List ℕ) (s table entries : ℕ) → refusal (rest_tests (job_in b) (job_on b l) m old s table entries) ≡ none → Passed b h l m old s table entries
 unfolding rest_tests on_line
 passed b h l o m old s table entries e =
     let n = intervals_are b h o in

@@ -17,7 +17,7 @@ use Rattle.format.specs.JobBytes.{Policed, Header, bucket_of, opening, drain_lim
 use Rattle.format.proofs.Opened.{decoder_is}
 use Rattle.header.specs.Answers.{extra}
 use Rattle.line.specs.declared.Line as code
-use Rattle.table.specs.Answers.{job-on}
+use Rattle.table.specs.Answers.{job_on}
 use Rattle.replaying.specs.Entries.{shaped}
 use Rattle.replay.proofs.Levels.{bucket_count}
 use Rattle.contract.specs.Answers.{contract, LineUnder}
@@ -49,7 +49,7 @@ module _ (b : List ℕ) (h : Header) (o : Opens b h) (m : PinMap) (old : List �
   abbrev J : Job
   J = job_in b
 
-  pub over_same : (l : code.Line) → LineUnder h c l → job-on b l ≡ under J c
+  pub over_same : (l : code.Line) → LineUnder h c l → job_on b l ≡ under J c
   over_same l u = ap (on_line J) (u.is ∙ unfold line_under in (rw (decoder_is b h o)))
 
   pub is_14 : shaped h old ≡ false → some 14 ≡ refusal (change_tests J m old s c table entries)
@@ -71,6 +71,6 @@ module _ (b : List ℕ) (h : Header) (o : Opens b h) (m : PinMap) (old : List �
         unfolding change_tests
         is_4 e = sym (refusal_past _ _ (rw o.header_is shape) ∙ refusal_past _ _ (rw (bucket_count b h o ∙ sym q) offered) ∙ refusal_past _ _ draining ∙ refusal_here _ _ e)
 
-        pub is_rest : each_kept (rate_limits 0 c.rates) ≡ true → (l : code.Line) → LineUnder h c l → (r : Option ℕ) → r ≡ refusal (rest_tests J (job-on b l) m old s table entries) → r ≡ refusal (change_tests J m old s c table entries)
+        pub is_rest : each_kept (rate_limits 0 c.rates) ≡ true → (l : code.Line) → LineUnder h c l → (r : Option ℕ) → r ≡ refusal (rest_tests J (job_on b l) m old s table entries) → r ≡ refusal (change_tests J m old s c table entries)
         unfolding change_tests
         is_rest e l u r w = w ∙ ap (λ (k : Job). refusal (rest_tests J k m old s table entries)) (over_same l u) ∙ sym (refusal_past _ _ (rw o.header_is shape) ∙ refusal_past _ _ (rw (bucket_count b h o ∙ sym q) offered) ∙ refusal_past _ _ draining ∙ refusal_past _ _ e)

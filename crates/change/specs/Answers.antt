@@ -12,7 +12,7 @@ use Rattle.interval.specs.declared.Totals.{Totals}
 use Rattle.interval.specs.Answers.{totals_of}
 use Rattle.line.specs.declared.Line.{Line}
 use Rattle.line.specs.Answers.{line_is, LineFits}
-use Rattle.table.specs.Answers.{job-on}
+use Rattle.table.specs.Answers.{job_on}
 use Rattle.course.specs.Answers.{Shaped}
 use Rattle.front.specs.Answers.{SmallTotals}
 use Rattle.planner.specs.Answers.{Searches}
@@ -32,7 +32,7 @@ pub record Adds (a b : Totals) : Type 0 where
 pub record Continues (b : List ℕ) (h : format.Header) (l : Line) (pins : List ℕ) (first : ℕ) (at : model.Levels) (before : Totals) (old table entries : List ℕ) : Type 0 where
   pub searches : Searches b h l pins first at table (drop (entry_size * first) entries)
   pub small : SmallTotals first before
-  pub old-long : entry_size * first ≤ length old
+  pub old_long : entry_size * first ≤ length old
   pub space : entry_size * first ≤ length entries
 
 -- an old plan in shape of a job that the set matches, and a line with the same decoder and as many buckets
@@ -45,7 +45,7 @@ pub record Follows (b : List ℕ) (h : format.Header) (l : Line) (p : PinSet) (o
 
 -- nothing refuses to plan the rest over the line, with lists of these lengths
 abbrev pub Passes : List ℕ → Line → PinSet → List ℕ → ℕ → ℕ → ℕ → Type 0
-Passes b l p old s table entries = refusal (rest_tests (job_in b) (job-on b l) (lines (length (job_in b).units) p.pins) old s table entries) ≡ none
+Passes b l p old s table entries = refusal (rest_tests (job_in b) (job_on b l) (lines (length (job_in b).units) p.pins) old s table entries) ≡ none
 
 -- a change for a job that the set matches
 unfoldable pub changed_for : List ℕ → PinSet → List ℕ → ℕ → Contract → Order → List ℕ → List ℕ → Planned

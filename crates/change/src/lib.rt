@@ -13,7 +13,7 @@ ghost use Rattle.pinning.specs.PinSet.{lines};
 ghost use Rattle.pinning.specs.Check.{Ready};
 ghost use Rattle.pinset.specs.Answers.{set_of};
 ghost use Rattle.interval.specs.Answers.{levels_of, totals_of, line_of};
-ghost use Rattle.table.specs.Answers.{job-on};
+ghost use Rattle.table.specs.Answers.{job_on};
 ghost use Rattle.best.specs.Answers.{order_is};
 ghost use Rattle.planning.specs.Calls.{search_in};
 ghost use Rattle.planner.specs.Answers.{planned};
@@ -94,7 +94,7 @@ fn plan_rest(
     entries: &mut [u8],
 ) -> Planned
     requires { Continues job.now (plain header) line pins.now first (levels_of at) before old.now table.old entries.old }
-    ensures { planned result table.new entries.new ≡ behind (totals_of before) (take (3 * first) old.now) entries.old (search_in (job-on job.now line) (lines header.units pins.now) total (order_is order) first (levels_of at) table.old (drop (3 * first) entries.old)) }
+    ensures { planned result table.new entries.new ≡ behind (totals_of before) (take (3 * first) old.now) entries.old (search_in (job_on job.now line) (lines header.units pins.now) total (order_is order) first (levels_of at) table.old (drop (3 * first) entries.old)) }
 {
     let start = entry::SIZE * first;
     match planner::search(
@@ -129,7 +129,7 @@ fn rest_verdict(
     entries: usize,
 ) -> Verdict
     requires { Follows job.now (plain header) line (set_of set) old.now }
-    ensures { verdict result ≡ refusal (rest_tests (job_in job.now) (job-on job.now line) (lines header.units (set_of set).pins) old.now first table entries) }
+    ensures { verdict result ≡ refusal (rest_tests (job_in job.now) (job_on job.now line) (lines header.units (set_of set).pins) old.now first table entries) }
 {
     let pins = set.pins;
     let total = entry::intervals(header);
@@ -201,7 +201,7 @@ fn change_over(
     entries: &mut [u8],
 ) -> Planned
     requires { Follows job.now (plain header) line (set_of set) old.now × Passes job.now line (set_of set) old.now first (length table.old) (length entries.old) }
-    ensures { planned result table.new entries.new ≡ change_in (job_in job.now) (job-on job.now line) (lines header.units (set_of set).pins) old.now first (order_is order) table.old entries.old }
+    ensures { planned result table.new entries.new ≡ change_in (job_in job.now) (job_on job.now line) (lines header.units (set_of set).pins) old.now first (order_is order) table.old entries.old }
 {
     let pins = set.pins;
     match front::follow(job, header, &pins, old, first) {

@@ -24,18 +24,18 @@ use Rattle.pins.specs.Answers.{number, handed}
 use Rattle.calling.proofs.Commands.{command_sized}
 use Rattle.calling.specs.Commands.{command, follow}
 use Rattle.commands.specs.declared.Command.{Command}
-use Rattle.commands.specs.Answers.{command-is, Step, step_is, on_command, carries_out}
+use Rattle.commands.specs.Answers.{command_is, Step, step_is, on_command, carries_out}
 
 -- one command, as the code reads it from all that is left
-module _ (b : List ℕ) (s : code_set.PinSet) (at : ℕ) (x : Command) (e : command-is x ≡ command (take (length b - at) (drop at b))) where
-  here : command (drop at b) ≡ command-is x
+module _ (b : List ℕ) (s : code_set.PinSet) (at : ℕ) (x : Command) (e : command_is x ≡ command (take (length b - at) (drop at b))) where
+  here : command (drop at b) ≡ command_is x
   here = ap command (sym (rest_of at b)) ∙ sym e
 
-  pub carry_refused : (n : ℕ) → command-is x ≡ P.refused n → step_is (record { answer = answer.Refused n; set = s; next = at }) ≡ carries_out b (set_of s) at
+  pub carry_refused : (n : ℕ) → command_is x ≡ P.refused n → step_is (record { answer = answer.Refused n; set = s; next = at }) ≡ carries_out b (set_of s) at
   unfolding step_is carries_out on_command number
   carry_refused n q = rw (here, q)
 
-  module _ (k : Call) (u : ℕ) (q : command-is x ≡ P.took k u) where
+  module _ (k : Call) (u : ℕ) (q : command_is x ≡ P.took k u) where
     pub carry_took : (h : pins.Handed) → handed h ≡ call b (set_of s) k → step_is (record { answer = h.answer; set = h.set; next = at + u }) ≡ carries_out b (set_of s) at
     unfolding step_is carries_out on_command handed
     carry_took h p = rw (here, q, ← p)

@@ -13,10 +13,10 @@ use Rattle.commands.specs.declared.Command.TheVariants as r
 use Rattle.commands.specs.declared.Step as code
 
 -- a command record, with the bytes that it takes
-unfoldable pub command-is : Command → P.Result Call
-command-is (r.Pin u x) = P.took (pin u x) 8
-command-is (r.Lift u) = P.took (lift u) 6
-command-is (r.Refused n) = P.refused n
+unfoldable pub command_is : Command → P.Result Call
+command_is (r.Pin u x) = P.took (pin u x) 8
+command_is (r.Lift u) = P.took (lift u) 6
+command_is (r.Refused n) = P.refused n
 
 -- what one command comes to: the number that refuses it, or none, the set that is handed back, and the place of the next command
 pub record Step : Type 0 where

@@ -7,7 +7,7 @@ ghost use Rattle.pins.specs.Answers.{handed};
 ghost use Rattle.planner.specs.Answers.{planned};
 ghost use Rattle.calling.specs.Commands.{command, follow, commands_call};
 ghost use Rattle.calling.specs.Sessions.{input_call};
-ghost use Rattle.commands.specs.Answers.{command-is, step_is, carries_out};
+ghost use Rattle.commands.specs.Answers.{command_is, step_is, carries_out};
 
 use best::Order;
 use header::{Door, Verdict};
@@ -47,7 +47,7 @@ const MOST_INPUT: usize = 32768;
 
 // The command record at the front of these bytes: by its kind a lift, else a pin.
 fn read_command(rest: &[u8]) -> Command
-    ensures { command-is result ≡ command rest.now }
+    ensures { command_is result ≡ command rest.now }
 {
     match fields::field16(rest, 2) {
         LIFT => {

@@ -13,7 +13,7 @@ use Rattle.header.specs.declared.Bucket.{Bucket}
 use Rattle.header.specs.Answers.{extra, policed_of}
 use Rattle.header.proofs.Verdicts.{first_not, one_fits, two_fit}
 use Rattle.changing.specs.NewContract.{policed_under, contract_limits}
-use Rattle.contract.specs.Answers.{contract, empty-bucket}
+use Rattle.contract.specs.Answers.{contract, empty_bucket}
 
 one_of : (l : List ℕ) → length l ≡ 1 → l ≡ get_or l 0 0 ∷ []
 one_of [] e = absurd (omega arith)
@@ -32,7 +32,7 @@ two_long two n e h = rw e at h
 
 -- the bucket in a place of the lists
 abbrev pub bucket_in : List ℕ → List ℕ → ℕ → Policed
-bucket_in sizes drains i = empty-bucket (get_or sizes i 0) (get_or drains i 0)
+bucket_in sizes drains i = empty_bucket (get_or sizes i 0) (get_or drains i 0)
 
 pub buckets_are : (two : Bool) (rates sizes drains : List ℕ) → length sizes ≡ 1 + extra two → length drains ≡ 1 + extra two → policed_under (contract rates sizes drains) ≡ bucket_in sizes drains 0 ∷ one_if two (bucket_in sizes drains 1)
 unfolding policed_under zip_with extra if◌then◌else◌ one_if
@@ -80,7 +80,7 @@ module _ (two : Bool) (rates sizes drains : List ℕ) (t : Counted two rates siz
         ∙ sym left
 
 -- the drains, of as many sizes and drains as buckets
-pub drained_as : (k : Bucket) (s d : ℕ) → policed_of k ≡ empty-bucket s d → kept (limit 17 1 4095 k.drain) ≡ kept (limit 17 1 4095 d)
+pub drained_as : (k : Bucket) (s d : ℕ) → policed_of k ≡ empty_bucket s d → kept (limit 17 1 4095 k.drain) ≡ kept (limit 17 1 4095 d)
 unfolding policed_of
 drained_as k s d e = ap (λ (p : Policed). kept (limit 17 1 4095 p.drain)) e
 

@@ -11,8 +11,8 @@ use Rattle.changing.specs.NewContract.{Contract, policed_under, contract_limits}
 abbrev pub contract : List ℕ → List ℕ → List ℕ → Contract
 contract rates sizes drains = record { rates = rates; sizes = sizes; drains = drains }
 
-abbrev pub empty-bucket : ℕ → ℕ → Policed
-empty-bucket size drain = record { size = size; drain = drain; fill = 0 }
+abbrev pub empty_bucket : ℕ → ℕ → Policed
+empty_bucket size drain = record { size = size; drain = drain; fill = 0 }
 
 -- a contract that 3 and 4 do not refuse, for a header whose decoder is within its range
 pub record Offered (h : format.Header) (rates sizes drains : List ℕ) : Type 0 where

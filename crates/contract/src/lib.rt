@@ -5,7 +5,7 @@ ghost use Rattle.format.specs.Limits.{each_kept};
 ghost use Rattle.format.specs.JobBytes.{opening, drain_limits, rate_limits};
 ghost use Rattle.header.specs.Answers.{extra, policed_of, plain};
 ghost use Rattle.changing.specs.NewContract.{policed_under, contract_limits};
-ghost use Rattle.contract.specs.Answers.{contract, empty-bucket, Offered, LineUnder};
+ghost use Rattle.contract.specs.Answers.{contract, empty_bucket, Offered, LineUnder};
 
 use header::{Bucket, Header, Verdict};
 use interval::Buffers;
@@ -27,7 +27,7 @@ const MOST_RATES: usize = Header::MAX_RATES as usize;
 // The bucket in a place of the lists, with nothing in it.
 fn bucket_at(sizes: &[u16], drains: &[u16], at: usize) -> Bucket
     requires { (at < length sizes.now) × (at < length drains.now) }
-    ensures { policed_of result ≡ empty-bucket (get_or sizes.now at 0) (get_or drains.now at 0) }
+    ensures { policed_of result ≡ empty_bucket (get_or sizes.now at 0) (get_or drains.now at 0) }
 {
     Bucket {
         size: sizes[at],

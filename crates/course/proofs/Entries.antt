@@ -26,21 +26,21 @@ use Rattle.pinning.specs.PinSet.{lines}
 use Rattle.pinning.proofs.Lines.{lines_at}
 use Rattle.replaying.specs.Entries.{entry_size, rate_field, choice_field, entry_under, entry_at, fits_under, entries_fit, shaped, plan_of}
 use Rattle.replaying.proofs.Entries.{entries_at}
-use Rattle.course.specs.Answers.{Shaped, CodingIn, no-coding, coded, PinIn, no_pin, pinned, IsInterval}
+use Rattle.course.specs.Answers.{Shaped, CodingIn, no_coding, coded, PinIn, no_pin, pinned, IsInterval}
 
 -- of a job that was read
 pub shaped_plan : (b : List ℕ) (h : Header) (o : Opens b h) (entries : List ℕ) → shaped h entries ≡ true → Shaped b h entries
-shaped_plan b h o entries e = record { opens = o; in-shape = e }
+shaped_plan b h o entries e = record { opens = o; in_shape = e }
 
 module _ (b : List ℕ) (h : Header) (entries : List ℕ) (s : Shaped b h entries) where
   pub entries_size : length entries ≡ entry_size * (h.units + h.delay)
   unfolding shaped
-  entries_size = eqb-true _ _ (both_true _ _ s.in-shape).0
+  entries_size = eqb-true _ _ (both_true _ _ s.in_shape).0
 
   module _ (i : ℕ) (l : i < h.units + h.delay) where
     in_range : fits_under no_choice h i (rate_field entries i) (choice_field entries i) ≡ true
     unfolding shaped entries_fit
-    in_range = all_each _ (h.units + h.delay) (both_true _ _ s.in-shape).1 i l
+    in_range = all_each _ (h.units + h.delay) (both_true _ _ s.in_shape).1 i l
 
     rate_below : rate_field entries i < h.rates
     unfolding fits_under
@@ -75,7 +75,7 @@ module _ (b : List ℕ) (h : Header) (entries : List ℕ) (s : Shaped b h entrie
 
     coding_is : (x : Coding) → CodingIn b h i (choice_field entries i) x → Codes x
     unfolding coding coding_of
-    coding_is x (no-coding k e) = record {
+    coding_is x (no_coding k e) = record {
       is = rw (no_unit k, of_mark) e;
       size_most = let z : x.size ≡ 0 = ap (λ (k : model.Coding). k.size) e in omega arith;
       distortion_most = let z : x.distortion ≡ 0 = ap (λ (k : model.Coding). k.distortion) e in omega arith;

@@ -15,11 +15,11 @@ use Rattle.interval.specs.Answers.{Does}
 -- the bytes are those of a job with this header, and the entries a plan of it in shape
 pub record Shaped (b : List ℕ) (h : format.Header) (entries : List ℕ) : Type 0 where
   pub opens : Opens b h
-  pub in-shape : shaped h entries ≡ true
+  pub in_shape : shaped h entries ≡ true
 
 -- the coding of the interval in a place, as it stands in the bytes
 pub data CodingIn (b : List ℕ) (h : format.Header) (place choice : ℕ) (c : Coding) : Type 0 where
-  no-coding : place < h.delay → coding_of c ≡ model.nothing → CodingIn b h place choice c
+  no_coding : place < h.delay → coding_of c ≡ model.nothing → CodingIn b h place choice c
   coded : h.delay ≤ place → coding_of c ≡ coding_at b h (place - h.delay + 1) choice → CodingIn b h place choice c
 
 -- the pin of the interval in a place, as it stands in the set

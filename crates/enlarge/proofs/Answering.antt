@@ -22,7 +22,7 @@ use Rattle.interval.specs.Answers.{line_of, start_of}
 use Rattle.line.specs.declared.Line.{Line}
 use Rattle.line.specs.Answers.{line_is}
 use Rattle.line.proofs.Sizes.{layer_size, each_small}
-use Rattle.table.specs.Answers.{job-on, words_over, LineOf}
+use Rattle.table.specs.Answers.{job_on, words_over, LineOf}
 use Rattle.enlarging.specs.Calls.{sizes, sized, Listed, refuse, size_tests, list_in, list_all, sizes_call}
 use Rattle.enlarge.specs.Answers.{LineWith, Lists, AllListed}
 use Rattle.enlarge.proofs.Listing.{own_bucket, over_larger}
@@ -46,10 +46,10 @@ module _ (b : List ℕ) (h : Header) (s : PinSet) (a : Ready b h s) (l : Line) (
   over_fits = (few_intervals b h a.opens, each_small r.buffers w.fits.buffers)
 
   -- its words are those of the largest size
-  counted_on : intervals (job-on b r) ≡ h.units + h.delay
+  counted_on : intervals (job_on b r) ≡ h.units + h.delay
   counted_on = intervals_on J (line_is r) ∙ intervals_are b h a.opens
 
-  words_on : words (job-on b r) ≡ words_over h r.buffers
+  words_on : words (job_on b r) ≡ words_over h r.buffers
   unfolding words_over words on_line
   words_on = rw (counted_on, layer_size r)
 
@@ -84,7 +84,7 @@ module _ (b : List ℕ) (h : Header) (s : PinSet) (a : Ready b h s) (l : Line) (
         pub lists : (start : Levels) → start ≡ start_of h → (pins : List ℕ) → length pins ≡ 512 → Lists b h l pins start table totals
         unfolding start_of
         lists start e pins n = record {
-          starts = record { opens = a.opens; line = is.fits; pins-size = n };
+          starts = record { opens = a.opens; line = is.fits; pins_size = n };
           own = is.is;
           start = e ∙ sym (start_is b h a.opens);
           room = omega (arith, words_largest);

@@ -25,7 +25,7 @@ use Rattle.planning.proofs.Layers.{from_rest, from_length}
 use Rattle.interval.specs.Answers.{line_of}
 use Rattle.line.specs.declared.Line.{Line}
 use Rattle.line.specs.Answers.{line_is, WordAsked}
-use Rattle.table.specs.Answers.{job-on}
+use Rattle.table.specs.Answers.{job_on}
 use Rattle.planner.specs.Answers.{Limits}
 use Rattle.planner.proofs.Answering.{start_asked, start_word}
 use Rattle.enlarging.specs.Larger.{with_bucket, with_size}
@@ -52,24 +52,24 @@ filled_alike j k x y e =
 
 -- the least total of a job over a line, by the table that was filled over it
 module _ (b : List ℕ) (h : Header) (l : Line) (pins : List ℕ) (s : Levels) (table : List ℕ) (a : Limits b h l pins 0 s table) (m : PinMap) where
-  module _ (new : List ℕ) (e : new ≡ table_from ◌+◌ (job-on b l) (unlimited m) 0 table) where
+  module _ (new : List ℕ) (e : new ≡ table_from ◌+◌ (job_on b l) (unlimited m) 0 table) where
     -- the word of the starting levels may be read
     pub asked : WordAsked new l 0 s
     asked = rw e (start_asked b h l pins 0 s a.from table a.room ◌+◌ sum_combines (unlimited m))
 
     -- and is the least total, or the mark
-    pub found : (r : ℕ) → r ≡ word_in (line_is l) (layer_of (line_is l) new 0) s → Found (job-on b l) m s table r new
+    pub found : (r : ℕ) → r ≡ word_in (line_is l) (layer_of (line_is l) new 0) s → Found (job_on b l) m s table r new
     found r w = record {
       total = w ∙ ap (λ (t : List ℕ). word_in (line_is l) (layer_of (line_is l) t 0) s) e ∙ start_word b h l pins 0 s a.from table a.room ◌+◌ sum_combines (unlimited m);
       table_is = e;
     }
 
   -- filling keeps the words behind the table
-  pub told : (r : ℕ) (new : List ℕ) → Found (job-on b l) m s table r new → Told (job-on b l) m s table r new
+  pub told : (r : ℕ) (new : List ℕ) → Found (job_on b l) m s table r new → Told (job_on b l) m s table r new
   told r new f = record {
     total = f.total;
-    size = ap length f.table_is ∙ from_length ◌+◌ (job-on b l) (unlimited m) 0 table (omega arith) a.room;
-    rest = λ n k. alike_behind (words (job-on b l)) n new table k (ap (drop (words (job-on b l))) f.table_is ∙ from_rest ◌+◌ (job-on b l) (unlimited m) 0 table (omega arith) a.room);
+    size = ap length f.table_is ∙ from_length ◌+◌ (job_on b l) (unlimited m) 0 table (omega arith) a.room;
+    rest = λ n k. alike_behind (words (job_on b l)) n new table k (ap (drop (words (job_on b l))) f.table_is ∙ from_rest ◌+◌ (job_on b l) (unlimited m) 0 table (omega arith) a.room);
   }
 
 -- numbers that a loop wrote, as they stand over the list
@@ -112,7 +112,7 @@ module _ (b : List ℕ) (l : Line) (own : line_is l ≡ (job_in b).line) where
   own_bucket = ap (λ (x : model.Line). (bucket_at x.buckets 0).size) (sym own)
 
   -- the line with another size makes the job with that size
-  pub over_larger : (size : ℕ) (r : Line) → LineWith l size r → job-on b r ≡ sized (job_in b) size
+  pub over_larger : (size : ℕ) (r : Line) → LineWith l size r → job_on b r ≡ sized (job_in b) size
   over_larger size r w = ap (on_line (job_in b)) (w.is ∙ ap (λ (x : model.Line). with_size x 0 size) own)
 
 -- the bytes of a job with its line and its starting levels, and lists that are long enough
@@ -136,16 +136,16 @@ module _ (b : List ℕ) (h : Header) (l : Line) (pins : List ℕ) (s : Levels) (
 
   -- over the line with a first bucket of some size, which is no smaller than the job's own
   module _ (m : PinMap) (size : ℕ) (r : Line) (w : LineWith l size r) (no_less : l.buffers.bucket ≤ size) (most : size ≤ 255) where
-    over_it : job-on b r ≡ sized J size
+    over_it : job_on b r ≡ sized J size
     over_it = over_larger b l a.own size r w
 
     -- the least total over it is the one of that size
-    its_least : encode mark (least_total (job-on b r) (unlimited m) 0 s) ≡ least_at J m size
+    its_least : encode mark (least_total (job_on b r) (unlimited m) 0 s) ≡ least_at J m size
     unfolding least_at
     its_least = ap (λ (k : Job). encode mark (least_total k (unlimited m) 0 s)) over_it ∙ ap (λ (x : Levels). encode mark (least_total (sized J size) (unlimited m) 0 x)) a.start
 
     -- its table has no more words than the largest
-    fewer : words (job-on b r) ≤ words (sized J 255)
+    fewer : words (job_on b r) ≤ words (sized J 255)
     fewer = rw over_it (words_rise J size 255 most)
 
     inside : InLayer (line_is r) s
@@ -154,7 +154,7 @@ module _ (b : List ℕ) (h : Header) (l : Line) (pins : List ℕ) (s : Levels) (
     -- so a list as long as the one that was lent has room for it
     pub limits : (t : List ℕ) → length t ≡ length table → Limits b h r pins 0 s t
     limits t n = record {
-      from = record { starts = record { opens = a.starts.opens; line = w.fits; pins-size = a.starts.pins-size }; few = omega arith; inside = inside };
+      from = record { starts = record { opens = a.starts.opens; line = w.fits; pins_size = a.starts.pins_size }; few = omega arith; inside = inside };
       room = omega (arith, fewer, a.room);
     }
 
@@ -167,21 +167,21 @@ module _ (b : List ℕ) (h : Header) (l : Line) (pins : List ℕ) (s : Levels) (
     -- one total more
     module _ (i : ℕ) (t u : List ℕ) (before : ℕ) (g : Going J m table totals i t u before) (more : i < 255 - l.buffers.bucket) (r : Line) (w : LineWith l (l.buffers.bucket + i) r) where
       -- the total that is next
-      at_it : encode mark (least_total (job-on b r) (unlimited m) 0 s) ≡ least_at J m (own_size J + i)
+      at_it : encode mark (least_total (job_on b r) (unlimited m) 0 s) ≡ least_at J m (own_size J + i)
       at_it = its_least m (l.buffers.bucket + i) r w (omega arith) (omega arith) ∙ ap (λ (n : ℕ). least_at J m (n + i)) (sym own_is)
 
       pub going_limits : Limits b h r pins 0 s t
       going_limits = limits m (l.buffers.bucket + i) r w (omega arith) (omega arith) t g.size
 
       -- it lies between the number at hand and that of the largest
-      pub going_between : (last : ℕ) → last ≡ least_at J m 255 → Between (job-on b r) m s before last
+      pub going_between : (last : ℕ) → last ≡ least_at J m 255 → Between (job_on b r) m s before last
       going_between last e = record {
         no_more = rw at_it g.no_more;
         no_less = rw (at_it, e) (least_falls J m (own_size J + i) 255 small (omega (arith, own_is, own_most)));
       }
 
       -- told, it is written and at hand
-      pub going_more : (x : ℕ) (t' : List ℕ) → Told (job-on b r) m s t x t' → Going J m table totals (i + 1) t' (set u i x) x
+      pub going_more : (x : ℕ) (t' : List ℕ) → Told (job_on b r) m s t x t' → Going J m table totals (i + 1) t' (set u i x) x
       going_more x t' d = record {
         totals_are = ap (λ (v : List ℕ). set v i x) g.totals_are ∙ build_more _ totals i x (omega (arith, places)) (d.total ∙ at_it);
         long = length-set u i x ∙ g.long;
@@ -202,8 +202,8 @@ module _ (b : List ℕ) (h : Header) (l : Line) (pins : List ℕ) (s : Levels) (
 
     -- of all: the table of the largest is filled, which leaves the list that the loop goes over
     module _ (r : Line) (w : LineWith l 255 r) where
-      module _ (last : ℕ) (mid : List ℕ) (f : Found (job-on b r) m s table last mid) where
-        kept : Told (job-on b r) m s table last mid
+      module _ (last : ℕ) (mid : List ℕ) (f : Found (job_on b r) m s table last mid) where
+        kept : Told (job_on b r) m s table last mid
         kept = told b h r pins s table (limits m 255 r w own_most (omega arith) table refl) m last mid f
 
         -- the list is as long as before
@@ -224,7 +224,7 @@ module _ (b : List ℕ) (h : Header) (l : Line) (pins : List ℕ) (s : Levels) (
           totals_long = ap length g.totals_are ∙ over_length (build (255 - own_size J) (λ i. least_at J m (own_size J + i))) totals (omega (arith, build_length (255 - own_size J) (λ i. least_at J m (own_size J + i)), a.space, own_is, own_most))
 
           -- the last total stands behind the others, and the table is that of the largest over the list that was lent
-          pub all_listed : (x : ℕ) (new : List ℕ) → Found (job-on b r) m s t x new → AllListed J m table totals new (set u (255 - l.buffers.bucket) x)
+          pub all_listed : (x : ℕ) (new : List ℕ) → Found (job_on b r) m s t x new → AllListed J m table totals new (set u (255 - l.buffers.bucket) x)
           unfolding least_totals sizes
           all_listed x new d =
               let i : 255 - l.buffers.bucket ≡ 255 - own_size J = omega (arith, own_is) in

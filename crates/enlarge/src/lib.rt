@@ -8,7 +8,7 @@ ghost use Rattle.pinning.specs.Check.{Ready};
 ghost use Rattle.pinset.specs.Answers.{set_of};
 ghost use Rattle.interval.specs.Answers.{levels_of};
 ghost use Rattle.line.specs.Answers.{LineFits};
-ghost use Rattle.table.specs.Answers.{job-on};
+ghost use Rattle.table.specs.Answers.{job_on};
 ghost use Rattle.planner.specs.Answers.{Limits};
 ghost use Rattle.enlarging.specs.Calls.{least_at, list_all, sizes_call};
 ghost use Rattle.enlarge.specs.Answers.{listed, LineWith, Found, Between, Told, Lists, Smaller, AllListed};
@@ -59,7 +59,7 @@ fn least_total(
     table: &mut [u32],
 ) -> u32
     requires { Limits job.now (plain header) line pins.now 0 (levels_of start) table.old }
-    ensures { Found (job-on job.now line) (lines header.units pins.now) (levels_of start) table.old result table.new }
+    ensures { Found (job_on job.now line) (lines header.units pins.now) (levels_of start) table.old result table.new }
 {
     let first = 0;
     table::fill_table(
@@ -86,8 +86,8 @@ fn total_between(
     start: Levels,
     table: &mut [u32],
 ) -> u32
-    requires { Limits job.now (plain header) line pins.now 0 (levels_of start) table.old × Between (job-on job.now line) (lines header.units pins.now) (levels_of start) before last }
-    ensures { Told (job-on job.now line) (lines header.units pins.now) (levels_of start) table.old result table.new }
+    requires { Limits job.now (plain header) line pins.now 0 (levels_of start) table.old × Between (job_on job.now line) (lines header.units pins.now) (levels_of start) before last }
+    ensures { Told (job_on job.now line) (lines header.units pins.now) (levels_of start) table.old result table.new }
 {
     if before == last {
         return last;

@@ -15,7 +15,7 @@ use Rattle.front.specs.declared.Front.TheVariants as f
 -- a plan in shape, the pins of a set, and at most as many entries as it has
 pub record Remains (b : List ℕ) (h : format.Header) (pins entries : List ℕ) (count : ℕ) : Type 0 where
   pub plan : Shaped b h entries
-  pub pins-size : length pins ≡ 512
+  pub pins_size : length pins ≡ 512
   pub few : count ≤ h.units + h.delay
 
 -- totals of so many intervals, which are small

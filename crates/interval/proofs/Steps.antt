@@ -19,7 +19,7 @@ use Rattle.interval.specs.declared.Buffers.{Buffers}
 use Rattle.parts.specs.declared.Drained as code
 use Rattle.interval.specs.declared.Levels.{Levels}
 use Rattle.parts.specs.Answers.{drained}
-use Rattle.interval.specs.Answers.{levels_of, totals_of, second_of, line_of, SecondStep, both, not-both}
+use Rattle.interval.specs.Answers.{levels_of, totals_of, second_of, line_of, SecondStep, both, not_both}
 use Rattle.format.proofs.Limits.{not_true}
 
 pub outcome_decoder : (k : Buffers) (before : Levels) (c : ℕ) (pinned choice : Option ℕ) (b t : ℕ) (v : Violation) → breaks v ≡ decoder_step k.decoder b c t → violates v ≡ outcome_of (line_of k []) pinned choice b (levels_of before).buckets c t
@@ -31,7 +31,7 @@ module _ (k : Buffers) (before : Levels) (c : ℕ) (r : code.Drained) where
   second_level : SecondStep k before c r → zip_with (λ k l. (bucket_step k.drain l c).level) (one_if k.two (second_of k)) (one_if before.two before.bucket2) ≡ one_if (k.two && before.two) r.level
   unfolding one_if zip_with second_of drained
   second_level (both p q e) = let l : r.level ≡ (bucket_step k.drain2 before.bucket2 c).level = ap (λ (x : Drained). x.level) e in rw (p, q, l)
-  second_level (not-both p e) = go k.two before.two p
+  second_level (not_both p e) = go k.two before.two p
     where
       go : (s t : Bool) → (s && t) ≡ false → zip_with (λ k l. (bucket_step k.drain l c).level) (one_if s (second_of k)) (one_if t before.bucket2) ≡ one_if (s && t) r.level
       go true true p = absurd (not_true (sym p))
@@ -41,12 +41,12 @@ module _ (k : Buffers) (before : Levels) (c : ℕ) (r : code.Drained) where
   second_over : SecondStep k before c r → k.bucket2 < r.level → overfull (one_if k.two (second_of k)) (one_if (k.two && before.two) r.level) ≡ some 0
   unfolding one_if overfull second_of if◌then◌else◌ drained
   second_over (both p q e) l = rw (p, q, lt-ltb k.bucket2 r.level l)
-  second_over (not-both p e) l = absurd (omega (arith, ap (λ (x : Drained). x.level) e))
+  second_over (not_both p e) l = absurd (omega (arith, ap (λ (x : Drained). x.level) e))
 
   second_within : SecondStep k before c r → r.level ≤ k.bucket2 → overfull (one_if k.two (second_of k)) (one_if (k.two && before.two) r.level) ≡ none
   unfolding one_if overfull second_of if◌then◌else◌
   second_within (both p q e) l = rw (p, q, le-ltb k.bucket2 r.level l)
-  second_within (not-both p e) l = go k.two before.two p
+  second_within (not_both p e) l = go k.two before.two p
     where
       go : (s t : Bool) → (s && t) ≡ false → overfull (one_if s (second_of k)) (one_if (s && t) r.level) ≡ none
       go true true p = absurd (not_true (sym p))
@@ -94,7 +94,7 @@ pub second_unused : (k : Buffers) (before : Levels) (c : ℕ) (r : code.Drained)
 unfolding one_if zip_with second_of if◌then◌else◌ drained
 second_unused k before c r true u (both p q e) = let l : r.unused ≡ (bucket_step k.drain2 before.bucket2 c).unused = ap (λ (x : Drained). x.unused) e in rw (p, q, l)
 second_unused k before c r false u (both p q e) = refl
-second_unused k before c r two u (not-both p e) = go two k.two before.two p
+second_unused k before c r two u (not_both p e) = go two k.two before.two p
   where
     go : (x s t : Bool) → (s && t) ≡ false → one_if (x && (s && t)) (if x && (s && t) then u + r.unused else 0) ≡ zip_with ◌+◌ (one_if x u) (zip_with (λ k l. (bucket_step k.drain l c).unused) (one_if s (second_of k)) (one_if t before.bucket2))
     go true true true p = absurd (not_true (sym p))
@@ -113,7 +113,7 @@ unfolding totals_of one_if drained bucket_step
 second_room k before c r sum (both p q e) t h m =
     let g : sum.unused2 + 65535 < 4294967296 = rw (true_both sum.two (k.two && before.two) t).0 at h in
     omega (arith, ap (λ (x : Drained). x.unused) e)
-second_room k before c r sum (not-both p e) t h m = absurd (not_true (sym p ∙ (true_both sum.two (k.two && before.two) t).1))
+second_room k before c r sum (not_both p e) t h m = absurd (not_true (sym p ∙ (true_both sum.two (k.two && before.two) t).1))
 
 -- the second of two, or none, through a list
 pub mapped_one : (k l : Policed) (two : Bool) → bucket_of k ∷ one_if two (bucket_of l) ≡ map bucket_of (k ∷ one_if two l)

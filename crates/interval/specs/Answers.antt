@@ -3,8 +3,8 @@ use Rattle.std.specs.Prelude.{ℕ, ◌+◌, ◌<◌, ◌≤◌, ◌≡◌, true,
 use mathlib.Core.List.{List, [], ◌∷◌, map, zip_with}
 use Rattle.base.specs.If.{one_if}
 use Rattle.model.specs.Job as model
-use Rattle.model.specs.Step as model-step
-use Rattle.model.specs.Replay as model-replay
+use Rattle.model.specs.Step as model_step
+use Rattle.model.specs.Replay as model_replay
 use Rattle.format.specs.JobBytes as format
 use Rattle.interval.specs.declared.Totals.{Totals}
 use Rattle.parts.specs.declared.Drained.{Drained}
@@ -18,11 +18,11 @@ use Rattle.interval.specs.declared.Interval.{Interval}
 unfoldable pub levels_of : Levels → model.Levels
 levels_of l = record { decoder = l.decoder; buckets = l.bucket ∷ one_if l.two l.bucket2 }
 
-unfoldable pub outcome-is : Outcome → model-step.Outcome
-outcome-is (o.Reaches l) = model-step.reaches (levels_of l)
-outcome-is (o.Violates x) = model-step.violates (violation x)
+unfoldable pub outcome_is : Outcome → model_step.Outcome
+outcome_is (o.Reaches l) = model_step.reaches (levels_of l)
+outcome_is (o.Violates x) = model_step.violates (violation x)
 
-unfoldable pub totals_of : Totals → model-replay.Totals
+unfoldable pub totals_of : Totals → model_replay.Totals
 totals_of t = record { distortion = t.distortion; source = t.source; channel = t.channel; unused = t.unused ∷ one_if t.two t.unused2 }
 
 -- the second of these buckets
@@ -43,21 +43,21 @@ unfoldable pub start_of : format.Header → model.Levels
 start_of h = record { decoder = h.level; buckets = map (λ k. k.fill) h.buckets }
 
 -- the totals of no interval over these buckets
-unfoldable pub no_totals : List model.Bucket → model-replay.Totals
+unfoldable pub no_totals : List model.Bucket → model_replay.Totals
 no_totals ks = record { distortion = 0; source = 0; channel = 0; unused = map (λ k. 0) ks }
 
 -- what the second bucket does, where the line and the levels have one; else nothing
 pub data SecondStep (k : Buffers) (before : Levels) (sent : ℕ) (r : Drained) : Type 0 where
-  both : k.two ≡ true → before.two ≡ true → drained r ≡ model-step.bucket_step k.drain2 before.bucket2 sent → SecondStep k before sent r
-  not-both : (k.two && before.two) ≡ false → drained r ≡ record { level = 0; unused = 0 } → SecondStep k before sent r
+  both : k.two ≡ true → before.two ≡ true → drained r ≡ model_step.bucket_step k.drain2 before.bucket2 sent → SecondStep k before sent r
+  not_both : (k.two && before.two) ≡ false → drained r ≡ record { level = 0; unused = 0 } → SecondStep k before sent r
 
 -- the totals with one interval more, from the levels before it
-unfoldable pub added : model-replay.Totals → List model.Bucket → List ℕ → Interval → model-replay.Totals
+unfoldable pub added : model_replay.Totals → List model.Bucket → List ℕ → Interval → model_replay.Totals
 added t ks ls x = record {
   distortion = t.distortion + x.distortion;
   source = t.source + x.size;
   channel = t.channel + x.sent;
-  unused = zip_with ◌+◌ t.unused (zip_with (λ k l. (model-step.bucket_step k.drain l x.sent).unused) ks ls);
+  unused = zip_with ◌+◌ t.unused (zip_with (λ k l. (model_step.bucket_step k.drain l x.sent).unused) ks ls);
 }
 
 -- and that they fit, whatever goes unused of a drain of 16 bits

@@ -4,7 +4,7 @@ ghost use Rattle.base.specs.If.{if◌then◌else◌};
 ghost use Rattle.model.specs.Step.{outcome_of};
 ghost use Rattle.format.specs.Choices.{choice_of};
 ghost use Rattle.header.specs.Answers.{plain};
-ghost use Rattle.interval.specs.Answers.{levels_of, start_of, outcome-is, line_of, totals_of, no_totals, added, OfHeader, SecondStep, Room};
+ghost use Rattle.interval.specs.Answers.{levels_of, start_of, outcome_is, line_of, totals_of, no_totals, added, OfHeader, SecondStep, Room};
 
 use header::{Choice, Header};
 use parts::{Decoded, Drained, Violation};
@@ -118,7 +118,7 @@ fn second_step(buffers: Buffers, before: Levels, sent: u16) -> Drained
 
 // One interval from the levels before it: the decoder, the buckets in turn, the pin, in this order.
 pub fn step(buffers: Buffers, before: Levels, x: Interval) -> Outcome
-    ensures { outcome-is result ≡ outcome_of (line_of buffers []) (choice_of x.pin) (choice_of x.choice) before.decoder (levels_of before).buckets x.sent x.size }
+    ensures { outcome_is result ≡ outcome_of (line_of buffers []) (choice_of x.pin) (choice_of x.choice) before.decoder (levels_of before).buckets x.sent x.size }
 {
     match parts::decoder_step(buffers.decoder, before.decoder, x.sent, x.size) {
         Decoded::Violated(v) => Outcome::Violates(v),

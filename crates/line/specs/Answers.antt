@@ -52,9 +52,9 @@ pub record WordAsked (table : List ℕ) (l : Line) (place : ℕ) (s : model.Leve
   pub inside : InLayer (line_is l) s
 
 -- the line as layers are filled: the same, or with a bucket in front that drains every rate
-pub data FilledAs (line : model.Line) (as-filled : model.Line) : Type 0 where
-  itself : as-filled ≡ line → FilledAs line as-filled
-  behind-one : as-filled ≡ fronted 4095 line → FilledAs line as-filled
+pub data FilledAs (line : model.Line) (as_filled : model.Line) : Type 0 where
+  itself : as_filled ≡ line → FilledAs line as_filled
+  behind_one : as_filled ≡ fronted 4095 line → FilledAs line as_filled
 
 pub record LayerLine (l : Line) (r : layer_line.Line) : Type 0 where
   pub is : FilledAs (line_is l) (layer_answers.line_is r)

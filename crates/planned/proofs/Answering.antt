@@ -30,7 +30,7 @@ use Rattle.planning.specs.Calls.{plan_tests, plan_call}
 use Rattle.planner.specs.declared.Planned.{Planned}
 use Rattle.planner.specs.Answers as planner
 use Rattle.calling.specs.Sessions.{Session, plan_refusal, session_call, aim_named, order_named, named_tests, set_plan_tests, set_plan_refusal}
-use Rattle.session.specs.Answers.{session-is}
+use Rattle.session.specs.Answers.{session_is}
 use Rattle.values.specs.Lists.{buckets_in, totals_list, totals_values}
 use Rattle.exporting.specs.Exports.{room_for, planned, after_session, plan_export}
 use Rattle.exporting.specs.Sets.{set_planned, after_plan, set_plan_export}
@@ -48,18 +48,18 @@ module _ (job ks : List ℕ) (aim order : ℕ) (answers table entries values : L
     unfolding plan_export
     plan_12 = few (λ n. planned n answers table entries values) (plan_refusal job ks aim order (length answers) (length table) (length entries)) (3 + buckets_in job) values _ e
 
-    module _ (room : 3 + buckets_in job ≤ length values) (x : Planned) (a t p : List ℕ) (i : session-is x a t p ≡ session_call job ks aim order answers table entries) where
-      on_plan : plan_export job ks aim order answers table entries values ≡ after_session (session-is x a t p) values
+    module _ (room : 3 + buckets_in job ≤ length values) (x : Planned) (a t p : List ℕ) (i : session_is x a t p ≡ session_call job ks aim order answers table entries) where
+      on_plan : plan_export job ks aim order answers table entries values ≡ after_session (session_is x a t p) values
       unfolding plan_export
       on_plan = behind (λ n. planned n answers table entries values) (plan_refusal job ks aim order (length answers) (length table) (length entries)) (3 + buckets_in job) values _ e room ∙ rw (← i)
 
       pub plan_told : (r : ℕ) (new : List ℕ) → Told x values r new → planned r a t p new ≡ plan_export job ks aim order answers table entries values
-      unfolding after_session session-is planner.planned
+      unfolding after_session session_is planner.planned
       plan_told r new h = sym (on_plan ∙ rw (h.number, h.values))
 
 -- there is room for the values that the code writes
-pub plan_room : (b calls : List ℕ) (aim order : ℕ) (answers table entries : List ℕ) (x : Planned) (a t e : List ℕ) → session-is x a t e ≡ session_call b calls aim order answers table entries → (n : ℕ) → 3 + buckets_in b ≤ n → Room x n
-unfolding session-is planner.planned planner.answered totals_values totals_list
+pub plan_room : (b calls : List ℕ) (aim order : ℕ) (answers table entries : List ℕ) (x : Planned) (a t e : List ℕ) → session_is x a t e ≡ session_call b calls aim order answers table entries → (n : ℕ) → 3 + buckets_in b ≤ n → Room x n
+unfolding session_is planner.planned planner.answered totals_values totals_list
 plan_room b calls aim order answers table entries x a t e i n h best q =
     let c : length (totals_of best).unused ≡ buckets_in b = session_counts b calls aim order answers table entries (totals_of best) (sym (ap (λ (y : Session). y.planned.answer) i) ∙ rw q) in
     omega arith

@@ -42,14 +42,14 @@ use Rattle.line.specs.declared.Line.{Line}
 use Rattle.line.specs.Answers.{line_is, WordAsked}
 use Rattle.table.specs.declared.Limit.{Limit}
 use Rattle.table.specs.declared.Limit.TheVariants as limit
-use Rattle.table.specs.Answers.{job-on, limit_of, open_of, words_over, LineOf}
+use Rattle.table.specs.Answers.{job_on, limit_of, open_of, words_over, LineOf}
 use Rattle.best.specs.Answers.{Tabled, Standing, PlanRead}
 use Rattle.planner.specs.Answers.{PlansFrom, Searches, table_for, LimitFor}
 
 -- over any line, from any place and levels there
-module _ (b : List ℕ) (h : Header) (l : Line) (pins : List ℕ) (first : ℕ) (s : Levels) (from : PlansFrom b h l pins first s) (table : List ℕ) (room : words (job-on b l) ≤ length table) where
+module _ (b : List ℕ) (h : Header) (l : Line) (pins : List ℕ) (first : ℕ) (s : Levels) (from : PlansFrom b h l pins first s) (table : List ℕ) (room : words (job_on b l) ≤ length table) where
   abbrev J : Job
-  J = job-on b l
+  J = job_on b l
 
   counted : first ≤ intervals J
   counted = omega (arith, from.few, intervals_are b h from.starts.opens, intervals_on (job_in b) (line_is l))
@@ -187,10 +187,10 @@ plan_took b s a o table entries j n e = rw e
 
 -- the tests in front of a search, in their order
 module _ (b : List ℕ) (h : Header) (l : Line) (pins : List ℕ) (first : ℕ) (s : Levels) (table entries : List ℕ) (m : PinMap) (a : Aim) (o : Order) (asks : PlansFrom b h l pins first s) where
-  counted_on : intervals (job-on b l) ≡ h.units + h.delay
+  counted_on : intervals (job_on b l) ≡ h.units + h.delay
   counted_on = intervals_on (job_in b) (line_is l) ∙ intervals_are b h asks.starts.opens
 
-  words_on : words (job-on b l) ≡ words_over h l.buffers
+  words_on : words (job_on b l) ≡ words_over h l.buffers
   unfolding words_over words on_line
   words_on = rw (counted_on, layer_size l)
 
@@ -199,41 +199,41 @@ module _ (b : List ℕ) (h : Header) (l : Line) (pins : List ℕ) (first : ℕ) 
   over_fits = (few_intervals b h asks.starts.opens, each_small l.buffers asks.starts.line.buffers)
 
   abbrev work : Planned
-  work = search_in (job-on b l) m a o first s table entries
+  work = search_in (job_on b l) m a o first s table entries
 
-  pub from_11 : length table < words_over h l.buffers → record { answer = refused 11; table = table; entries = entries } ≡ plan_in (job-on b l) m a o first s table entries
+  pub from_11 : length table < words_over h l.buffers → record { answer = refused 11; table = table; entries = entries } ≡ plan_in (job_on b l) m a o first s table entries
   unfolding plan_in plan_tests refuse
-  from_11 k = sym (guarded_here (refuse table entries) _ _ work (lt-leb (words (job-on b l)) (length table) (omega (arith, words_on))))
+  from_11 k = sym (guarded_here (refuse table entries) _ _ work (lt-leb (words (job_on b l)) (length table) (omega (arith, words_on))))
 
   module _ (k : words_over h l.buffers ≤ length table) where
-    past_11 : plan_in (job-on b l) m a o first s table entries ≡ guarded (refuse table entries) (test 12 (leb (entry_size * (intervals (job-on b l) - first)) (length entries)) ∷ []) work
+    past_11 : plan_in (job_on b l) m a o first s table entries ≡ guarded (refuse table entries) (test 12 (leb (entry_size * (intervals (job_on b l) - first)) (length entries)) ∷ []) work
     unfolding plan_in plan_tests
-    past_11 = guarded_past (refuse table entries) _ _ work (le-leb (words (job-on b l)) (length table) (omega (arith, words_on)))
+    past_11 = guarded_past (refuse table entries) _ _ work (le-leb (words (job_on b l)) (length table) (omega (arith, words_on)))
 
-    pub from_12 : length entries < entry_size * (h.units + h.delay - first) → record { answer = refused 12; table = table; entries = entries } ≡ plan_in (job-on b l) m a o first s table entries
+    pub from_12 : length entries < entry_size * (h.units + h.delay - first) → record { answer = refused 12; table = table; entries = entries } ≡ plan_in (job_on b l) m a o first s table entries
     unfolding refuse
-    from_12 g = sym (past_11 ∙ guarded_here (refuse table entries) _ _ work (lt-leb (entry_size * (intervals (job-on b l) - first)) (length entries) (omega (arith, counted_on))))
+    from_12 g = sym (past_11 ∙ guarded_here (refuse table entries) _ _ work (lt-leb (entry_size * (intervals (job_on b l) - first)) (length entries) (omega (arith, counted_on))))
 
     module _ (g : entry_size * (h.units + h.delay - first) ≤ length entries) where
       pub searches : Searches b h l pins first s table entries
       searches = record { limits = record { from = asks; room = omega (arith, words_on) }; space = g }
 
-      pub from_searched : search_in (job-on b l) m a o first s table entries ≡ plan_in (job-on b l) m a o first s table entries
-      from_searched = sym (past_11 ∙ guarded_last (refuse table entries) _ work (le-leb (entry_size * (intervals (job-on b l) - first)) (length entries) (omega (arith, counted_on))))
+      pub from_searched : search_in (job_on b l) m a o first s table entries ≡ plan_in (job_on b l) m a o first s table entries
+      from_searched = sym (past_11 ∙ guarded_last (refuse table entries) _ work (le-leb (entry_size * (intervals (job_on b l) - first)) (length entries) (omega (arith, counted_on))))
 
 -- all of a job that the set matches, over its own line, from levels within it
 module _ (b : List ℕ) (h : Header) (s : PinSet) (r : Ready b h s) where
   module _ (l : Line) (is : LineOf b l) (start : Levels) (inside : InLayer (job_in b).line start) where
     pub plans_from : (pins : List ℕ) → length pins ≡ 512 → PlansFrom b h l pins 0 start
     plans_from pins n = record {
-      starts = record { opens = r.opens; line = is.fits; pins-size = n };
+      starts = record { opens = r.opens; line = is.fits; pins_size = n };
       few = omega arith;
       inside = rw is.is inside;
     }
 
-    pub plan_on : (a : Aim) (o : Order) (table entries : List ℕ) → plan_in (job-on b l) (lines h.units s.pins) a o 0 start table entries ≡ plan_in (job_in b) (lines (length (job_in b).units) s.pins) a o 0 start table entries
+    pub plan_on : (a : Aim) (o : Order) (table entries : List ℕ) → plan_in (job_on b l) (lines h.units s.pins) a o 0 start table entries ≡ plan_in (job_in b) (lines (length (job_in b).units) s.pins) a o 0 start table entries
     plan_on a o table entries =
-        let own : job-on b l ≡ job_in b = ap (on_line (job_in b)) is.is ∙ own_line (job_in b) in
+        let own : job_on b l ≡ job_in b = ap (on_line (job_in b)) is.is ∙ own_line (job_in b) in
         rw (own, units_are b h r.opens)
 
   -- from its own starting levels

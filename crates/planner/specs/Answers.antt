@@ -4,8 +4,8 @@ use Rattle.base.specs.If.{one_if}
 use Rattle.base.specs.Answer.{Answer, refused, gives}
 use Rattle.model.specs.Job as model
 use Rattle.model.specs.Pins.{PinMap}
-use Rattle.model.specs.Replay as model-replay
-use Rattle.model.specs.Best as model-best
+use Rattle.model.specs.Replay as model_replay
+use Rattle.model.specs.Best as model_best
 use Rattle.model.specs.Best.{unlimited, total, even, open_for}
 use Rattle.model.specs.Table.{InLayer, words}
 use Rattle.format.specs.JobBytes as format
@@ -21,19 +21,19 @@ use Rattle.planner.specs.declared.Aim.TheVariants as aim
 use Rattle.line.specs.declared.Line.{Line}
 use Rattle.line.specs.Answers.{line_is}
 use Rattle.table.specs.declared.Limit.{Limit}
-use Rattle.table.specs.Answers.{job-on, open_of, Starts}
+use Rattle.table.specs.Answers.{job_on, open_of, Starts}
 
 -- the answer of planning, and the lists that were lent
-unfoldable pub answered : Planned → Answer model-replay.Totals
+unfoldable pub answered : Planned → Answer model_replay.Totals
 answered (p.Best t) = gives (totals_of t)
 answered (p.Refused n) = refused n
 
 unfoldable pub planned : Planned → List ℕ → List ℕ → calls.Planned
 planned x table entries = record { answer = answered x; table = table; entries = entries }
 
-unfoldable pub aim-is : Aim → model-best.Aim
-aim-is aim.Total = total
-aim-is aim.Even = even
+unfoldable pub aim_is : Aim → model_best.Aim
+aim_is aim.Total = total
+aim_is aim.Even = even
 
 -- the levels of the buckets
 unfoldable pub levels_of_buckets : BucketLevels → List ℕ
@@ -50,7 +50,7 @@ pub record PlansFrom (b : List ℕ) (h : format.Header) (l : Line) (pins : List 
 -- and a table that is long enough
 pub record Limits (b : List ℕ) (h : format.Header) (l : Line) (pins : List ℕ) (first : ℕ) (s : model.Levels) (table : List ℕ) : Type 0 where
   pub from : PlansFrom b h l pins first s
-  pub room : words (job-on b l) ≤ length table
+  pub room : words (job_on b l) ≤ length table
 
 -- and a list that is long enough for the entries
 pub record Searches (b : List ℕ) (h : format.Header) (l : Line) (pins : List ℕ) (first : ℕ) (s : model.Levels) (table entries : List ℕ) : Type 0 where
@@ -58,11 +58,11 @@ pub record Searches (b : List ℕ) (h : format.Header) (l : Line) (pins : List �
   pub space : entry_size * (h.units + h.delay - first) ≤ length entries
 
 -- the table when the limit is known: for even pictures it was filled by the greatest
-unfoldable pub table_for : model-best.Aim → model.Job → PinMap → ℕ → List ℕ → List ℕ
+unfoldable pub table_for : model_best.Aim → model.Job → PinMap → ℕ → List ℕ → List ℕ
 table_for total j m first table = table
 table_for even j m first table = table_from max j (unlimited m) first table
 
 -- the limit of a search by an aim
-pub record LimitFor (a : model-best.Aim) (j : model.Job) (m : PinMap) (first : ℕ) (s : model.Levels) (old : List ℕ) (r : Limit) (new : List ℕ) : Type 0 where
+pub record LimitFor (a : model_best.Aim) (j : model.Job) (m : PinMap) (first : ℕ) (s : model.Levels) (old : List ℕ) (r : Limit) (new : List ℕ) : Type 0 where
   pub is : open_of m r ≡ open_for a j m first s
   pub table_is : new ≡ table_for a j m first old

@@ -13,9 +13,9 @@ ghost use Rattle.pinset.specs.Answers.{set_of};
 ghost use Rattle.interval.specs.Answers.{levels_of};
 ghost use Rattle.planning.specs.Calls.{search_in, plan_in, plan_call};
 ghost use Rattle.starting.specs.Calls.{levels_fit, plan_with, levels_call};
-ghost use Rattle.table.specs.Answers.{job-on};
+ghost use Rattle.table.specs.Answers.{job_on};
 ghost use Rattle.best.specs.Answers.{order_is};
-ghost use Rattle.planner.specs.Answers.{planned, aim-is, levels_of_buckets, Limits, LimitFor, PlansFrom, Searches};
+ghost use Rattle.planner.specs.Answers.{planned, aim_is, levels_of_buckets, Limits, LimitFor, PlansFrom, Searches};
 
 use best::Order;
 use decoder::Measure;
@@ -59,7 +59,7 @@ fn least_greatest(
     table: &mut [u32],
 ) -> Limit
     requires { Limits job.now (plain header) line pins.now first (levels_of start) table.old }
-    ensures { LimitFor even (job-on job.now line) (lines header.units pins.now) first (levels_of start) table.old result table.new }
+    ensures { LimitFor even (job_on job.now line) (lines header.units pins.now) first (levels_of start) table.old result table.new }
 {
     table::fill_table(
         job,
@@ -90,7 +90,7 @@ fn limit_for(
     table: &mut [u32],
 ) -> Limit
     requires { Limits job.now (plain header) line pins.now first (levels_of start) table.old }
-    ensures { LimitFor (aim-is aim) (job-on job.now line) (lines header.units pins.now) first (levels_of start) table.old result table.new }
+    ensures { LimitFor (aim_is aim) (job_on job.now line) (lines header.units pins.now) first (levels_of start) table.old result table.new }
 {
     match aim {
         Aim::Total => Limit::Free,
@@ -112,7 +112,7 @@ pub fn search(
     entries: &mut [u8],
 ) -> Planned
     requires { Searches job.now (plain header) line pins.now first (levels_of start) table.old entries.old }
-    ensures { planned result table.new entries.new ≡ search_in (job-on job.now line) (lines header.units pins.now) (aim-is aim) (order_is order) first (levels_of start) table.old entries.old }
+    ensures { planned result table.new entries.new ≡ search_in (job_on job.now line) (lines header.units pins.now) (aim_is aim) (order_is order) first (levels_of start) table.old entries.old }
 {
     let limit = limit_for(aim, job, header, line, pins, first, start, table);
     table::fill_table(job, header, line, pins, limit, Measure::Sum, first, table);
@@ -138,7 +138,7 @@ fn plan_rest(
     entries: &mut [u8],
 ) -> Planned
     requires { PlansFrom job.now (plain header) line pins.now first (levels_of start) }
-    ensures { planned result table.new entries.new ≡ plan_in (job-on job.now line) (lines header.units pins.now) (aim-is aim) (order_is order) first (levels_of start) table.old entries.old }
+    ensures { planned result table.new entries.new ≡ plan_in (job_on job.now line) (lines header.units pins.now) (aim_is aim) (order_is order) first (levels_of start) table.old entries.old }
 {
     if table.len() < table::words_over(header, line.buffers) {
         return Planned::Refused(refusal::TABLE);
@@ -163,7 +163,7 @@ fn plan_checked(
     entries: &mut [u8],
 ) -> Planned
     requires { Ready job.now (plain header) (set_of set) × InLayer (job_in job.now).line (levels_of start) }
-    ensures { planned result table.new entries.new ≡ plan_in (job_in job.now) (lines (length (job_in job.now).units) (set_of set).pins) (aim-is aim) (order_is order) 0 (levels_of start) table.old entries.old }
+    ensures { planned result table.new entries.new ≡ plan_in (job_in job.now) (lines (length (job_in job.now).units) (set_of set).pins) (aim_is aim) (order_is order) 0 (levels_of start) table.old entries.old }
 {
     let pins = set.pins;
     let line = table::line_in(job, header);
@@ -182,7 +182,7 @@ pub fn plan(
     table: &mut [u32],
     entries: &mut [u8],
 ) -> Planned
-    ensures { planned result table.new entries.new ≡ plan_call job.now (set_of set) (aim-is aim) (order_is order) table.old entries.old }
+    ensures { planned result table.new entries.new ≡ plan_call job.now (set_of set) (aim_is aim) (order_is order) table.old entries.old }
 {
     match pinset::check(job, set, Door::Opening) {
         Reading::Refused(n) => Planned::Refused(n),
@@ -218,7 +218,7 @@ fn plan_with(
     entries: &mut [u8],
 ) -> Planned
     requires { Ready job.now (plain header) (set_of set) }
-    ensures { planned result table.new entries.new ≡ plan_with (job_in job.now) (set_of set) (levels_of_buckets levels) (aim-is aim) (order_is order) table.old entries.old }
+    ensures { planned result table.new entries.new ≡ plan_with (job_in job.now) (set_of set) (levels_of_buckets levels) (aim_is aim) (order_is order) table.old entries.old }
 {
     if !levels_fit(header, levels) {
         return Planned::Refused(refusal::LEVELS);
@@ -242,7 +242,7 @@ pub fn plan_from(
     table: &mut [u32],
     entries: &mut [u8],
 ) -> Planned
-    ensures { planned result table.new entries.new ≡ levels_call job.now (set_of held) (levels_of_buckets levels) (aim-is aim) (order_is order) table.old entries.old }
+    ensures { planned result table.new entries.new ≡ levels_call job.now (set_of held) (levels_of_buckets levels) (aim_is aim) (order_is order) table.old entries.old }
 {
     match pinset::check(job, held, Door::Opening) {
         Reading::Refused(n) => Planned::Refused(n),

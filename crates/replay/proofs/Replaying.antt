@@ -29,7 +29,7 @@ use Rattle.interval.specs.declared.Levels.{Levels}
 use Rattle.interval.specs.declared.Outcome.{Outcome}
 use Rattle.interval.specs.declared.Totals.{Totals}
 use Rattle.course.specs.Answers.{IsInterval}
-use Rattle.interval.specs.Answers.{levels_of, outcome-is, totals_of, line_of, OfHeader, added, no_totals}
+use Rattle.interval.specs.Answers.{levels_of, outcome_is, totals_of, line_of, OfHeader, added, no_totals}
 use Rattle.interval.proofs.Adding.{Added, added_start, added_on, added_end}
 
 module _ (b : List ℕ) (h : Header) (o : Opens b h) where
@@ -42,7 +42,7 @@ module _ (b : List ℕ) (h : Header) (o : Opens b h) where
   decoder_of_job k e = e.decoder ∙ sym (decoder_is b h o)
 
   -- a step over the job's line answers the interval's outcome
-  pub outcome_told : (k : Buffers) → OfHeader k h → (m : PinMap) (entries : List ℕ) (i : ℕ) (x : Interval) (at : Levels) → IsInterval (job_in b) m entries i x → (answer told : Outcome) → outcome-is answer ≡ outcome_of (line_of k []) (choice_of x.pin) (choice_of x.choice) at.decoder (levels_of at).buckets x.sent x.size → answer ≡ told → outcome (job_in b) m (suc i) (levels_of at) (entry_at entries i) ≡ outcome-is told
+  pub outcome_told : (k : Buffers) → OfHeader k h → (m : PinMap) (entries : List ℕ) (i : ℕ) (x : Interval) (at : Levels) → IsInterval (job_in b) m entries i x → (answer told : Outcome) → outcome_is answer ≡ outcome_of (line_of k []) (choice_of x.pin) (choice_of x.choice) at.decoder (levels_of at).buckets x.sent x.size → answer ≡ told → outcome (job_in b) m (suc i) (levels_of at) (entry_at entries i) ≡ outcome_is told
   unfolding outcome outcome_of levels_of
   outcome_told k e m entries i x at d answer told q same =
       sym (rw (same, d.pin, d.choice, d.does.sent, d.does.size, buckets_of_job k e, decoder_of_job k e) at q)

@@ -22,5 +22,5 @@ ended x list = record { answer = answered x; list = list }
 -- a plan in shape, the pins of a set, and a list that is long enough for its levels
 pub record Plays (b : List ℕ) (h : format.Header) (pins entries levels : List ℕ) : Type 0 where
   pub plan : Shaped b h entries
-  pub pins-size : length pins ≡ 512
+  pub pins_size : length pins ≡ 512
   pub room : suc (length h.buckets) * (h.units + h.delay) ≤ length levels

@@ -20,7 +20,7 @@ use Rattle.planning.specs.See.{renewed}
 use Rattle.planning.proofs.Refilling.{refilled_length}
 use Rattle.line.specs.declared.Line.{Line}
 use Rattle.line.specs.Answers.{line_is, WordAsked}
-use Rattle.table.specs.Answers.{job-on, LineOf, Fills}
+use Rattle.table.specs.Answers.{job_on, LineOf, Fills}
 use Rattle.see.specs.Answers.{Renews, Renewed}
 
 module _ (b : List ℕ) (h : Header) (s : PinSet) (u : ℕ) (table : List ℕ) (r : Renews b h s u table) (l : Line) (is : LineOf b l) (last : ℕ) (counts : last ≡ u + h.delay) where
@@ -39,14 +39,14 @@ module _ (b : List ℕ) (h : Header) (s : PinSet) (u : ℕ) (table : List ℕ) (
 
   pub fills : (pins : List ℕ) → length pins ≡ 512 → Fills b h l pins 0 last table
   fills pins n = record {
-    starts = record { opens = opens; line = is.fits; pins-size = n };
+    starts = record { opens = opens; line = is.fits; pins_size = n };
     ends = omega arith;
     few = omega (arith, few, intervals_are b h opens);
     room = space;
   }
 
-  module _ (new : List ℕ) (e : new ≡ refilled ◌+◌ (job-on b l) (unlimited (lines h.units s.pins)) 0 (last - 0) table) where
-    own : job-on b l ≡ j
+  module _ (new : List ℕ) (e : new ≡ refilled ◌+◌ (job_on b l) (unlimited (lines h.units s.pins)) 0 (last - 0) table) where
+    own : job_on b l ≡ j
     own = ap (on_line j) is.is ∙ own_line j
 
     table_is : new ≡ renewed j (lines (length j.units) s.pins) u table

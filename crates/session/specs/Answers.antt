@@ -5,5 +5,5 @@ use Rattle.planner.specs.Answers.{planned}
 use Rattle.calling.specs.Sessions.{Session}
 
 -- the answer of a session with planning, and the lists that were lent
-unfoldable pub session-is : Planned → List ℕ → List ℕ → List ℕ → Session
-session-is x answers table entries = record { answers = answers; planned = planned x table entries }
+unfoldable pub session_is : Planned → List ℕ → List ℕ → List ℕ → Session
+session_is x answers table entries = record { answers = answers; planned = planned x table entries }

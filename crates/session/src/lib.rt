@@ -3,10 +3,10 @@ ghost use Rattle.std.specs.Prelude.{◌≡◌};
 ghost use Rattle.header.specs.Answers.{verdict};
 ghost use Rattle.replay.specs.Answers.{ended};
 ghost use Rattle.base.specs.Refusals.{refusal};
-ghost use Rattle.planner.specs.Answers.{aim-is};
+ghost use Rattle.planner.specs.Answers.{aim_is};
 ghost use Rattle.best.specs.Answers.{order_is};
 ghost use Rattle.calling.specs.Sessions.{aim_named, order_named, named_tests, asked_tests, plan_refusal, session_call, replay_refusal, replay_session};
-ghost use Rattle.session.specs.Answers.{session-is};
+ghost use Rattle.session.specs.Answers.{session_is};
 
 use best::Order;
 use header::{Door, Verdict};
@@ -20,7 +20,7 @@ const EVEN: u32 = 1;
 const LATE: u32 = 1;
 
 pub fn aim_named(aim: u32) -> Aim
-    ensures { aim-is result ≡ aim_named aim }
+    ensures { aim_is result ≡ aim_named aim }
 {
     if aim == EVEN {
         return Aim::Even;
@@ -102,7 +102,7 @@ pub fn plan_after(
     table: &mut [u32],
     entries: &mut [u8],
 ) -> Planned
-    ensures { session-is result answers.new table.new entries.new ≡ session_call job.now calls.now aim order answers.old table.old entries.old }
+    ensures { session_is result answers.new table.new entries.new ≡ session_call job.now calls.now aim order answers.old table.old entries.old }
 {
     if let Verdict::Refused(n) = plan_refusal(
         job,

@@ -32,7 +32,7 @@ use Rattle.line.specs.declared.Line.{Line}
 use Rattle.table.specs.declared.Choices.{Choices}
 use Rattle.table.specs.declared.Limit.{Limit}
 use Rattle.line.specs.Answers.{line_is, BuffersFit}
-use Rattle.table.specs.Answers.{job-on, limit_of, open_of, allowed_is, LineOf, ChoicesIn, waits, decodes, ChoicesOf, Starts}
+use Rattle.table.specs.Answers.{job_on, limit_of, open_of, allowed_is, LineOf, ChoicesIn, waits, decodes, ChoicesOf, Starts}
 use Rattle.table.proofs.Arrays.{Filled, filled_list}
 
 -- the buffers that a header tells are those of its job
@@ -145,8 +145,8 @@ chosen_on b h j line m place c d = record { count = d.count; each = λ x k. d.ea
     same : (x : ℕ) → allowed_in (on_line j line) m (suc place) x ≡ allowed_in j m (suc place) x
     same x = unfold on_line allowed_in choice_in entry pin_at in rw (coding_on j line (suc place) (choice_in j (suc place) x)) refl
 
-pub choices_on : (b : List ℕ) (h : Header) (l : Line) (pins : List ℕ) (limit : Limit) (place : ℕ) (c : Choices) → Starts b h l pins → place < h.units + h.delay → ChoicesIn h pins limit place c → ChoicesOf b h (job-on b l) (open_of (lines h.units pins) limit) place c
-choices_on b h l pins limit place c st k told = chosen_on b h (job_in b) (line_is l) (open_of (lines h.units pins) limit) place c (choices_of b h pins limit place c st.opens st.pins-size k told)
+pub choices_on : (b : List ℕ) (h : Header) (l : Line) (pins : List ℕ) (limit : Limit) (place : ℕ) (c : Choices) → Starts b h l pins → place < h.units + h.delay → ChoicesIn h pins limit place c → ChoicesOf b h (job_on b l) (open_of (lines h.units pins) limit) place c
+choices_on b h l pins limit place c st k told = chosen_on b h (job_in b) (line_is l) (open_of (lines h.units pins) limit) place c (choices_of b h pins limit place c st.opens st.pins_size k told)
 
 pub few_units : (b : List ℕ) (h : Header) → Opens b h → h.units ≤ 512
 few_units b h o = omega (arith, units_are b h o, (job_limits b h o).units)

@@ -29,7 +29,7 @@ use Rattle.model.proofs.Neutral.{words_same}
 use Rattle.layer.proofs.Prices.{prices_stand, layer_stands}
 use Rattle.line.specs.declared.Line.{Line}
 use Rattle.table.specs.declared.Choices.{Choices}
-use Rattle.line.specs.Answers.{line_is, LineFits, FilledAs, itself, behind-one, LayerLine}
+use Rattle.line.specs.Answers.{line_is, LineFits, FilledAs, itself, behind_one, LayerLine}
 use Rattle.table.specs.Answers.{limit_of, allowed_is, ChoicesFit}
 
 -- an open choice has its distortion
@@ -45,7 +45,7 @@ open_small b h c g x k l =
 module _ (l : Line) (r : layer_line.Line) (a : LayerLine l r) where
   words_so : FilledAs (line_is l) (layer_answers.line_is r) → layer_words (layer_answers.line_is r) ≡ layer_words (line_is l)
   words_so (itself e) = ap (λ (k : model.Line). layer_words k) e
-  words_so (behind-one e) = ap (λ (k : model.Line). layer_words k) e ∙ words_same 4095 (line_is l)
+  words_so (behind_one e) = ap (λ (k : model.Line). layer_words k) e ∙ words_same 4095 (line_is l)
 
   pub same_words : layer_words (layer_answers.line_is r) ≡ layer_words (line_is l)
   same_words = words_so a.is
@@ -65,4 +65,4 @@ module _ (l : Line) (r : layer_line.Line) (a : LayerLine l r) where
 
       so : FilledAs (line_is l) (layer_answers.line_is r) → (next : List ℕ) → layer_from (combine measure) (layer_answers.line_is r) 256 (priced prices) next ≡ layer_from (combine measure) (line_is l) c.count (allowed_is b h c) next
       so (itself q) next = ap (λ (k : model.Line). layer_from (combine measure) k 256 (priced prices) next) q ∙ prices_stand measure (line_is l) c.count (allowed_is b h c) prices next decoder p (λ x k h t. small x k h t)
-      so (behind-one q) next = ap (λ (k : model.Line). layer_from (combine measure) k 256 (priced prices) next) q ∙ layer_stands measure 4095 (line_is l) c.count (allowed_is b h c) prices next rates decoder p (λ x k h t. small x k h t)
+      so (behind_one q) next = ap (λ (k : model.Line). layer_from (combine measure) k 256 (priced prices) next) q ∙ layer_stands measure 4095 (line_is l) c.count (allowed_is b h c) prices next rates decoder p (λ x k h t. small x k h t)

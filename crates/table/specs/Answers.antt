@@ -24,8 +24,8 @@ use Rattle.line.specs.declared.Candidate.{Candidate}
 use Rattle.line.specs.Answers.{line_is, candidate_is, LineFits}
 
 -- the job that stands in bytes, over this line
-abbrev pub job-on : List ℕ → Line → model.Job
-job-on b l = model.on_line (job_in b) (line_is l)
+abbrev pub job_on : List ℕ → Line → model.Job
+job_on b l = model.on_line (job_in b) (line_is l)
 
 -- a limit in the model's terms, and what it leaves open with some pins
 unfoldable pub limit_of : Limit → Option ℕ
@@ -83,7 +83,7 @@ pub record ChoicesOf (b : List ℕ) (h : format.Header) (j : model.Job) (k : Ope
 pub record Starts (b : List ℕ) (h : format.Header) (l : Line) (pins : List ℕ) : Type 0 where
   pub opens : Opens b h
   pub line : LineFits l
-  pub pins-size : length pins ≡ 512
+  pub pins_size : length pins ≡ 512
 
 -- layers to be filled, and room for them and the next
 pub record Fills (b : List ℕ) (h : format.Header) (l : Line) (pins : List ℕ) (first last : ℕ) (table : List ℕ) : Type 0 where

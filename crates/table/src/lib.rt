@@ -14,7 +14,7 @@ ghost use Rattle.planning.specs.Words.{table_from};
 ghost use Rattle.planning.specs.Prices.{price_at};
 ghost use Rattle.block.specs.Blocks.{LeastOf};
 ghost use Rattle.line.specs.Answers.{line_is, LineFits};
-ghost use Rattle.table.specs.Answers.{job-on, limit_of, open_of, allowed_is, words_over, table_words, ChoicesFit, LineOf, CandidateOf, ChoicesIn, Starts, Fills};
+ghost use Rattle.table.specs.Answers.{job_on, limit_of, open_of, allowed_is, words_over, table_words, ChoicesFit, LineOf, CandidateOf, ChoicesIn, Starts, Fills};
 
 use decoder::Measure;
 use header::{Choice, Header, Verdict};
@@ -164,7 +164,7 @@ pub fn fill_layers(
     table: &mut [u32],
 )
     requires { Fills job.now (plain header) line pins.now first last table.old }
-    ensures { table.new ≡ refilled (combine measure) (job-on job.now line) (open_of (lines header.units pins.now) limit) first (last - first) table.old }
+    ensures { table.new ≡ refilled (combine measure) (job_on job.now line) (open_of (lines header.units pins.now) limit) first (last - first) table.old }
 {
     let size = line::layer_words(line);
     let mut place = last;
@@ -188,8 +188,8 @@ pub fn fill_table(
     first: usize,
     table: &mut [u32],
 )
-    requires { Starts job.now (plain header) line pins.now × (first ≤ header.units + header.delay) × (words (job-on job.now line) ≤ length table.old) }
-    ensures { table.new ≡ table_from (combine measure) (job-on job.now line) (open_of (lines header.units pins.now) limit) first table.old }
+    requires { Starts job.now (plain header) line pins.now × (first ≤ header.units + header.delay) × (words (job_on job.now line) ≤ length table.old) }
+    ensures { table.new ≡ table_from (combine measure) (job_on job.now line) (open_of (lines header.units pins.now) limit) first table.old }
 {
     let size = line::layer_words(line);
     let last = entry::intervals(header);

@@ -6,9 +6,9 @@ use Rattle.writer.specs.declared.Wrote.{Wrote}
 use Rattle.writer.specs.declared.Wrote.TheVariants as w
 
 -- how many bytes the job took, or the refusal's number
-unfoldable pub wrote-answer : Wrote → Answer ℕ
-wrote-answer (w.Done n) = gives n
-wrote-answer (w.Refused n) = refused n
+unfoldable pub wrote_answer : Wrote → Answer ℕ
+wrote_answer (w.Done n) = gives n
+wrote_answer (w.Refused n) = refused n
 
 unfoldable pub wrote : Wrote → List ℕ → Ended ℕ
-wrote r out = record { answer = wrote-answer r; list = out }
+wrote r out = record { answer = wrote_answer r; list = out }

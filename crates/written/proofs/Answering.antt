@@ -9,7 +9,7 @@ use Rattle.base.specs.Refusals.{refusal, unless, first}
 use Rattle.base.specs.Lent.{Ended, put}
 use Rattle.base.proofs.Refusals.{guarded_here, guarded_last}
 use Rattle.writer.specs.declared.Wrote.{Wrote}
-use Rattle.writer.specs.Answers.{wrote-answer, wrote}
+use Rattle.writer.specs.Answers.{wrote_answer, wrote}
 use Rattle.exporting.specs.Exports.{number_of, room_for, written, after_write, job_export}
 use Rattle.exporting.proofs.Fields.{is_header, no_header}
 use Rattle.exporting.proofs.Rooms.{before, few, behind}
@@ -31,6 +31,6 @@ module _ (fields job values : List ℕ) (looked : Option ℕ) (made : Ended ℕ)
       pub made_12 : length values < 1 → written 12 job values ≡ job_export fields looked made job values
       made_12 l = few (λ n. written n job values) looked 1 values _ e l ∙ sym nine_fields
 
-      pub made_told : 1 ≤ length values → (x : Wrote) (new : List ℕ) → wrote x new ≡ made → (n : ℕ) (list : List ℕ) → n ≡ number_of (wrote-answer x) → list ≡ put (wrote-answer x) (λ taken. taken ∷ []) values → written n new list ≡ job_export fields looked made job values
+      pub made_told : 1 ≤ length values → (x : Wrote) (new : List ℕ) → wrote x new ≡ made → (n : ℕ) (list : List ℕ) → n ≡ number_of (wrote_answer x) → list ≡ put (wrote_answer x) (λ taken. taken ∷ []) values → written n new list ≡ job_export fields looked made job values
       unfolding after_write wrote
       made_told room x new i n list q w = sym (nine_fields ∙ behind (λ n. written n job values) looked 1 values _ e room ∙ rw (← i, q, w))

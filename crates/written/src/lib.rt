@@ -4,7 +4,7 @@ ghost use Rattle.base.specs.If.{one_if};
 ghost use Rattle.format.specs.JobBytes.{policed_by, header_of};
 ghost use Rattle.header.specs.Answers.{extra, policed_of, plain};
 ghost use Rattle.base.specs.Lent.{put};
-ghost use Rattle.writer.specs.Answers.{wrote-answer};
+ghost use Rattle.writer.specs.Answers.{wrote_answer};
 ghost use Rattle.exporting.specs.Exports.{number_of, header_fields, written, write_export, trial_export};
 
 use header::{Bucket, Header, Verdict};
@@ -77,7 +77,7 @@ fn header_of(fields: &[u16], two: bool) -> Header
 // The number of what was answered, and how many bytes the job took as a value.
 fn tell(made: Wrote, values: &mut [u64]) -> u32
     requires { 1 ≤ length values.old }
-    ensures { (result ≡ number_of (wrote-answer made)) × (values.new ≡ put (wrote-answer made) (λ taken. taken ∷ []) values.old) }
+    ensures { (result ≡ number_of (wrote_answer made)) × (values.new ≡ put (wrote_answer made) (λ taken. taken ∷ []) values.old) }
 {
     match made {
         Wrote::Refused(n) => n as u32,

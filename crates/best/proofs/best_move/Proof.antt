@@ -10,7 +10,7 @@ use Rattle.best.proofs.best_move.Tie as tie
 
 choices-in-requires : tie.Need-choices-in-requires
 unfolding plain
-choices-in-requires c κs = let a = c.before.before in (a.requires.starts.pins-size, few_units _ _ a.requires.starts.opens, a.requires.before)
+choices-in-requires c κs = let a = c.before.before in (a.requires.starts.pins_size, few_units _ _ a.requires.starts.opens, a.requires.before)
 
 best-entry-requires : tie.Need-best-entry-requires
 best-entry-requires c κs =

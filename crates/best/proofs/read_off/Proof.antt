@@ -2,7 +2,7 @@
 use Rattle.best.proofs.Plans.{ReadTo, read_start, read_on, read_end}
 use Rattle.best.proofs.Plans.{line_buckets, drains_most}
 use Rattle.line.specs.Answers.{line_is}
-use Rattle.table.specs.Answers.{job-on, open_of}
+use Rattle.table.specs.Answers.{job_on, open_of}
 use Rattle.best.specs.Answers.{order_is}
 use Rattle.format.specs.JobBytes.{job_in}
 use Rattle.format.proofs.Opened.{few_intervals, intervals_are}
@@ -19,7 +19,7 @@ use Rattle.best.proofs.read_off.Statement.{statement}
 use Rattle.best.proofs.read_off.Tie as tie
 
 abbrev invariant-loop : tie.invariant-loop
-invariant-loop order job header line pins limit table first entries₀ total at₀ sum₀ place₀ entries at sum place = (first ≤ place) × (place ≤ total) × ReadTo (job-on job line) (open_of (lines header.units pins) limit) (order_is order) first (levels_of at₀) entries₀ place at sum entries
+invariant-loop order job header line pins limit table first entries₀ total at₀ sum₀ place₀ entries at sum place = (first ≤ place) × (place ≤ total) × ReadTo (job_on job line) (open_of (lines header.units pins) limit) (order_is order) first (levels_of at₀) entries₀ place at sum entries
 
 abbrev decreases-loop : tie.decreases-loop
 decreases-loop order job header line pins limit table first entries₀ total at₀ sum₀ place₀ entries at sum place = total - place

@@ -1,6 +1,6 @@
 -- `calls::make_calls` meets its contract.
 use Rattle.calls.proofs.Answering.{calls_refused, calls_room, calls_made}
-use Rattle.calls.specs.Answers.{called-answer, called}
+use Rattle.calls.specs.Answers.{called_answer, called}
 use Rattle.base.specs.Lent.{refuse}
 use Rattle.pinset.specs.Answers.{set_of}
 use Rattle.header.specs.Answers.{verdict}
@@ -16,7 +16,7 @@ enum-known-n : tie.Need-enum-known-n
 enum-known-n c = search rules
 
 returns : tie.Need-returns
-unfolding called called-answer refuse verdict
+unfolding called called_answer refuse verdict
 returns c = calls_refused _ _ _ _ (ap verdict (sym c.before.n.given.1) ∙ c.before.before.before.calls_refusal.ensures)
 
 enum_told : tie.Need-enum-told
@@ -30,7 +30,7 @@ same_length : tie.Need-same-length
 same_length c = search rules
 
 returns-2 : tie.Need-returns-2
-unfolding called called-answer set_of verdict
+unfolding called called_answer set_of verdict
 returns-2 c = calls_made _ _ _ (ap verdict (sym c.before.before.before.before.enum_told.given.1) ∙ c.before.before.before.before.before.before.calls_refusal.ensures) _ _ c.before.before.put-numbers.ensures
 
 pub make-calls-spec : {M : Type 1} → statement M

@@ -52,7 +52,7 @@ change-over-requires c κs =
     let l = u.line_under.ensures in
     let n = counts _ _ _ _ t.offered in (
       record {
-        plan = record { opens = a.requires.opens; in-shape = t.shape };
+        plan = record { opens = a.requires.opens; in_shape = t.shape };
         ready = a.requires;
         line = l.fits;
         decoder = ap (λ (x : Line). x.decoder) l.is;

@@ -21,7 +21,7 @@ goes a = passed _ _ _ a.requires.0.plan.opens _ _ _ _ _ (rw (units_are _ _ a.req
 
 follow-requires : tie.Need-follow-requires
 unfolding plain set_of
-follow-requires c κs = let a = c.before.before.before.before.before.before in record { plan = a.requires.0.plan; pins-size = a.requires.0.ready.size; few = omega (arith, (goes a).less) }
+follow-requires c κs = let a = c.before.before.before.before.before.before in record { plan = a.requires.0.plan; pins_size = a.requires.0.ready.size; few = omega (arith, (goes a).less) }
 
 enum_told : tie.Need-enum-told
 enum_told c = search rules

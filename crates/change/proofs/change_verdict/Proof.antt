@@ -73,7 +73,7 @@ rest-verdict-requires c κs =
     let n = counts _ _ _ _ (sym e.before.offered.ensures ∙ not-false _ e.if2.false) in
     let u = c.line_under.ensures in
     record {
-      plan = record { opens = a.requires.opens; in-shape = sym e.before.before.before.shaped.ensures ∙ not-false _ e.before.before.if1.false };
+      plan = record { opens = a.requires.opens; in_shape = sym e.before.before.before.shaped.ensures ∙ not-false _ e.before.before.if1.false };
       ready = a.requires;
       line = u.fits;
       decoder = ap (λ (l : Line). l.decoder) u.is;

@@ -1,13 +1,13 @@
 -- `change::plan_rest` meets its contract: a refusal keeps the entries, and a plan stands behind those that remain.
 use Rattle.base.proofs.Lent.{part_all, put_back}
 use Rattle.change.proofs.Rest.{rest_refused, rest_best, adds}
-use Rattle.planner.specs.Answers.{planned, aim-is}
+use Rattle.planner.specs.Answers.{planned, aim_is}
 use Rattle.planner.specs.declared.Planned.{Planned}
 use Rattle.planner.specs.declared.Planned.TheVariants as p
 use Rattle.planning.specs.Calls.{search_in}
 use Rattle.pinning.specs.PinSet.{lines}
 use Rattle.header.specs.Answers.{plain}
-use Rattle.table.specs.Answers.{job-on}
+use Rattle.table.specs.Answers.{job_on}
 use Rattle.best.specs.Answers.{order_is}
 use Rattle.interval.specs.Answers.{levels_of}
 use Rattle.model.specs.Best.{total}
@@ -35,9 +35,9 @@ search-requires : tie.Need-search-requires
 search-requires c κs = let a = c.before.before.before.before.before.before in rw (part_all a.args.entries.now (3 * a.args.first)) a.requires.searches
 
 -- what the search found
-found : (c : tie.After-search) → let a = c.before.before.before.before.before.before.before.args in planned c.search.result c.search.new.1.1.1.1.1.1.1.1.0 c.search.new.1.1.1.1.1.1.1.1.1.0 ≡ search_in (job-on a.job.now a.line) (lines a.header.units a.pins.now) total (order_is a.order) a.first (levels_of a.at) a.table.now (drop (3 * a.first) a.entries.now)
-unfolding aim-is
-found c = let a = c.before.before.before.before.before.before.before.args in c.search.ensures ∙ ap (search_in (job-on a.job.now a.line) (lines a.header.units a.pins.now) total (order_is a.order) a.first (levels_of a.at) a.table.now) (part_all a.entries.now (3 * a.first))
+found : (c : tie.After-search) → let a = c.before.before.before.before.before.before.before.args in planned c.search.result c.search.new.1.1.1.1.1.1.1.1.0 c.search.new.1.1.1.1.1.1.1.1.1.0 ≡ search_in (job_on a.job.now a.line) (lines a.header.units a.pins.now) total (order_is a.order) a.first (levels_of a.at) a.table.now (drop (3 * a.first) a.entries.now)
+unfolding aim_is
+found c = let a = c.before.before.before.before.before.before.before.args in c.search.ensures ∙ ap (search_in (job_on a.job.now a.line) (lines a.header.units a.pins.now) total (order_is a.order) a.first (levels_of a.at) a.table.now) (part_all a.entries.now (3 * a.first))
 
 enum-known-n : tie.Need-enum-known-n
 enum-known-n c = search rules

@@ -31,7 +31,7 @@ returns-2 c = is_18 _ _ _ c.before.before.before.before.before.before.requires.p
 
 follow-requires : tie.Need-follow-requires
 unfolding plain set_of
-follow-requires c κs = let a = c.before.before.before.before.before.before.before in record { plan = a.requires.plan; pins-size = a.requires.ready.size; few = omega (arith, c.before.if2.false, c.before.before.before.intervals.ensures) }
+follow-requires c κs = let a = c.before.before.before.before.before.before.before in record { plan = a.requires.plan; pins_size = a.requires.ready.size; few = omega (arith, c.before.if2.false, c.before.before.before.intervals.ensures) }
 
 enum_told : tie.Need-enum-told
 enum_told c = search rules

@@ -1,6 +1,6 @@
 -- `commands::plan_input` meets its contract.
 use Rattle.commands.proofs.Inputs.{input_long, input_refused, input_planned}
-use Rattle.planner.specs.Answers.{answered, planned, aim-is}
+use Rattle.planner.specs.Answers.{answered, planned, aim_is}
 use Rattle.best.specs.Answers.{order_is}
 use Rattle.planning.specs.Calls.{refuse}
 use mathlib.Core.Path.{◌∙◌}
@@ -38,7 +38,7 @@ same-length-2 : tie.Need-same-length-2
 same-length-2 c = search rules
 
 returns-3 : tie.Need-returns-3
-unfolding aim-is order_is
+unfolding aim_is order_is
 returns-3 c =
     let p = c.before.before.before.before in
     let d = p.before.before.before in

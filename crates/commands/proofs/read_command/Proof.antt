@@ -1,7 +1,7 @@
 -- `commands::read_command` meets its contract.
 use mathlib.Core.Path.{sym, ◌∙◌, ap}
 use Rattle.header.specs.Answers.{verdict}
-use Rattle.commands.specs.Answers.{command-is}
+use Rattle.commands.specs.Answers.{command_is}
 use Rattle.commands.proofs.Records.{lift_refused, lift_took, pin_refused, pin_took}
 use borrow.Author.Rules.{rules}
 use Rattle.commands.proofs.read_command.Statement.{statement}
@@ -17,7 +17,7 @@ enum-known-n : tie.Need-enum-known-n
 enum-known-n c = search rules
 
 returns : tie.Need-returns
-unfolding verdict command-is
+unfolding verdict command_is
 returns c =
     let v = c.before.before.before in
     let k = v.before.before in
@@ -36,7 +36,7 @@ enum-known-n-2 : tie.Need-enum-known-n-2
 enum-known-n-2 c = search rules
 
 returns-2 : tie.Need-returns-2
-unfolding verdict command-is
+unfolding verdict command_is
 returns-2 c =
     let v = c.before.before.before in
     let k = v.before.before in
@@ -52,14 +52,14 @@ field16-requires-4 : tie.Need-field16-requires-4
 field16-requires-4 c κs = search rules
 
 returns-3 : tie.Need-returns-3
-unfolding verdict command-is
+unfolding verdict command_is
 returns-3 c =
     let v = c.before.before.before in
     let k = v.before.before in
     lift_took _ _ k.field16.ensures v.before.match.keys1 (sym (ap verdict c.before.enum_told.given.1) ∙ v.plain-verdict.ensures) _ c.field162.ensures
 
 returns-4 : tie.Need-returns-4
-unfolding verdict command-is
+unfolding verdict command_is
 returns-4 c =
     let v = c.before.before.before.before in
     let k = v.before.before in

@@ -1,5 +1,5 @@
 -- `course::coding_in` meets its contract: nothing up to the delay, after it the coding as it stands in the bytes.
-use Rattle.course.specs.Answers.{no-coding, coded}
+use Rattle.course.specs.Answers.{no_coding, coded}
 use Rattle.header.specs.Answers.{plain, coding_of}
 use mathlib.Core.Path.{refl}
 use borrow.Author.Rules.{rules}
@@ -11,7 +11,7 @@ cast-delay c = search rules
 
 returns : tie.Need-returns
 unfolding plain coding_of
-returns c = no-coding c.if1.true refl
+returns c = no_coding c.if1.true refl
 
 add-unit : tie.Need-overflow-add-unit
 add-unit c = search rules

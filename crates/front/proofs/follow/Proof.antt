@@ -2,7 +2,7 @@
 use Rattle.front.proofs.Following.{Going, going_start, going_on, going_stop, going_end}
 use Rattle.replay.proofs.Replaying.{buckets_of_job, outcome_told}
 use Rattle.format.proofs.Opened.{job_limits, few_intervals, intervals_are, start_is}
-use Rattle.interval.specs.Answers.{outcome-is, start_of}
+use Rattle.interval.specs.Answers.{outcome_is, start_of}
 use Rattle.pinning.specs.PinSet.{lines}
 use Rattle.header.specs.Answers.{plain}
 use Rattle.format.specs.JobBytes.{job_in}
@@ -39,7 +39,7 @@ interval-at-requires : tie.Need-interval-at-requires invariant-loop decreases-lo
 unfolding plain
 interval-at-requires c κs =
     let a = c.before.before.before.before.before.before.before in
-    (a.requires.plan, omega (arith, a.requires.few), a.requires.pins-size)
+    (a.requires.plan, omega (arith, a.requires.few), a.requires.pins_size)
 
 step-requires : tie.Need-step-requires invariant-loop decreases-loop
 step-requires c κs = search rules
@@ -48,7 +48,7 @@ enum_told : tie.Need-enum-told invariant-loop decreases-loop
 enum_told c = search rules
 
 returns : tie.Need-returns invariant-loop decreases-loop
-unfolding outcome-is
+unfolding outcome_is
 returns c =
     let t = c.before.before in
     let x = t.before in
@@ -81,7 +81,7 @@ loop-less : tie.Need-loop-smaller invariant-loop decreases-loop
 loop-less c = search rules
 
 loop-again : tie.Need-loop-preserved invariant-loop decreases-loop
-unfolding outcome-is
+unfolding outcome_is
 loop-again c =
     let n = c.before.before in
     let t = n.before.before in

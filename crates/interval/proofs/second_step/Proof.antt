@@ -1,7 +1,7 @@
 -- `interval::second_step` meets its contract: the second bucket's step, where line and levels have one.
 use mathlib.Core.Path.{refl}
 use Rattle.parts.specs.Answers.{drained}
-use Rattle.interval.specs.Answers.{both, not-both}
+use Rattle.interval.specs.Answers.{both, not_both}
 use Rattle.interval.proofs.Steps.{true_both}
 use borrow.Author.Rules.{rules}
 use Rattle.interval.proofs.second_step.Statement.{statement}
@@ -15,7 +15,7 @@ returns c = let t = true_both _ _ c.before.if1.true in both t.0 t.1 c.bucket_ste
 
 returns-2 : tie.Need-returns-2
 unfolding drained
-returns-2 c = not-both c.if1.false refl
+returns-2 c = not_both c.if1.false refl
 
 pub second-step-spec : {M : Type 1} → statement M
 second-step-spec = tie.close (tie.spec bucket-step-requires returns returns-2)

@@ -14,8 +14,8 @@ use Rattle.numbers.proofs.put_pins.Reads as put-pins-reads
 use Rattle.numbers.proofs.put_totals.Reads as put-totals-reads
 
 -- the set's array has its length
-pins-size : (start : lts.Start (put-header-reads.Asked, put-header-reads.Learnt, put-pins-reads.Asked, put-pins-reads.Learnt, put-totals-reads.Asked, put-totals-reads.Learnt) reads.Pre reads.Post) → length start.args.set.pins ≡ 512
-pins-size start = search rules
+pins_size : (start : lts.Start (put-header-reads.Asked, put-header-reads.Learnt, put-pins-reads.Asked, put-pins-reads.Learnt, put-totals-reads.Asked, put-totals-reads.Learnt) reads.Pre reads.Post) → length start.args.set.pins ≡ 512
+pins_size start = search rules
 
 put-header-requires : tie.Need-put-header-requires
 put-header-requires c κs = search rules
@@ -36,7 +36,7 @@ returns c =
     let p = t.before.before.before.before in
     let h = p.before.before.before.before.before in
     let a = h.before.before.before.before in
-    t.put-totals.ensures ∙ ap (over_at 525 _) (p.put-pins.ensures ∙ ap (over_at 13 _) h.put-header.ensures) ∙ set_laid (set_of a.args.set) a.args.list.now (pins-size a)
+    t.put-totals.ensures ∙ ap (over_at 525 _) (p.put-pins.ensures ∙ ap (over_at 13 _) h.put-header.ensures) ∙ set_laid (set_of a.args.set) a.args.list.now (pins_size a)
 
 pub put-set-spec : {M : Type 1} → statement M
 put-set-spec =

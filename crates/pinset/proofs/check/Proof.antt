@@ -15,8 +15,8 @@ use Rattle.job.proofs.read.Reads as read-reads
 use Rattle.pinset.proofs.fits.Reads as fits-reads
 
 -- the set's array has its length
-pins-size : (start : lts.Start (read-reads.Asked, read-reads.Learnt, fits-reads.Asked, fits-reads.Learnt) reads.Pre reads.Post) → length start.args.set.pins ≡ 512
-pins-size start = search rules
+pins_size : (start : lts.Start (read-reads.Asked, read-reads.Learnt, fits-reads.Asked, fits-reads.Learnt) reads.Pre reads.Post) → length start.args.set.pins ≡ 512
+pins_size start = search rules
 
 read-requires : tie.Need-read-requires
 read-requires c κs = search rules
@@ -37,14 +37,14 @@ returns : tie.Need-returns
 returns c =
     let n = c.before in
     let read = n.before.before.read in
-    (pins-size n.before.before.before.before, check_refused _ _ _ _ (answer_refused _ read.result _ read.ensures n.n.given.1))
+    (pins_size n.before.before.before.before, check_refused _ _ _ _ (answer_refused _ read.result _ read.ensures n.n.given.1))
 
 returns-2 : tie.Need-returns-2
 returns-2 c =
     let f = c.before in
     let h = f.before.before in
     let read = h.before.before.read in
-    let size = pins-size h.before.before.before.before in
+    let size = pins_size h.before.before.before.before in
     (size, check_took _ _ _ _ _ (answer_took _ read.result _ _ read.ensures h.header.given.1) (unfold set_of in size) (sym c.if1.true ∙ f.fits2.ensures))
 
 returns-3 : tie.Need-returns-3
@@ -52,7 +52,7 @@ returns-3 c =
     let f = c.before in
     let h = f.before.before in
     let read = h.before.before.read in
-    let size = pins-size h.before.before.before.before in
+    let size = pins_size h.before.before.before.before in
     (size, check_six _ _ _ _ _ (answer_took _ read.result _ _ read.ensures h.header.given.1) (unfold set_of in size) (sym c.if1.false ∙ f.fits2.ensures))
 
 pub check-spec : {M : Type 1} → statement M

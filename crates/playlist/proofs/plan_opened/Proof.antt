@@ -8,7 +8,7 @@ use Rattle.format.proofs.Opened.{few_intervals}
 use Rattle.header.specs.Answers.{plain}
 use Rattle.best.specs.Answers.{order_is}
 use Rattle.planner.specs.declared.Planned.{Planned}
-use Rattle.planner.specs.Answers.{planned, aim-is}
+use Rattle.planner.specs.Answers.{planned, aim_is}
 use Rattle.playlists.specs.Calls.{plan_part}
 use Rattle.playlist.specs.Answers.{stands}
 use Rattle.playlist.proofs.Turning.{end_in, found_is, leads, room, places, turn_best, turn_refused}
@@ -43,7 +43,7 @@ plan-from-requires c κs = search rules
 
 -- what planning found
 found : (c : tie.After-plan-from) → let a = c.before.before.before.before.before.before.before.before.before.before.args in planned c.plan_from.result c.plan_from.new.1.1.1.1.1.0 c.plan_from.new.1.1.1.1.1.1.0 ≡ plan_part a.job.now (job_in a.job.now) (stands a.standing a.table.now a.entries.now a.totals.now)
-unfolding aim-is order_is
+unfolding aim_is order_is
 found c =
     let a = c.before.before.before.before.before.before.before.before.before.before in
     c.plan_from.ensures ∙ found_is a.args.job.now (plain a.args.header) a.args.standing a.requires.0 a.args.table.now a.args.entries.now a.args.totals.now a.requires.1.used _ c.before.before.before.end_for.ensures _ _ c.before.before.before.before.before.fresh.ensures c.before.before.before.before.levels-for.ensures

@@ -3,7 +3,7 @@ use Rattle.replay.proofs.Replaying.{buckets_of_job, outcome_told, Going, going_s
 use Rattle.replay.proofs.Levels.{bucket_count, room_for_one}
 use Rattle.format.proofs.Opened.{job_limits, few_intervals, intervals_are, start_is}
 use Rattle.replay.specs.Answers.{answered, ended}
-use Rattle.interval.specs.Answers.{outcome-is, start_of}
+use Rattle.interval.specs.Answers.{outcome_is, start_of}
 use Rattle.pinning.specs.PinSet.{lines}
 use Rattle.header.specs.Answers.{plain}
 use Rattle.format.specs.JobBytes.{job_in}
@@ -46,7 +46,7 @@ interval-at-requires : tie.Need-interval-at-requires invariant-loop decreases-lo
 interval-at-requires c κs =
     let l = c.before in
     let a = l.before.before.before.before.before.before.before.before.before in
-    (a.requires.plan, omega (arith, l.before.before.before.before.before.intervals.ensures), a.requires.pins-size)
+    (a.requires.plan, omega (arith, l.before.before.before.before.before.intervals.ensures), a.requires.pins_size)
 
 step-requires : tie.Need-step-requires invariant-loop decreases-loop
 step-requires c κs = search rules
@@ -68,7 +68,7 @@ same_length : tie.Need-same-length invariant-loop decreases-loop
 same_length c = search rules
 
 returns : tie.Need-returns invariant-loop decreases-loop
-unfolding plain ended answered outcome-is
+unfolding plain ended answered outcome_is
 returns c =
     let n = c.before in
     let t = n.before.before in
@@ -82,7 +82,7 @@ enum-known-next : tie.Need-enum-known-next invariant-loop decreases-loop
 enum-known-next c = search rules
 
 put-levels-requires : tie.Need-put-levels-requires invariant-loop decreases-loop
-unfolding plain outcome-is
+unfolding plain outcome_is
 put-levels-requires c κs =
     let n = c.before.before in
     let t = n.before.before in
@@ -118,7 +118,7 @@ loop-less : tie.Need-loop-smaller invariant-loop decreases-loop
 loop-less c = search rules
 
 loop-again : tie.Need-loop-preserved invariant-loop decreases-loop
-unfolding plain outcome-is
+unfolding plain outcome_is
 loop-again c =
     let put = c.before.before.before in
     let n = put.before.before.before in

@@ -49,7 +49,7 @@ play-requires c κs =
     let r = f.before.before.before.before.requires in
     record {
       plan = shaped_plan _ _ r.opens _ (sym f.shaped.ensures ∙ not-false _ e.before.if1.false);
-      pins-size = r.size;
+      pins_size = r.size;
       room = room_for_all _ _ _ _ _ e.levels-each.ensures n.intervals.ensures i.if2.false;
     }
 

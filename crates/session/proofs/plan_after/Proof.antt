@@ -1,6 +1,6 @@
 -- `session::plan_after` meets its contract.
 use Rattle.session.proofs.Answering.{session_refused, session_room, session_none, session_made}
-use Rattle.session.specs.Answers.{session-is}
+use Rattle.session.specs.Answers.{session_is}
 use Rattle.planner.specs.Answers.{answered, planned}
 use Rattle.planning.specs.Calls as plan
 use Rattle.calling.specs.Sessions.{refuse}
@@ -17,7 +17,7 @@ enum-known-n : tie.Need-enum-known-n
 enum-known-n c = search rules
 
 returns : tie.Need-returns
-unfolding session-is planned answered refuse plan.refuse verdict
+unfolding session_is planned answered refuse plan.refuse verdict
 returns c = session_refused _ _ _ _ _ _ _ _ (ap verdict (sym c.before.n.given.1) ∙ c.before.before.before.plan_refusal.ensures)
 
 enum_told : tie.Need-enum-told
@@ -52,7 +52,7 @@ same-length-2 : tie.Need-same-length-2
 same-length-2 c = search rules
 
 returns-2 : tie.Need-returns-2
-unfolding session-is planned answered verdict door_of
+unfolding session_is planned answered verdict door_of
 returns-2 c = session_none _ _ _ _ _ _ _ (ap verdict (sym c.before.before.before.before.before.before.before.before.before.before.before.before.before.enum_told.given.1) ∙ c.before.before.before.before.before.before.before.before.before.before.before.before.before.before.before.plan_refusal.ensures) _ c.before.before.before.before.before.before.before.before.before.before.before.before.set_after.ensures _ c.before.before.before.before.before.before.before.before.before.before.before.aim_named.ensures _ c.before.before.before.before.before.before.before.before.before.before.order_named.ensures (planned c.before.before.before.before.before.before.before.plan.result _ _) c.before.before.before.before.before.before.before.plan.ensures _ (ap answered c.before.n2.given.1)
 
 same-length-3 : tie.Need-same-length-3
@@ -65,7 +65,7 @@ same-length-5 : tie.Need-same-length-5
 same-length-5 c = search rules
 
 returns-3 : tie.Need-returns-3
-unfolding session-is planned answered verdict door_of
+unfolding session_is planned answered verdict door_of
 returns-3 c = session_made _ _ _ _ _ _ _ (ap verdict (sym c.before.before.before.before.before.before.before.before.before.before.before.before.before.before.before.before.before.enum_told.given.1) ∙ c.before.before.before.before.before.before.before.before.before.before.before.before.before.before.before.before.before.before.before.plan_refusal.ensures) _ c.before.before.before.before.before.before.before.before.before.before.before.before.before.before.before.before.set_after.ensures _ c.before.before.before.before.before.before.before.before.before.before.before.before.before.before.before.aim_named.ensures _ c.before.before.before.before.before.before.before.before.before.before.before.before.before.before.order_named.ensures (planned c.before.before.before.before.before.before.before.before.before.before.before.plan.result _ _) c.before.before.before.before.before.before.before.before.before.before.before.plan.ensures _ (ap answered c.before.before.before.before.before.totals.given.1) _ _ c.before.before.put-numbers.ensures
 
 pub plan-after-spec : {M : Type 1} → statement M

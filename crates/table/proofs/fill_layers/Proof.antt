@@ -2,7 +2,7 @@
 use Rattle.table.proofs.Tabling.{Filling, filling_none, filling_all, long, starts, room_for_two, filling_more}
 use Rattle.table.proofs.Jobs.{choices_on, few_units}
 use Rattle.line.proofs.Sizes.{layer_small, layer_product}
-use Rattle.table.specs.Answers.{job-on, open_of, allowed_is}
+use Rattle.table.specs.Answers.{job_on, open_of, allowed_is}
 use Rattle.decoder.specs.Answers.{combine}
 use Rattle.pinning.specs.PinSet.{lines}
 use Rattle.header.specs.Answers.{plain}
@@ -17,7 +17,7 @@ use Rattle.table.proofs.fill_layers.Statement.{statement}
 use Rattle.table.proofs.fill_layers.Tie as tie
 
 abbrev invariant-loop : tie.invariant-loop
-invariant-loop job header line pins limit measure first last table₀ size place₀ start₀ table place start = Filling (combine measure) (job-on job line) (open_of (lines header.units pins) limit) last table₀ first place start table
+invariant-loop job header line pins limit measure first last table₀ size place₀ start₀ table place start = Filling (combine measure) (job_on job line) (open_of (lines header.units pins) limit) last table₀ first place start table
 
 abbrev decreases-loop : tie.decreases-loop
 decreases-loop job header line pins limit measure first last table₀ size place₀ start₀ table place start = place
@@ -57,7 +57,7 @@ choices-in-requires : tie.Need-choices-in-requires invariant-loop decreases-loop
 unfolding plain
 choices-in-requires c κs =
     let a = c.before.before.before.before.before in
-    (a.requires.starts.pins-size, few_units _ _ a.requires.starts.opens, omega (arith, c.before.loop.invariant.high, a.requires.few))
+    (a.requires.starts.pins_size, few_units _ _ a.requires.starts.opens, omega (arith, c.before.loop.invariant.high, a.requires.few))
 
 mul-fill-layer : tie.Need-overflow-mul-fill-layer invariant-loop decreases-loop
 mul-fill-layer c = omega (arith, two c.before)

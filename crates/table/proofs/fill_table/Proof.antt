@@ -3,7 +3,7 @@ use Rattle.table.proofs.Tabling.{combine_combines, room_for_last, last_written, 
 use Rattle.line.proofs.Sizes.{layer_small, layer_product}
 use Rattle.line.specs.Answers.{line_is}
 use Rattle.decoder.specs.Answers.{combine}
-use Rattle.table.specs.Answers.{job-on, open_of}
+use Rattle.table.specs.Answers.{job_on, open_of}
 use Rattle.planning.proofs.Refilling.{last_long}
 use Rattle.pinning.specs.PinSet.{lines}
 use Rattle.header.specs.Answers.{plain}
@@ -25,7 +25,7 @@ use Rattle.table.proofs.fill_table.Tie as tie
 size_is : (c : tie.After-intervals) → c.before.layer-words.result ≡ layer_words (line_is c.before.before.before.before.args.line)
 size_is c = c.before.layer-words.ensures
 
-total_is : (c : tie.After-intervals) → c.intervals.result ≡ intervals (job-on c.before.before.before.before.args.job.now c.before.before.before.before.args.line)
+total_is : (c : tie.After-intervals) → c.intervals.result ≡ intervals (job_on c.before.before.before.before.args.job.now c.before.before.before.before.args.line)
 unfolding plain
 total_is c =
     let a = c.before.before.before.before in
@@ -35,12 +35,12 @@ room : (c : tie.After-intervals) → c.intervals.result * c.before.layer-words.r
 unfolding on_line
 room c =
     let a = c.before.before.before.before in
-    rw (total_is c, size_is c) (room_for_last (job-on a.args.job.now a.args.line) a.args.table.now a.requires.2)
+    rw (total_is c, size_is c) (room_for_last (job_on a.args.job.now a.args.line) a.args.table.now a.requires.2)
 
 room-on : (c : tie.After-intervals) → (c.intervals.result + 1) * layer_words (line_is c.before.before.before.before.args.line) ≤ length c.before.before.before.before.args.table.now
 room-on c = rw (← size_is c) (omega (arith, add-mul c.intervals.result 1 c.before.layer-words.result, one-mul c.before.layer-words.result, room c))
 
-small : (c : tie.After-intervals) → Bounded (job-on c.before.before.before.before.args.job.now c.before.before.before.before.args.line)
+small : (c : tie.After-intervals) → Bounded (job_on c.before.before.before.before.args.job.now c.before.before.before.before.args.line)
 small c = let a = c.before.before.before.before in bounded_on _ (line_is a.args.line) (bounded _ (job_formed _ _ a.requires.0.opens))
 
 -- where the last layer starts
@@ -82,7 +82,7 @@ fill-layers-requires c κs =
     let f = c.before.before.before in
     let i = f.before.before in
     let a = i.before.before.before.before in
-    let e = last_written (job-on a.args.job.now a.args.line) a.args.table.now f.fill-last.new.0 i.intervals.result i.before.layer-words.result (total_is i) (size_is i) f.fill-last.ensures in
+    let e = last_written (job_on a.args.job.now a.args.line) a.args.table.now f.fill-last.new.0 i.intervals.result i.before.layer-words.result (total_is i) (size_is i) f.fill-last.ensures in
     record {
       starts = a.requires.0;
       ends = omega (arith, i.intervals.ensures, a.requires.1);
@@ -101,7 +101,7 @@ returns c =
     let i = f.before.before in
     let a = i.before.before.before.before in
     let m = open_of (lines a.args.header.units a.args.pins.now) a.args.limit in
-    let e = last_written (job-on a.args.job.now a.args.line) a.args.table.now f.fill-last.new.0 i.intervals.result i.before.layer-words.result (total_is i) (size_is i) f.fill-last.ensures in
+    let e = last_written (job_on a.args.job.now a.args.line) a.args.table.now f.fill-last.new.0 i.intervals.result i.before.layer-words.result (total_is i) (size_is i) f.fill-last.ensures in
     table_filled _ (combine_combines a.args.measure) _ m (small i) a.args.table.now _ _ a.requires.2 e a.args.first i.intervals.result (omega (arith, a.requires.1, i.intervals.ensures, total_is i)) (total_is i) g.fill-layers.ensures
 
 pub fill-table-spec : {M : Type 1} → statement M

@@ -3,7 +3,7 @@ use Rattle.trial.proofs.Drawing.{part_long}
 use Rattle.trial.proofs.Answering.{trial_refused, trial_accepted, room_there, trial_done}
 use Rattle.trials.specs.Calls.{trial_rates, trial_sizes, trial_distortions, trial_refusal}
 use Rattle.writing.proofs.Order.{Accepted}
-use Rattle.writer.specs.Answers.{wrote-answer, wrote}
+use Rattle.writer.specs.Answers.{wrote_answer, wrote}
 use Rattle.header.specs.Answers.{plain, verdict}
 use Rattle.header.proofs.Fields.{small_size}
 use Rattle.format.specs.Places.{job_size}
@@ -20,7 +20,7 @@ enum-known-n : tie.Need-enum-known-n
 enum-known-n c = search rules
 
 returns : tie.Need-returns
-unfolding wrote wrote-answer verdict
+unfolding wrote wrote_answer verdict
 returns c = trial_refused _ _ _ _ (ap verdict (sym c.before.n.given.1) ∙ c.before.before.before.trial_refusal.ensures)
 
 enum_told : tie.Need-enum-told
@@ -85,7 +85,7 @@ same_length : tie.Need-same-length
 same_length c = search rules
 
 returns-2 : tie.Need-returns-2
-unfolding wrote wrote-answer plain
+unfolding wrote wrote_answer plain
 returns-2 c =
     let u = c.before.before in
     let r = u.before.before.before.before.before in

@@ -9,7 +9,7 @@ use Prim.Native.Nat.{ℕ, ◌≤◌}
 use mathlib.Core.Option.{none}
 use mathlib.Core.Path.{◌≡◌, sym, ◌∙◌, ap}
 use lib.ListN.{length}
-use Rattle.writer.specs.Answers.{wrote-answer, wrote}
+use Rattle.writer.specs.Answers.{wrote_answer, wrote}
 use native.Mathlib.Omega.{arith}
 use Rattle.header.specs.Answers.{plain, verdict}
 use borrow.Author.Rules.{rules}
@@ -23,7 +23,7 @@ enum-known-n : tie.Need-enum-known-n
 enum-known-n c = search rules
 
 returns : tie.Need-returns
-unfolding wrote wrote-answer verdict
+unfolding wrote wrote_answer verdict
 returns c = write_refused _ _ _ _ _ _ (ap verdict (sym c.before.n.given.1) ∙ c.before.before.before.write_refusal.ensures)
 
 enum_told : tie.Need-enum-told
@@ -72,7 +72,7 @@ same_length : tie.Need-same-length
 same_length c = search rules
 
 returns-2 : tie.Need-returns-2
-unfolding wrote wrote-answer verdict plain
+unfolding wrote wrote_answer verdict plain
 returns-2 c =
     let u = c.before.before in
     let r = u.before.before.before.before in

@@ -1,7 +1,7 @@
 -- `written::tell` meets its contract.
 use Rattle.base.specs.Lent.{put}
 use Rattle.base.proofs.Lent.{stored}
-use Rattle.writer.specs.Answers.{wrote-answer}
+use Rattle.writer.specs.Answers.{wrote_answer}
 use Rattle.exporting.specs.Exports.{number_of}
 use mathlib.Core.List.{[], ◌∷◌}
 use borrow.Author.Rules.{rules}
@@ -21,14 +21,14 @@ slice-write-values : tie.Need-slice-write-values
 slice-write-values c = search rules
 
 returns : tie.Need-returns
-unfolding number_of wrote-answer put
+unfolding number_of wrote_answer put
 returns c = let e = c.before.made.given.1 in (rw e, rw e)
 
 same_length : tie.Need-same-length
 same_length c = search rules
 
 returns-2 : tie.Need-returns-2
-unfolding number_of wrote-answer put
+unfolding number_of wrote_answer put
 returns-2 c = let e = c.before.made2.given.1 in (rw e, rw e (stored (_ ∷ []) c.before.before.before.args.values.now c.before.before.before.requires))
 
 pub tell-spec : {M : Type 1} → statement M
