@@ -6,7 +6,7 @@ use mathlib.Core.Bool.{Bool, true, false}
 use mathlib.Core.Option.{Option, none, some}
 use mathlib.Core.List.{List, [], ◌∷◌, ◌++◌}
 use native.Mathlib.Omega.{arith}
-use Rattle.base.specs.If.{if◌then◌else◌}
+use Rattle.std.specs.Prelude.{if◌then◌else◌}
 use Rattle.base.specs.Refusals.{Test, refusal, unless, first, guarded, Condition, InOrder}
 
 pub not_none : {n : ℕ} → ◌≡◌ {A = Option ℕ} (some n) none → ⊥
@@ -17,16 +17,16 @@ some_same e = cc
 
 -- one test in front
 pub refusal_past : (t : Test) (ts : List Test) → t.passes ≡ true → refusal (t ∷ ts) ≡ refusal ts
-unfolding refusal if◌then◌else◌
+unfolding refusal
 refusal_past t ts e = rw e
 
 pub refusal_here : (t : Test) (ts : List Test) → t.passes ≡ false → refusal (t ∷ ts) ≡ some t.number
-unfolding refusal if◌then◌else◌
+unfolding refusal
 refusal_here t ts e = rw e
 
 -- a first test that does not refuse passes
 pub refusal_none : (t : Test) (ts : List Test) → refusal (t ∷ ts) ≡ none → (t.passes ≡ true) × (refusal ts ≡ none)
-unfolding refusal if◌then◌else◌
+unfolding refusal
 refusal_none t ts e = go t.passes refl e
   where
     go : (b : Bool) → t.passes ≡ b → (if b then refusal ts else some t.number) ≡ none → (t.passes ≡ true) × (refusal ts ≡ none)
@@ -40,8 +40,8 @@ refusal_join [] us = refl
 refusal_join (t ∷ ts) us = go t.passes (refusal_join ts us)
   where
     go : (b : Bool) → refusal (ts ++ us) ≡ first (refusal ts) (refusal us) → (if b then refusal (ts ++ us) else some t.number) ≡ first (if b then refusal ts else some t.number) (refusal us)
-    go true e = unfold if◌then◌else◌ in e
-    go false e = unfold if◌then◌else◌ in refl
+    go true e = e
+    go false e = refl
 
 -- no first refusal of two is none of either
 pub first_none : (o p : Option ℕ) → first o p ≡ none → (o ≡ none) × (p ≡ none)
@@ -66,7 +66,7 @@ unless_first refuse (some n) p r = refl
 
 -- the last test
 pub refusal_last : (t : Test) → t.passes ≡ true → refusal (t ∷ []) ≡ none
-unfolding refusal if◌then◌else◌
+unfolding refusal
 refusal_last t e = rw e
 
 -- each test passes exactly where its condition holds

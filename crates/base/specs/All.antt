@@ -1,6 +1,5 @@
 -- Every number below n passes a test, tried one after another as a loop tries them.
-use Rattle.std.specs.Prelude.{ℕ, zero, suc, Bool, true, false}
-use Rattle.base.specs.If.{if◌then◌else◌}
+use Rattle.std.specs.Prelude.{ℕ, zero, suc, Bool, true, false, if◌then◌else◌}
 
 unfoldable pub all_below : (ℕ → Bool) → ℕ → Bool
 all_below test zero = true

@@ -1,7 +1,6 @@
 -- What a call looks at before it does its work, in order: each test has a number, and the first that does not pass refuses the call by it (document 01, "Where each refusal is checked").
-use Rattle.std.specs.Prelude.{ℕ, ◌≡◌, Bool, List, [], ◌∷◌}
+use Rattle.std.specs.Prelude.{ℕ, ◌≡◌, Bool, List, [], ◌∷◌, if◌then◌else◌}
 use Rattle.std.proofs.Math.Option.{Option, none, some}
-use Rattle.base.specs.If.{if◌then◌else◌}
 
 pub record Test : Type 0 where
   pub passes : Bool

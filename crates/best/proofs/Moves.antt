@@ -10,7 +10,7 @@ use lib.ListN.{length, get_or}
 use lib.Seq.{get_or-take}
 use Rattle.trellis.specs.Pairs.{Pair, pair}
 use Rattle.trellis.specs.Table.{first_at}
-use Rattle.base.specs.If.{if◌then◌else◌}
+use Rattle.std.specs.Prelude.{if◌then◌else◌}
 use Rattle.model.specs.Job as model
 use Rattle.model.specs.Job.{Coding, on_line, intervals, coding, sends, takes, distorts}
 use Rattle.model.specs.Admissible.{Violation}
@@ -51,7 +51,7 @@ not_reached v s e = let z : ◌≡◌ {A = ℕ} 0 1 = cc in omega arith
 
 -- a choice that is left open has its coding's size and distortion
 open_coding : (x : Candidate) (k : Coding) → candidate_is x ≡ some k → (x.size ≡ k.size) × (x.distortion ≡ k.distortion)
-unfolding candidate_is coding_if if◌then◌else◌
+unfolding candidate_is coding_if
 open_coding x k e = go x.free e
   where
     go : (t : Bool) → (if t then some (record { size = x.size; distortion = x.distortion }) else none) ≡ some k → (x.size ≡ k.size) × (x.distortion ≡ k.distortion)

@@ -1,9 +1,8 @@
 -- The order of entries in the terms of `model`, and what the functions of this crate say and ask.
-use Rattle.std.specs.Prelude.{ℕ, suc, ◌+◌, ◌-◌, ◌*◌, ◌<◌, ◌≤◌, ◌≡◌, List, ◌∷◌, ltb, length}
+use Rattle.std.specs.Prelude.{ℕ, suc, ◌+◌, ◌-◌, ◌*◌, ◌<◌, ◌≤◌, ◌≡◌, List, ◌∷◌, ltb, length, if◌then◌else◌}
 use Rattle.std.proofs.Math.Option.{Option, none, some}
 use Rattle.trellis.specs.Pairs.{Pair}
 use Rattle.trellis.specs.Table.{first_at}
-use Rattle.base.specs.If.{if◌then◌else◌}
 use Rattle.model.specs.Job as model
 use Rattle.model.specs.Step.{reaches, after_sending}
 use Rattle.model.specs.Replay as model_replay

@@ -1,4 +1,7 @@
 // The best plan, read off the table of least distortions from the start: at each interval the first entry in the order that attains the word (document 01, "The best plan").
+
+#![tactic(auto)]
+
 ghost use Rattle.std.specs.Prelude.{◌≡◌, suc, ◌+◌, ◌<◌, length};
 ghost use Rattle.std.proofs.Math.Option.{some};
 ghost use Rattle.trellis.specs.Pairs.{pair};
@@ -21,21 +24,21 @@ use line::Line;
 use table::{Choices, Limit};
 
 // Which of the entries that attain a word is taken: that of the smaller rate index, or of the larger; of one rate, that of the smaller choice.
-#[derive(Drop)]
+#[derive(Clone, Copy)]
 pub enum Order {
     Late,
     Early,
 }
 
 // A rate index and a choice index.
-#[derive(Drop)]
+#[derive(Clone, Copy)]
 struct Pick {
     rate: usize,
     choice: Choice,
 }
 
 // An entry of the best plan: its bytes, what the interval does and the levels that it leads to.
-#[derive(Drop)]
+#[derive(Clone, Copy)]
 struct Move {
     rate: u8,
     choice: Choice,

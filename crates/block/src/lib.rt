@@ -1,5 +1,7 @@
 // A block of words of a layer, which both passes of a layer make before they write it: what the words are, and how a block is cleared and written.
 
+#![tactic(auto)]
+
 ghost use Rattle.std.specs.Prelude.{◌≡◌, ◌+◌, ◌-◌, ◌≤◌, min, length, get_or};
 ghost use Rattle.block.specs.Blocks.{Made};
 

@@ -1,4 +1,7 @@
 // Opening a job, and calls as numbers: what they come to as values in a list that is lent.
+
+#![tactic(auto)]
+
 ghost use Rattle.std.specs.Prelude.{◌≡◌};
 ghost use Rattle.header.specs.Answers.{door_of};
 ghost use Rattle.exporting.specs.Exports.{opened, open_export, called, calls_export};

@@ -9,7 +9,6 @@ use native.Mathlib.Nat.{add-zero}
 use lib.Dec.{eqb}
 use lib.ListN.{length, get_or}
 use borrow.Author.Tests.{eqb-true, eq-eqb, ne_eqb}
-use Rattle.base.specs.If.{if◌then◌else◌}
 use Rattle.base.specs.All.{all_below}
 use Rattle.model.specs.Pins.{Call}
 use Rattle.base.proofs.Tests.{branch}
@@ -24,7 +23,7 @@ unfolding kind_fits
 kind_good k = branch (λ (t : Bool). t ≡ true → (k ≡ 6) ⊎ (k ≡ 7)) (eqb k 6) (λ p e. inl (eqb-true k 6 p)) (λ p e. inr (eqb-true k 7 e))
 
 good_kind : (k : ℕ) → (k ≡ 6) ⊎ (k ≡ 7) → kind_fits k ≡ true
-unfolding kind_fits if◌then◌else◌
+unfolding kind_fits
 good_kind k (inl e) = rw (eq-eqb k 6 e)
 good_kind k (inr e) = let n : k ≡ 6 → ⊥ = λ q. omega arith in rw (ne_eqb k 6 n, eq-eqb k 7 e)
 
@@ -62,7 +61,7 @@ unfolding calls_of
 read_at l i k h = let e : 0 + i ≡ i = omega arith in from_at l 0 (length l / 3) i k (omega arith) ∙ rw e
 
 pub call_numbers : CallNumbers
-unfolding call_at kind_of if◌then◌else◌
+unfolding call_at kind_of
 call_numbers l = record {
   count = unfold calls_of in (from_length l 0 (length l / 3));
   pins = λ i h e k. read_at l i k h ∙ rw (eq-eqb (get_or l (3 * i) 0) 6 e);

@@ -6,7 +6,6 @@ use mathlib.Core.List.{List, [], ◌∷◌}
 use native.Mathlib.Omega.{arith}
 use lib.ListN.{length, drop}
 use lib.Seq.{drop-drop}
-use Rattle.base.specs.If.{if◌then◌else◌}
 use Rattle.model.specs.Pins.{Call, pin, lift}
 use Rattle.format.specs.Fields.{total, fields, Fit}
 use Rattle.format.specs.Fields as F
@@ -26,11 +25,11 @@ apart e = omega arith
 
 -- the fields by their places
 pin_at : (b : List ℕ) → 8 ≤ length b → call_of (filled pin_form (fields pin_form.widths (drop 4 b))) ≡ pin (u16_at b 4) (u16_at b 6)
-unfolding call_of pin_form plain_form if◌then◌else◌ fields
+unfolding call_of pin_form plain_form fields
 pin_at b h = rw (drop-drop, two_at b 4 (omega arith), two_at b 6 (omega arith))
 
 lift_at : (b : List ℕ) → 6 ≤ length b → call_of (filled lift_form (fields lift_form.widths (drop 4 b))) ≡ lift (u16_at b 4)
-unfolding call_of lift_form plain_form if◌then◌else◌ fields
+unfolding call_of lift_form plain_form fields
 lift_at b h = rw (two_at b 4 (omega arith))
 
 -- the sizes, and no limits
@@ -66,7 +65,7 @@ heads k = go (either_form pin_form lift_form apart k)
 
 -- calls and their records
 record_good : (k : Call) → InTwoBytes k → FilledGood pin_form lift_form (record_of k) × (call_of (record_of k) ≡ k)
-unfolding record_of call_of form_for pin_form lift_form plain_form if◌then◌else◌
+unfolding record_of call_of form_for pin_form lift_form plain_form
 record_good (pin u c) h = (record { due = refl; good = record { fit = F.one_more {w = 2} h.0 (F.one_more {w = 2} h.1 F.no_more); kept = tt } }, refl)
 record_good (lift u) h = (record { due = refl; good = record { fit = F.one_more {w = 2} h F.no_more; kept = tt } }, refl)
 
@@ -74,11 +73,11 @@ abbrev Sound : Filled → Type 0
 Sound r = InTwoBytes (call_of r) × (record_of (call_of r) ≡ r)
 
 pin_sound : (k : ℕ) {vs : List ℕ} → k ≡ 6 → Fit (2 ∷ 2 ∷ []) vs → Sound (record { kind = k; values = vs })
-unfolding record_of call_of if◌then◌else◌
+unfolding record_of call_of
 pin_sound k e (F.one_more h (F.one_more g F.no_more)) = rw e ((h, g), refl)
 
 lift_sound : (k : ℕ) {vs : List ℕ} → k ≡ 7 → Fit (2 ∷ []) vs → Sound (record { kind = k; values = vs })
-unfolding record_of call_of if◌then◌else◌
+unfolding record_of call_of
 lift_sound k e (F.one_more h F.no_more) = rw e (h, refl)
 
 good_record : (r : Filled) → FilledGood pin_form lift_form r → Sound r

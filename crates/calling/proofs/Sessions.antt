@@ -9,8 +9,7 @@ use native.Mathlib.Omega.{arith}
 use lib.Dec.{leb}
 use lib.ListN.{length}
 use borrow.Author.Tests.{leb-true, le-leb}
-use Rattle.base.specs.If.{if◌then◌else◌}
-use Rattle.base.specs.Answer.{refused, gives}
+use Rattle.base.specs.Answer.{gives}
 use Rattle.base.specs.Refusals.{Test, refusal, unless, condition, guarded, InOrder}
 use Rattle.base.specs.Lent.{Ended, over}
 use Rattle.base.specs.Lent as lent
@@ -69,7 +68,7 @@ unfolding asked_tests
 asked_decide calls aim order = decides_join (named_decide aim order) (calls_decide calls)
 
 pub named : Named
-unfolding aim_named order_named if◌then◌else◌
+unfolding aim_named order_named
 named = record { total_is = refl; even_is = refl; early_is = refl; late_is = refl }
 
 -- after any calls the set holds what the book does
@@ -171,7 +170,7 @@ module _ (j : Job) (limits : InLimits j) where
       go false q = inr (λ d. not_true (sym q ∙ drained_kept d))
 
 pub replay_pins : ReplayPins
-unfolding archive_pins if◌then◌else◌
+unfolding archive_pins
 replay_pins j calls = record { drained = λ l d. rw (drained_kept j l d); idle = λ l f. rw (idle_kept j l f) }
 
 module _ (b : List ℕ) (j : Job) (k : ℕ) (parsed : parse archive b ≡ took j k) (calls : List ℕ) where

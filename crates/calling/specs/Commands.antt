@@ -1,6 +1,5 @@
 -- Pins and lifts as numbers: command records behind a job's bytes, and lists of three numbers a call (document 01, "The printed plan").
-use Rattle.std.specs.Prelude.{ℕ, zero, suc, ◌+◌, ◌*◌, ◌/◌, ◌%◌, Bool, true, List, [], ◌∷◌, eqb, length, get_or, drop}
-use Rattle.base.specs.If.{if◌then◌else◌}
+use Rattle.std.specs.Prelude.{ℕ, zero, suc, ◌+◌, ◌*◌, ◌/◌, ◌%◌, Bool, true, List, [], ◌∷◌, eqb, length, get_or, drop, if◌then◌else◌}
 use Rattle.base.specs.All.{all_below}
 use Rattle.base.specs.Refusals.{Test, test, unless}
 use Rattle.model.specs.Pins.{Call, pin, lift}

@@ -1,7 +1,6 @@
 -- A session of calls in one call: pins and lifts in turn from the set that opening answers, refused ones included, and what comes after them: nothing more, planning, or a replay. And what the program reads: a job with commands behind it, and planning.
-use Rattle.std.specs.Prelude.{ℕ, ◌*◌, ◌/◌, List, [], ◌∷◌, ◌++◌, map, leb, eqb, length}
+use Rattle.std.specs.Prelude.{ℕ, ◌*◌, ◌/◌, List, [], ◌∷◌, ◌++◌, map, leb, eqb, length, if◌then◌else◌}
 use Rattle.std.proofs.Math.Option.{Option, none, some}
-use Rattle.base.specs.If.{if◌then◌else◌}
 use Rattle.base.specs.Answer.{gives}
 use Rattle.base.specs.Refusals.{Test, test, unless, guarded}
 use Rattle.base.specs.Lent.{Ended, over, put}

@@ -6,7 +6,6 @@ use mathlib.Core.Option.{none, some}
 use mathlib.Core.List.{List}
 use lib.ListN.{length, get_or}
 use borrow.Author.Tests.{eq-eqb, ne_eqb}
-use Rattle.base.specs.If.{if◌then◌else◌}
 use Rattle.base.specs.All.{all_below}
 use Rattle.base.specs.Refusals.{refusal}
 use Rattle.base.proofs.Refusals.{refusal_past, refusal_here, refusal_last}
@@ -16,15 +15,15 @@ use Rattle.calling.specs.Commands.{pins_kind, lifts_kind, kind_of, call_at, kind
 
 -- a kind, test by test
 pub kind_pins : (k : ℕ) → k ≡ pins_kind → true ≡ kind_fits k
-unfolding kind_fits if◌then◌else◌
+unfolding kind_fits
 kind_pins k e = rw (eq-eqb k pins_kind e)
 
 pub kind_lifts : (k : ℕ) → k ≡ lifts_kind → true ≡ kind_fits k
-unfolding kind_fits if◌then◌else◌
+unfolding kind_fits
 kind_lifts k e = rw e
 
 pub kind_other : (k : ℕ) → (k ≡ pins_kind → ⊥) → (k ≡ lifts_kind → ⊥) → false ≡ kind_fits k
-unfolding kind_fits if◌then◌else◌
+unfolding kind_fits
 kind_other k p q = rw (ne_eqb k pins_kind p, ne_eqb k lifts_kind q)
 
 module _ (l : List ℕ) where
@@ -48,9 +47,9 @@ module _ (l : List ℕ) where
 
   -- the call in a place, by its kind
   pub call_pins : (i : ℕ) → get_or l (3 * i) 0 ≡ pins_kind → pin (get_or l (3 * i + 1) 0) (get_or l (3 * i + 2) 0) ≡ call_at l i
-  unfolding call_at kind_of if◌then◌else◌
+  unfolding call_at kind_of
   call_pins i e = rw (eq-eqb (get_or l (3 * i) 0) pins_kind e)
 
   pub call_lifts : (i : ℕ) → (get_or l (3 * i) 0 ≡ pins_kind → ⊥) → lift (get_or l (3 * i + 1) 0) ≡ call_at l i
-  unfolding call_at kind_of if◌then◌else◌
+  unfolding call_at kind_of
   call_lifts i e = rw (ne_eqb (get_or l (3 * i) 0) pins_kind e)

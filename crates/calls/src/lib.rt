@@ -1,4 +1,7 @@
 // Calls as numbers, three a call: pins and lifts in turn, refused ones included.
+
+#![tactic(auto)]
+
 ghost use Rattle.std.specs.Prelude.{◌≡◌, ◌+◌, ◌*◌, ◌/◌, ◌<◌, ◌≤◌, length};
 ghost use Rattle.base.specs.Refusals.{refusal};
 ghost use Rattle.pinning.specs.Calls.{call};
@@ -16,7 +19,7 @@ use pins::{Answer, Handed};
 use pinset::PinSet;
 
 // Of the pins that calls leave: how many, their sizes, their distortions.
-#[derive(Drop)]
+#[derive(Clone, Copy)]
 pub struct PinTotals {
     pub count: u32,
     pub size: u32,
@@ -24,7 +27,7 @@ pub struct PinTotals {
 }
 
 // The totals of the pins that calls leave, or the refusal's number.
-#[derive(Drop)]
+#[derive(Clone, Copy)]
 pub enum Called {
     Done(PinTotals),
     Refused(u8),

@@ -10,7 +10,7 @@ use borrow.Author.Tests.{lt-ltb, le-ltb, lt-leb, le-leb, ltb-true, ltb-false}
 use lib.Dec.{ltb, leb}
 use lib.ListN.{length, get_or, take, drop, set}
 use lib.Seq.{take-suc, drop-cons, set_at, length-take-le}
-use Rattle.base.specs.If.{if◌then◌else◌, one_if}
+use Rattle.base.specs.If.{one_if}
 use Rattle.model.specs.Job.{Bucket}
 use Rattle.model.specs.Step.{overfull}
 use Rattle.model.specs.Replay.{plus_each}
@@ -40,19 +40,19 @@ second_both false t x y r e = refl
 
 -- levels within two buckets
 pub first_over : (k : Bucket) (ks : List Bucket) (l : ℕ) (ls : List ℕ) → k.size < l → false ≡ none_over (overfull (k ∷ ks) (l ∷ ls))
-unfolding overfull none_over if◌then◌else◌
+unfolding overfull none_over
 first_over k ks l ls h = rw (lt-ltb k.size l h)
 
 pub first_within : (k : Bucket) (ks : List Bucket) (l : ℕ) (ls : List ℕ) (r : Bool) → l ≤ k.size → r ≡ none_over (map suc (overfull ks ls)) → r ≡ none_over (overfull (k ∷ ks) (l ∷ ls))
-unfolding overfull if◌then◌else◌
+unfolding overfull
 first_within k ks l ls r h e = rw (le-ltb k.size l h) e
 
 pub second_within : (t u : Bool) (k : Bucket) (l : ℕ) → (t && u) ≡ true → leb l k.size ≡ none_over (map suc (overfull (one_if t k) (one_if u l)))
 second_within t u k l e = let b = both_true t u e in rw (b.0, b.1) (go (ltb k.size l) refl)
   where
     go : (x : Bool) → ltb k.size l ≡ x → leb l k.size ≡ none_over (map suc (overfull (one_if true k) (one_if true l)))
-    go true q = unfold overfull none_over if◌then◌else◌ one_if in (rw (q, lt-leb l k.size (ltb-true k.size l q)))
-    go false q = unfold overfull none_over if◌then◌else◌ one_if in (rw (q, le-leb l k.size (ltb-false k.size l q)))
+    go true q = unfold overfull none_over one_if in (rw (q, lt-leb l k.size (ltb-true k.size l q)))
+    go false q = unfold overfull none_over one_if in (rw (q, le-leb l k.size (ltb-false k.size l q)))
 
 pub no_second : (t u : Bool) (k : Bucket) (l : ℕ) → (t && u) ≡ false → true ≡ none_over (map suc (overfull (one_if t k) (one_if u l)))
 unfolding overfull none_over one_if

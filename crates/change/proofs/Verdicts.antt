@@ -6,7 +6,7 @@ use mathlib.Core.Option.{Option, some}
 use mathlib.Core.List.{List, [], ◌∷◌, map, zip_with}
 use native.Mathlib.Omega.{arith}
 use lib.ListN.{length, length-map}
-use Rattle.base.specs.If.{if◌then◌else◌, one_if}
+use Rattle.base.specs.If.{one_if}
 use Rattle.base.specs.Refusals.{refusal}
 use Rattle.base.proofs.Refusals.{refusal_past, refusal_here}
 use Rattle.model.specs.Job.{Line, Job, on_line}
@@ -26,7 +26,7 @@ use Rattle.changing.specs.Calls.{rest_tests, change_tests}
 
 -- how many buckets a header has
 pub how_many : (k : Policed) (two : Bool) (l : Policed) → length (k ∷ one_if two l) ≡ 1 + extra two
-unfolding one_if extra if◌then◌else◌
+unfolding one_if extra
 how_many k true l = refl
 how_many k false l = refl
 

@@ -1,4 +1,7 @@
 // A change of contract while a programme is sent (document 02, E12): the first entries of the old plan remain, and the rest is planned afresh under the new contract by the one search, from the levels that they led to.
+
+#![tactic(auto)]
+
 pub mod refusal;
 
 ghost use Rattle.std.specs.Prelude.{◌≡◌, ◌&&◌, [], ◌++◌, ◌*◌, ◌≤◌, length, take, drop};

@@ -1,4 +1,7 @@
 // A change of contract with the pins of a set as numbers (document 02, E12), and the totals of the whole plan as values in a list that is lent.
+
+#![tactic(auto)]
+
 ghost use Rattle.std.specs.Prelude.{◌≡◌};
 ghost use Rattle.header.specs.Answers.{verdict};
 ghost use Rattle.pinset.specs.Answers.{set_of};

@@ -1,5 +1,5 @@
 -- Totals of a plan in shape are small: each interval adds at most a drain, a size, a rate and a distortion within their limits.
-use Prim.Native.Nat.{ℕ, zero, suc, ◌+◌, ◌-◌, ◌*◌, ◌≤◌, ◌<◌}
+use Prim.Native.Nat.{ℕ, zero, suc, ◌+◌, ◌*◌, ◌≤◌, ◌<◌}
 use mathlib.Core.List.{List, [], ◌∷◌, zip_with}
 use native.Mathlib.Omega.{arith}
 use native.Mathlib.Nat.{suc-mul}

@@ -7,7 +7,6 @@ use native.Mathlib.Omega.{arith}
 use borrow.Author.Tests.{ne_eqb}
 use lib.ListN.{length, take, drop, length-drop, drop_of_length-le}
 use lib.Seq.{drop-drop}
-use Rattle.base.specs.If.{if◌then◌else◌}
 use Rattle.base.specs.Refusals.{unless}
 use Rattle.model.specs.Pins.{Call}
 use Rattle.format.specs.Parser as P
@@ -49,7 +48,7 @@ module _ (b : List ℕ) (s : PinSet) (at : ℕ) where
   left n k u = unless (refuse (call b s k).set) (call b s k).refused (follow n b (call b s k).set (drop u (drop at b)))
 
   one : (n : ℕ) → at < length b → follow (suc n) b s (drop at b) ≡ on_took (refuse s) (command (drop at b)) (left n)
-  unfolding follow if◌then◌else◌ left
+  unfolding follow left
   one n h = rw (ne_eqb (length (drop at b)) 0 (λ e. omega (arith, e, length-drop at b)))
 
   stopped : (n m : ℕ) (r : P.Result Call) → (on_command b s at r).refused ≡ some m → on_took (refuse s) r (left n) ≡ refuse (on_command b s at r).set m
@@ -108,7 +107,7 @@ module _ (b : List ℕ) (fresh : PinSet) (from : ℕ) where
           go (suc n) p i = sym (i ∙ one b s at n h ∙ rw e (stopped b s at n m (command (drop at b)) (rw e at q)))
 
     pub going_end : length b ≤ at → take_in s ≡ follow (length b) b fresh (drop from b)
-    unfolding follow if◌then◌else◌
+    unfolding follow
     going_end h = go g.fuel (g.is ∙ ap (follow g.fuel b s) (drop_of_length-le b {i = at} h))
       where
         go : (n : ℕ) → follow (length b) b fresh (drop from b) ≡ follow n b s [] → take_in s ≡ follow (length b) b fresh (drop from b)

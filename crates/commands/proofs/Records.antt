@@ -8,7 +8,6 @@ use native.Mathlib.Omega.{arith}
 use lib.ListN.{length, drop}
 use lib.Seq.{drop-drop}
 use borrow.Author.Tests.{ne_eqb}
-use Rattle.base.specs.If.{if◌then◌else◌}
 use Rattle.base.proofs.Refusals.{some_same}
 use Rattle.model.specs.Pins.{pin, lift}
 use Rattle.format.specs.Fields.{total, fields}
@@ -50,20 +49,20 @@ module _ (b : List ℕ) (kind : ℕ) (k : kind ≡ field_at 2 b 2) where
         go (no h) = omega arith
 
     lifts : form_for pin_form lift_form (kind_in b) ≡ plain_form 7 1
-    unfolding form_for lift_form plain_form if◌then◌else◌
+    unfolding form_for lift_form plain_form
     lifts = rw (kind_is there, e)
 
     pub lift_refused : (n : ℕ) → some n ≡ refusal_of (record_due (plain_form 7 1) b) → P.refused n ≡ command b
     lift_refused = by_refused b (plain_form 7 1) lifts
 
     pub lift_took : none ≡ refusal_of (record_due (plain_form 7 1) b) → (u : ℕ) → u ≡ field_at 2 b 4 → P.took (lift u) 6 ≡ command b
-    unfolding call_of plain_form total fields if◌then◌else◌
+    unfolding call_of plain_form total fields
     lift_took r u q = sym (by_took b (plain_form 7 1) lifts r ∙ rw (q, field_there 2 b 4 (whole b (plain_form 7 1) lifts r)))
 
   -- any other
   module _ (e : kind ≡ 7 → ⊥) where
     pins : 4 ≤ length b → form_for pin_form lift_form (kind_in b) ≡ plain_form 6 2
-    unfolding form_for pin_form lift_form plain_form if◌then◌else◌
+    unfolding form_for pin_form lift_form plain_form
     pins h = rw (kind_is h, ne_eqb kind 7 e)
 
     pub pin_refused : (n : ℕ) → some n ≡ refusal_of (record_due (plain_form 6 2) b) → P.refused n ≡ command b
@@ -77,7 +76,7 @@ module _ (b : List ℕ) (kind : ℕ) (k : kind ≡ field_at 2 b 2) where
         go (no h) = by_refused b (plain_form 6 2) (pins (omega arith)) n r
 
     pub pin_took : none ≡ refusal_of (record_due (plain_form 6 2) b) → (u x : ℕ) → u ≡ field_at 2 b 4 → x ≡ field_at 2 b 6 → P.took (pin u x) 8 ≡ command b
-    unfolding call_of plain_form total fields if◌then◌else◌
+    unfolding call_of plain_form total fields
     pin_took r u x q s =
         let h : 8 ≤ length b = (record_is (plain_form 6 2) b _ _ (record_took (plain_form 6 2) b (sym r))).there in
         sym (by_took b (plain_form 6 2) (pins (omega arith)) r ∙ rw (q, s, drop-drop, field_there 2 b 4 (omega arith), field_there 2 b 6 h))

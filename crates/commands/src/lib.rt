@@ -1,4 +1,7 @@
 // Command records behind a job's bytes (document 01, "The printed plan"): pins and lifts in turn, to the end of the bytes or to the first refusal, and planning after them, which is what the program reads.
+
+#![tactic(auto)]
+
 pub mod refusal;
 
 ghost use Rattle.std.specs.Prelude.{◌≡◌, ◌<◌, ◌≤◌, length, drop};
@@ -17,7 +20,7 @@ use pinset::PinSet;
 use planner::{Aim, Planned};
 
 // A command record, or the number that refuses it.
-#[derive(Drop)]
+#[derive(Clone, Copy)]
 enum Command {
     Pin { unit: u16, choice: u16 },
     Lift { unit: u16 },
@@ -25,7 +28,7 @@ enum Command {
 }
 
 // What one command comes to: its answer, the set after it and where the next stands.
-#[derive(Drop)]
+#[derive(Clone, Copy)]
 struct Step {
     answer: Answer,
     set: PinSet,

@@ -5,7 +5,8 @@ use mathlib.Core.Bool.{Bool, true, false}
 use mathlib.Core.List.{List, [], ◌∷◌, zip_with}
 use native.Mathlib.Omega.{arith}
 use lib.ListN.{length, get_or, drop}
-use Rattle.base.specs.If.{if◌then◌else◌, one_if}
+use Rattle.std.specs.Prelude.{if◌then◌else◌}
+use Rattle.base.specs.If.{one_if}
 use Rattle.format.specs.Limits.{Limit, limit, kept, each_kept}
 use Rattle.format.specs.JobBytes.{Policed, opening, largest_sizes, bucket_limits, drain_limits}
 use Rattle.format.proofs.Limits.{is_kept}
@@ -27,7 +28,7 @@ two_of (a ∷ b ∷ []) e = refl
 two_of (a ∷ b ∷ c ∷ l) e = absurd (omega arith)
 
 pub two_long : (two : Bool) (n : ℕ) → two ≡ true → n ≡ 1 + extra two → n ≡ 2
-unfolding extra if◌then◌else◌
+unfolding extra
 two_long two n e h = rw e at h
 
 -- the bucket in a place of the lists
@@ -35,7 +36,7 @@ abbrev pub bucket_in : List ℕ → List ℕ → ℕ → Policed
 bucket_in sizes drains i = empty_bucket (get_or sizes i 0) (get_or drains i 0)
 
 pub buckets_are : (two : Bool) (rates sizes drains : List ℕ) → length sizes ≡ 1 + extra two → length drains ≡ 1 + extra two → policed_under (contract rates sizes drains) ≡ bucket_in sizes drains 0 ∷ one_if two (bucket_in sizes drains 1)
-unfolding policed_under zip_with extra if◌then◌else◌ one_if
+unfolding policed_under zip_with extra one_if
 buckets_are true rates sizes drains m n = ap₂ (λ (s d : List ℕ). policed_under (contract rates s d)) (two_of sizes m) (two_of drains n)
 buckets_are false rates sizes drains m n = ap₂ (λ (s d : List ℕ). policed_under (contract rates s d)) (one_of sizes m) (one_of drains n)
 
@@ -60,7 +61,7 @@ module _ (two : Bool) (rates sizes drains : List ℕ) (t : Counted two rates siz
   limits = contract_limits (1 + extra two) (contract rates sizes drains)
 
   left : each_kept limits ≡ each_kept (bucket_limits largest_sizes (bucket_in sizes drains 0 ∷ one_if two (bucket_in sizes drains 1)))
-  unfolding contract_limits each_kept if◌then◌else◌
+  unfolding contract_limits each_kept
   left =
       let n = 1 + extra two in
       rw (is_kept (limit 3 n n (length sizes)) (omega (arith, t.sizes_count), omega (arith, t.sizes_count)), is_kept (limit 3 n n (length drains)) (omega (arith, t.drains_count), omega (arith, t.drains_count)), is_kept (limit 3 1 16 (length rates)) (t.some, t.few))
@@ -85,20 +86,19 @@ unfolding policed_of
 drained_as k s d e = ap (λ (p : Policed). kept (limit 17 1 4095 p.drain)) e
 
 if_same : (t : Bool) → t ≡ (if t then true else false)
-unfolding if◌then◌else◌
 if_same true = refl
 if_same false = refl
 
 module _ (two : Bool) (sizes drains : List ℕ) (m : length sizes ≡ 1 + extra two) (n : length drains ≡ 1 + extra two) where
   pub first_idle : kept (limit 17 1 4095 (get_or drains 0 0)) ≡ false → false ≡ each_kept (drain_limits opening (policed_under (contract [] sizes drains)))
-  unfolding each_kept if◌then◌else◌
+  unfolding each_kept
   first_idle e = rw (buckets_are two [] sizes drains m n, e)
 
   module _ (e : kept (limit 17 1 4095 (get_or drains 0 0)) ≡ true) where
     pub one_drains : two ≡ false → true ≡ each_kept (drain_limits opening (policed_under (contract [] sizes drains)))
-    unfolding each_kept if◌then◌else◌ one_if
+    unfolding each_kept one_if
     one_drains q = rw (buckets_are two [] sizes drains m n, q, e)
 
     pub two_drain : two ≡ true → (r : Bool) → r ≡ kept (limit 17 1 4095 (get_or drains 1 0)) → r ≡ each_kept (drain_limits opening (policed_under (contract [] sizes drains)))
-    unfolding each_kept if◌then◌else◌ one_if
+    unfolding each_kept one_if
     two_drain q r f = rw (buckets_are two [] sizes drains m n, q, e) (f ∙ if_same (kept (limit 17 1 4095 (get_or drains 1 0))))

@@ -7,7 +7,8 @@ use native.Mathlib.Omega.{arith}
 use native.Mathlib.Numerals.{add-one}
 use lib.ListN.{length, get_or, take, drop, set, length-set}
 use lib.Seq.{take_all, take-suc, take-suc-set, get_or-take}
-use Rattle.base.specs.If.{if◌then◌else◌, one_if}
+use Rattle.std.specs.Prelude.{if◌then◌else◌}
+use Rattle.base.specs.If.{one_if}
 use Rattle.model.specs.Job as model
 use Rattle.format.specs.Limits.{AllKept}
 use Rattle.format.specs.JobBytes.{Policed, largest_sizes, bucket_limits, rate_limits, bucket_of}
@@ -47,7 +48,7 @@ low_rates low (r ∷ rs) k (suc y) h = low_rates (suc r) rs k.1 y (omega arith)
 
 -- what 3 asks of the counts
 header_buckets : (h : Header) → length (plain h).buckets ≡ 1 + extra h.two
-unfolding plain one_if extra if◌then◌else◌
+unfolding plain one_if extra
 header_buckets h = go h.two
   where
     go : (two : Bool) → length (policed_of h.first ∷ one_if two (policed_of h.second)) ≡ 1 + (if two then 1 else 0)

@@ -1,4 +1,7 @@
 // A contract that a carrier alters to (document 02, E12): what refuses it, and the line of a job under it.
+
+#![tactic(auto)]
+
 ghost use Rattle.std.specs.Prelude.{◌≡◌, [], ◌+◌, ◌<◌, length, get_or, drop};
 ghost use Rattle.base.specs.If.{one_if};
 ghost use Rattle.format.specs.Limits.{each_kept};

@@ -8,7 +8,7 @@ use native.Mathlib.Omega.{arith}
 use lib.Dec.{eqb, ltb}
 use lib.ListN.{length}
 use borrow.Author.Tests.{eqb-true, ltb-true, lt-ltb, le-ltb, le-leb, lt-leb}
-use Rattle.base.specs.If.{if◌then◌else◌}
+use Rattle.std.specs.Prelude.{if◌then◌else◌}
 use Rattle.model.specs.Job as model
 use Rattle.model.specs.Job.{job_coding, coding, intervals, sends, takes, distorts}
 use Rattle.model.specs.Levels.{entry_of, sent}
@@ -52,11 +52,9 @@ module _ (b : List ℕ) (h : Header) (entries : List ℕ) (s : Shaped b h entrie
     mark_fits = (both_true _ _ in_range).1
 
     no_unit : i < h.delay → choice_field entries i ≡ no_choice
-    unfolding if◌then◌else◌
     no_unit k = eqb-true _ _ (rw (lt-ltb i h.delay k) at mark_fits)
 
     choice_below : h.delay ≤ i → choice_field entries i < h.choices
-    unfolding if◌then◌else◌
     choice_below k = ltb-true _ _ (rw (le-ltb i h.delay k) at mark_fits)
 
     pub sent_is : rate_at b h (rate_field entries i) ≡ sends (job_in b) (entry_at entries i)
@@ -99,7 +97,7 @@ module _ (b : List ℕ) (h : Header) (entries : List ℕ) (s : Shaped b h entrie
 
     -- the pin that was read is the one that bears on the interval
     pin_is : (pins : List ℕ) (x : ℕ) → length pins ≡ 512 → PinIn h pins i x → choice_of x ≡ pin_at (job_in b) (lines h.units pins) (suc i)
-    unfolding pin_at mapped_pin if◌then◌else◌
+    unfolding pin_at mapped_pin
     pin_is pins x n (no_pin k e) = rw (le-leb (suc i) (job_in b).delay (omega (arith, (delay_is b h s.opens))), e, of_mark)
     pin_is pins x n (pinned k e) =
         let place : suc i - (job_in b).delay - 1 ≡ i - h.delay = omega (arith, (delay_is b h s.opens)) in

@@ -1,4 +1,7 @@
 // The course of a plan in shape: what it does in the interval of a place, as the job's bytes, the set's pins and the plan's entries say.
+
+#![tactic(auto)]
+
 ghost use Rattle.std.specs.Prelude.{◌≡◌, ◌+◌, ◌<◌, length};
 ghost use Rattle.model.specs.Levels.{sent};
 ghost use Rattle.format.specs.JobBytes.{job_in};

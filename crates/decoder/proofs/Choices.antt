@@ -10,7 +10,7 @@ use borrow.Author.Tests.{lt-ltb, le-ltb, eq-eqb, ne_eqb}
 use lib.Dec.{ltb, eqb}
 use lib.ListN.{length, get_or, take, drop, set, length-set, length-replicate, get_or-replicate}
 use lib.Seq.{get_or-set_same, get_or-set_other}
-use Rattle.base.specs.If.{if◌then◌else◌}
+use Rattle.std.specs.Prelude.{if◌then◌else◌}
 use Rattle.model.specs.Table.{mark, bound}
 use Rattle.planning.specs.Passes.{charged, row_offer, least_below}
 use Rattle.decoder.specs.declared.Measure.{Measure}
@@ -34,7 +34,7 @@ module _ (measure : Measure) (count width start : ℕ) (words : List ℕ) (size 
   read_size = part_size (start - back) (count - (back - start)) words (omega arith)
 
   size_neared : (old new : List ℕ) → Lessened (back - start) (length read) (λ i. combine measure price (get_or read i 0)) old new → Neared count (λ i. row_offer (combine measure) width words (start + i) (price_open size price)) old new
-  unfolding price_open row_offer if◌then◌else◌
+  unfolding price_open row_offer
   size_neared old new a =
       record { size = a.size; low = λ i h. lessened_low (back - start) (length read) _ old new a i; each = λ i h. rw (le-ltb bound price fits) (go i h (dec_lt (start + i) back)) }
     where
@@ -59,12 +59,12 @@ module _ (measure : Measure) (count width start : ℕ) (words : List ℕ) (size 
 module _ (◌⊕◌ : ℕ → ℕ → ℕ) (width : ℕ) (words prices : List ℕ) (i size : ℕ) where
   -- a size with no price
   pub no_price : bound < get_or prices size 0 → row_offer ◌⊕◌ width words i (priced prices size) ≡ mark
-  unfolding priced price_open row_offer if◌then◌else◌
+  unfolding priced price_open row_offer
   no_price h = rw (lt-ltb bound (get_or prices size 0) h)
 
   -- a size that is more than the decoder holds at a place
   pub past_rows : i < size * width → row_offer ◌⊕◌ width words i (priced prices size) ≡ mark
-  unfolding priced price_open row_offer if◌then◌else◌
+  unfolding priced price_open row_offer
   past_rows h = go (ltb bound (get_or prices size 0))
     where
       go : (t : Bool) → row_offer ◌⊕◌ width words i (if t then none else some (record { size = size; distortion = get_or prices size 0 })) ≡ mark
@@ -78,16 +78,16 @@ prices_none f prices e = rw e (record { size = length-replicate {A = ℕ} 256 ma
 
 -- a choice that a pin rules out, or that is too large for any decoder, leaves the prices
 pub closed_priced : (prices : List ℕ) (free : Bool) (size distortion : ℕ) → free ≡ false → Lowered 256 (λ r. price_at r (coding_if free size distortion)) prices prices
-unfolding coding_if price_at if◌then◌else◌
+unfolding coding_if price_at
 closed_priced prices free size distortion e = record { size = refl; each = λ r h k. rw e (omega arith) }
 
 pub large_priced : (prices : List ℕ) (free : Bool) (size distortion : ℕ) → free ≡ true → 256 ≤ size → Lowered 256 (λ r. price_at r (coding_if free size distortion)) prices prices
-unfolding coding_if price_at if◌then◌else◌
+unfolding coding_if price_at
 large_priced prices free size distortion e m = record { size = refl; each = λ r h k. rw (e, ne_eqb size r (λ q. omega arith)) (omega arith) }
 
 -- any other lessens the price of its size
 pub open_priced : (prices : List ℕ) (free : Bool) (size distortion x : ℕ) → free ≡ true → size < length prices → x ≡ min distortion (get_or prices size 0) → Lowered 256 (λ r. price_at r (coding_if free size distortion)) prices (set prices size x)
-unfolding coding_if price_at if◌then◌else◌
+unfolding coding_if price_at
 open_priced prices free size distortion x e m q =
     record { size = length-set prices size x; each = λ r h k. rw e (go r k (ℕ_discrete size r)) }
   where

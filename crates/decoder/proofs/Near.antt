@@ -10,7 +10,7 @@ use borrow.Author.Tests.{lt-ltb, le-ltb, le-leb, lt-leb}
 use lib.Dec.{ltb, leb}
 use lib.ListN.{length, get_or, take, drop}
 use Rattle.trellis.specs.Table.{charge}
-use Rattle.base.specs.If.{if◌then◌else◌}
+use Rattle.std.specs.Prelude.{if◌then◌else◌}
 use Rattle.model.specs.Job as model
 use Rattle.model.specs.Table.{mark, bound}
 use Rattle.planning.specs.Passes.{least_below, charged, row_offer}
@@ -23,7 +23,7 @@ use Rattle.block.proofs.Blocks.{part_at, part_size}
 
 -- the lesser number stands for the lesser word
 pub closed_min : (a b : ℕ) → closed (min a b) ≡ min (closed a) (closed b)
-unfolding closed if◌then◌else◌
+unfolding closed
 closed_min a b = go (dec_lt a far) (dec_lt b far)
   where
     go : Dec (a < far) → Dec (b < far) → (if ltb (min a b) far then min a b else mark) ≡ min (if ltb a far then a else mark) (if ltb b far then b else mark)
@@ -33,7 +33,7 @@ closed_min a b = go (dec_lt a far) (dec_lt b far)
     go (no p) (no q) = rw (le-ltb (min a b) far (omega arith), le-ltb a far (omega arith), le-ltb b far (omega arith)) refl
 
 pub closed_marked : (a : ℕ) → closed a ≤ mark
-unfolding closed if◌then◌else◌
+unfolding closed
 closed_marked a = go (dec_lt a far)
   where
     go : Dec (a < far) → (if ltb a far then a else mark) ≤ mark
@@ -44,7 +44,7 @@ closed_marked a = go (dec_lt a far)
 module _ (◌⊕◌ : ℕ → ℕ → ℕ) where
   infixl 65 ◌⊕◌
   sum_closed : (d w : ℕ) → (w ≤ bound → d ⊕ w < far) → (bound < w → far ≤ d ⊕ w) → closed (d ⊕ w) ≡ charged ◌⊕◌ d w
-  unfolding closed charged charge if◌then◌else◌
+  unfolding closed charged charge
   sum_closed d w low high = go (dec_lt bound w)
     where
       go : Dec (bound < w) → (if ltb (d ⊕ w) far then d ⊕ w else mark) ≡ charge mark bound ◌⊕◌ (leb w bound) d w
@@ -58,7 +58,7 @@ combined_closed measure.Greatest d w h e = sum_closed max d w (λ k. omega arith
 
 -- a word above the bound becomes far, which is above the bound too
 pub near_far : (w : ℕ) → bound < near w → near w ≡ far
-unfolding near if◌then◌else◌
+unfolding near
 near_far w = go (dec_lt bound w)
   where
     go : Dec (bound < w) → bound < (if leb w bound then w else far) → (if leb w bound then w else far) ≡ far
@@ -66,7 +66,7 @@ near_far w = go (dec_lt bound w)
     go (no p) = rw (le-leb w bound (omega arith)) (λ h. absurd (omega arith))
 
 pub near_near : (w : ℕ) → near (near w) ≡ near w
-unfolding near if◌then◌else◌
+unfolding near
 near_near w = go (dec_lt bound w)
   where
     go : Dec (bound < w) → near (if leb w bound then w else far) ≡ (if leb w bound then w else far)
@@ -75,7 +75,7 @@ near_near w = go (dec_lt bound w)
 
 module _ (◌⊕◌ : ℕ → ℕ → ℕ) where
   charged_near : (d w : ℕ) → charged ◌⊕◌ d (near w) ≡ charged ◌⊕◌ d w
-  unfolding near charged charge if◌then◌else◌
+  unfolding near charged charge
   charged_near d w = go (dec_lt bound w)
     where
       go : Dec (bound < w) → charge mark bound ◌⊕◌ (leb (if leb w bound then w else far) bound) d (if leb w bound then w else far) ≡ charge mark bound ◌⊕◌ (leb w bound) d w
@@ -105,7 +105,7 @@ near_part from n words h a = record { each = λ i k. let b : i < n = omega (arit
 
 -- a block, one size after another
 pub nearest_none : (n : ℕ) (f : ℕ → ℕ → ℕ) (old new : List ℕ) → length old ≡ 256 → n ≤ 256 → Made 0 n (λ i. far) old new → NearestOf n 0 f new
-unfolding least_below closed if◌then◌else◌
+unfolding least_below closed
 nearest_none n f old new h few a = record {
   numbers = record { size = a.size ∙ h; few = few; low = record { each = λ i k. omega (arith, a.here i (omega arith) k) } };
   each = λ i k. rw (a.here i (omega arith) k) refl;

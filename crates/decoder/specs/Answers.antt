@@ -1,7 +1,6 @@
 -- How a measure and prices read in the terms of `model`.
-use Rattle.std.specs.Prelude.{ℕ, ◌+◌, max, Bool, List, get_or, replicate}
+use Rattle.std.specs.Prelude.{ℕ, ◌+◌, max, Bool, List, get_or, replicate, if◌then◌else◌}
 use Rattle.std.proofs.Math.Option.{Option, none, some}
-use Rattle.base.specs.If.{if◌then◌else◌}
 use Rattle.model.specs.Job as model
 use Rattle.model.specs.Table.{mark}
 use Rattle.planning.specs.Rule.{Allowed}

@@ -1,6 +1,5 @@
 -- The numbers of the first pass: "cannot be completed" is a number there that a distortion can be added to, so that a word is not looked at before the sum. And the list of the sizes that it goes through.
-use Rattle.std.specs.Prelude.{ℕ, ◌*◌, ◌<◌, ◌≤◌, min, ◌≡◌, List, leb, ltb, length, get_or, take}
-use Rattle.base.specs.If.{if◌then◌else◌}
+use Rattle.std.specs.Prelude.{ℕ, ◌*◌, ◌<◌, ◌≤◌, min, ◌≡◌, List, leb, ltb, length, get_or, take, if◌then◌else◌}
 use Rattle.model.specs.Table.{mark, bound}
 use Rattle.planning.specs.Passes.{least_below}
 

@@ -1,6 +1,8 @@
 // The first pass over a layer of the table: what decoding a size offers to the levels between arrival and decoding.
 // It knows no bucket, only how many words a decoder level has, the least distortion of each size and how distortions combine.
 
+#![tactic(auto)]
+
 ghost use Rattle.std.specs.Prelude.{◌≡◌, ◌+◌, ◌-◌, ◌<◌, ◌≤◌, min, max, length, get_or, take, drop};
 ghost use Rattle.model.specs.Table.{bound};
 ghost use Rattle.planning.specs.Passes.{least_below, row_offer};
@@ -12,7 +14,7 @@ ghost use Rattle.decoder.specs.Near.{far, near, closed, Upto, Numbers, NearWords
 use block::{BLOCK, LARGEST, NONE};
 
 // What is to be least: the sum of the distortions, or the greatest of them.
-#[derive(Drop)]
+#[derive(Clone, Copy)]
 pub enum Measure {
     Sum,
     Greatest,

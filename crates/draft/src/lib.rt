@@ -1,4 +1,7 @@
 // A job that is to be written: its header and lists, what refuses them, and how many bytes they take (document 02, E1).
+
+#![tactic(auto)]
+
 pub mod refusal;
 
 ghost use Rattle.std.specs.Prelude.{◌≡◌, length};

@@ -1,4 +1,7 @@
 // The calls of an editor's tool with a set of pins as numbers, in a list that it lends and keeps: opening it, pins and lifts.
+
+#![tactic(auto)]
+
 ghost use Rattle.std.specs.Prelude.{◌≡◌, length};
 ghost use Rattle.model.specs.Pins.{pin, lift};
 ghost use Rattle.header.specs.Answers.{door_of};

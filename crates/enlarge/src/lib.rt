@@ -1,5 +1,8 @@
 // What a larger bucket brings (document 02, E13): the least total of a job for each size that its first bucket may have, from its own to the largest.
 // A larger bucket never raises the least total. So from the first size on that has the number of the largest, all have it, and none of them is searched.
+
+#![tactic(auto)]
+
 ghost use Rattle.std.specs.Prelude.{◌≡◌, ◌≤◌};
 ghost use Rattle.format.specs.JobBytes.{job_in};
 ghost use Rattle.header.specs.Answers.{plain};
@@ -22,7 +25,7 @@ use pinset::PinSet;
 use table::Limit;
 
 // Whether the totals are listed, or the refusal's number.
-#[derive(Drop)]
+#[derive(Clone, Copy)]
 pub enum Listed {
     Done,
     Refused(u8),

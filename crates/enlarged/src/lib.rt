@@ -1,4 +1,7 @@
 // What a larger bucket brings, with the pins of a set as numbers (document 02, E13).
+
+#![tactic(auto)]
+
 ghost use Rattle.std.specs.Prelude.{◌≡◌};
 ghost use Rattle.exporting.specs.Larger.{listed, sizes_export};
 

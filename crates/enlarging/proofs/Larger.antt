@@ -15,7 +15,7 @@ use Rattle.trellis.specs.Trellis.{Monotone, Simulates}
 use Rattle.trellis.specs.Limit.{no_limit, keeps_to, only, limited}
 use Rattle.trellis.proofs.Optimality.{sum_combines, greatest_combines}
 use Rattle.trellis.proofs.Simulation.{walk_follows, least_follows}
-use Rattle.base.specs.If.{if◌then◌else◌}
+use Rattle.std.specs.Prelude.{if◌then◌else◌}
 use Rattle.model.specs.Job.{Bucket, Line, Coding, Levels, Job, Entry, on_line, sends, takes, distorts, intervals}
 use Rattle.model.specs.Pins.{PinMap, pin_at}
 use Rattle.model.specs.Admissible.{Violation, pin_not_held, Decoded, breaks, holds, Admissible}
@@ -50,7 +50,7 @@ sending c (next_bucket {k = k} {k' = k'} a b q) (next_level {l = l} {k = l'} h r
 
 -- and no bucket is over that was not
 fits : {ks ks' : List Bucket} {ls ls' : List ℕ} → NoLess ks ks' → NoMore ls ls' → overfull ks ls ≡ none → overfull ks' ls' ≡ none
-unfolding overfull if◌then◌else◌
+unfolding overfull
 fits no_bucket r e = refl
 fits (next_bucket a b q) no_level e = refl
 fits (next_bucket {k = k} {k' = k'} {ks = ks} {ks' = ks'} a b q) (next_level {l = l} {k = l'} {ls = ls} {ks = ls'} h r) e = go (ltb k.size l) refl (overfull ks ls) (λ u. fits q r u) e
@@ -84,7 +84,7 @@ module _ {a b : Line} (larger : Larger a b) (pinned choice : Option ℕ) (c r : 
   lower = sending c (no_less larger) below.no_more
 
   buckets_fit : (d : ℕ) (u : Levels) (held : Bool) (over : Option ℕ) → overfull a.buckets (after_sending c a.buckets s.buckets) ≡ over → tested a s d over held ≡ reaches u → (tested b s' d (overfull b.buckets (after_sending c b.buckets s'.buckets)) held ≡ reaches (to b s' d)) × Below u (to b s' d)
-  unfolding or_overflow if◌then◌else◌
+  unfolding or_overflow
   buckets_fit d u held (some i) o e = absurd (not_reached e)
   buckets_fit d u false none o e = absurd (not_reached e)
   buckets_fit d u true none o e = (rw (fits (no_less larger) lower o) refl, record { same = ap (λ (l : Levels). l.decoder) (reaches_same e); no_more = rw (sym (reaches_same e)) lower })

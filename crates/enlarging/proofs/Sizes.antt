@@ -11,7 +11,6 @@ use lib.ListN.{length, get_or}
 use borrow.Author.Tests.{leb-true, le-leb}
 use Rattle.trellis.specs.Table.{encode}
 use Rattle.base.specs.Answer.{refused}
-use Rattle.base.specs.If.{if◌then◌else◌}
 use Rattle.base.specs.Refusals.{test, refusal, unless, guarded}
 use Rattle.base.specs.Lent.{over}
 use Rattle.base.proofs.Answers.{refused_same, not_refused, gives_same}
@@ -130,7 +129,7 @@ refuses table totals n = refl
 
 -- two tests refuse by one of two numbers
 two_numbers : (table totals : List ℕ) (p q : Bool) (r : Listed) (n : ℕ) → ((k : ℕ) → r.answer ≡ refused k → ⊥) → (guarded (refuse table totals) (test 11 p ∷ test 12 q ∷ []) r).answer ≡ refused n → (n ≡ 11) ⊎ (n ≡ 12)
-unfolding guarded unless refusal if◌then◌else◌ refuse
+unfolding guarded unless refusal refuse
 two_numbers table totals false q r n f e = inl (sym (refused_same e))
 two_numbers table totals true false r n f e = inr (sym (refused_same e))
 two_numbers table totals true true r n f e = absurd (f n e)

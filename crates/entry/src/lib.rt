@@ -1,4 +1,7 @@
 // A plan as bytes: for each interval an entry, a byte for the rate index and two for the choice index, which is the mark where no unit is decoded (document 01, "Levels, interval by interval"; document 02, E6).
+
+#![tactic(auto)]
+
 pub mod refusal;
 
 ghost use Rattle.std.specs.Prelude.{◌≡◌, ◌+◌, ◌*◌, ◌<◌, ◌≤◌, length};
@@ -10,7 +13,7 @@ ghost use Rattle.base.specs.Lent.{over_at};
 use header::{Choice, Header};
 
 // The rate index, and the choice index or the mark.
-#[derive(Drop)]
+#[derive(Clone, Copy)]
 pub struct Entry {
     pub rate: u8,
     pub choice: Choice,

@@ -4,16 +4,15 @@ use mathlib.Core.Path.{◌≡◌}
 use mathlib.Core.Bool.{true, false}
 use mathlib.Core.Logic.{◌⊎◌, inl, inr}
 use borrow.Author.Tests.{ne_eqb}
-use Rattle.base.specs.If.{if◌then◌else◌}
 use Rattle.exporting.specs.Exports.{header_fields}
 
 pub is_header : (n : ℕ) → (n ≡ 9) ⊎ (n ≡ 12) → header_fields n ≡ true
-unfolding header_fields if◌then◌else◌
+unfolding header_fields
 is_header n (inl e) = rw e
 is_header n (inr e) = rw e
 
 pub neither : (n : ℕ) → (n ≡ 9 → ⊥) → (n ≡ 12 → ⊥) → header_fields n ≡ false
-unfolding header_fields if◌then◌else◌
+unfolding header_fields
 neither n f g = rw (ne_eqb n 12 g) (ne_eqb n 9 f)
 
 pub no_header : (n : ℕ) → ((n ≡ 9) ⊎ (n ≡ 12) → ⊥) → header_fields n ≡ false

@@ -1,6 +1,6 @@
 -- The claims of the exported calls with a set as numbers, composed from those of the calls within them: `SetOpening`, `SetCalls`, `SetSees`, `SetPlans` and `SetReplays`.
 use Prim.Native.Nat.{ℕ, ◌+◌, ◌*◌, ◌≤◌}
-use mathlib.Core.Path.{◌≡◌, refl, ◌∙◌, ap}
+use mathlib.Core.Path.{◌≡◌, refl, ◌∙◌, ap, subst, sym}
 use mathlib.Core.Option.{Option}
 use mathlib.Core.List.{List, [], ◌∷◌, ◌++◌}
 use lib.ListN.{length}
@@ -60,8 +60,9 @@ set_calls b set k =
 
 -- a call with a set whose refusal is found first, then room for its values
 looks_set : {R : Type 0} (refuse : ℕ → R) (d : Door) (b : List ℕ) (s : PinSet) (tests : Job → List Test) (least : ℕ) (values : List ℕ) (work : R) (conditions : Job → List Condition) (Else : Job → R → Type 0) → ((j : Job) (k : ℕ) → parse d b ≡ P.took j k → Matches j s → Decides (tests j) (conditions j) × (AllHold (conditions j ++ (condition 12 (least ≤ length values) ∷ [])) → Else j work)) → Looks (whole refuse (checked d b s) tests least values work) refuse (parse d b) (λ j. condition 6 (Matches j s) ∷ conditions j ++ (condition 12 (least ≤ length values) ∷ [])) (λ j. Else j (whole refuse (checked d b s) tests least values work))
-looks_set refuse d b s tests least values work conditions Else f =
-    rw (all_tests refuse (checked d b s) tests least values work)
+looks_set {R} refuse d b s tests least values work conditions Else f =
+    subst (λ (r : R). Looks r refuse (parse d b) (λ j. condition 6 (Matches j s) ∷ conditions j ++ (condition 12 (least ≤ length values) ∷ [])) (λ j. Else j r))
+    (sym (all_tests refuse (checked d b s) tests least values work))
     (looks_checked refuse d b s (λ j. tests j ++ room_for least values) (λ j. conditions j ++ (condition 12 (least ≤ length values) ∷ [])) (λ j. work) Else
     (λ j k e m. let h = f j k e m in (decides_join h.0 (room_decides least values), h.1)))
 
@@ -92,7 +93,7 @@ module _ (b set : List ℕ) (k : Call) (table values : List ℕ) where
 
   sees_in_order : Looks (see_export b set k table values) (λ n. seen n set table values) (parse opening b) (λ j. (Asks j s k ++ (condition 11 (words j ≤ length table) ∷ [])) ++ (condition 12 (1 ≤ length values) ∷ [])) (λ j. SetSeen j set k table values (see_export b set k table values))
   sees_in_order =
-      rw see_whole
+      subst (λ (r : Seen). Looks r (λ n. seen n set table values) (parse opening b) (λ j. (Asks j s k ++ (condition 11 (words j ≤ length table) ∷ [])) ++ (condition 12 (1 ≤ length values) ∷ [])) (λ j. SetSeen j set k table values r)) (sym see_whole)
       (looks_set (λ n. seen n set table values) opening b s (λ j. click_tests j s (sees k (length table))) 1 values after (λ j. CallAsks j s k ++ (condition 11 (words j ≤ length table) ∷ [])) (λ j r. SetSeen j set k table values r)
       (λ j n e m. (
         sees_decides j s k (length table),

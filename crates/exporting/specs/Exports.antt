@@ -1,7 +1,6 @@
 -- What the exported calls answer and leave: the inner calls' answers as a number, 0 where a call is not refused, and values in a list.
-use Rattle.std.specs.Prelude.{ℕ, ◌+◌, Bool, true, List, [], ◌∷◌, leb, eqb, length}
+use Rattle.std.specs.Prelude.{ℕ, ◌+◌, Bool, true, List, [], ◌∷◌, leb, eqb, length, if◌then◌else◌}
 use Rattle.std.proofs.Math.Option.{Option}
-use Rattle.base.specs.If.{if◌then◌else◌}
 use Rattle.base.specs.Answer.{Answer, refused, gives}
 use Rattle.base.specs.Refusals.{Test, test, refusal, unless, first, guarded}
 use Rattle.base.specs.Lent.{Ended, over, put}

@@ -7,7 +7,6 @@ use native.Mathlib.Nat.{add-zero}
 use borrow.Author.Tests.{lt-leb}
 use lib.ListN.{length}
 use lib.Seq.{sets, length-sets}
-use Rattle.base.specs.If.{if◌then◌else◌}
 use Rattle.format.specs.Fields.{bytes}
 use Rattle.format.specs.Places.{field_at}
 use Rattle.format.proofs.Spelling.{bytes_length}
@@ -15,7 +14,7 @@ use Rattle.fields.specs.Written.{put_at}
 
 -- a field that is not wholly there is 0
 pub field_past : (w : ℕ) (b : List ℕ) (at : ℕ) → length b < at + w → field_at w b at ≡ 0
-unfolding field_at if◌then◌else◌
+unfolding field_at
 field_past w b at h = rw (lt-leb (at + w) (length b) h)
 
 -- what is written behind what is written

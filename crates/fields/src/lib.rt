@@ -1,5 +1,7 @@
 // Fields of two and four bytes in a list of bytes, the lower byte first (document 01, "The job's bytes"): reading them, and writing them.
 
+#![tactic(auto)]
+
 ghost use Rattle.std.specs.Prelude.{◌≡◌, ◌+◌, ◌*◌, ◌≤◌, length, take, drop};
 ghost use Rattle.format.specs.Fields.{number, bytes};
 ghost use Rattle.format.specs.Places.{field_at};

@@ -1,4 +1,7 @@
 // The calls that fill a list and answer no more than that they did: the report, and turning an old plan.
+
+#![tactic(auto)]
+
 ghost use Rattle.std.specs.Prelude.{◌≡◌};
 ghost use Rattle.exporting.specs.Exports.{filled, report_export, turn_export};
 

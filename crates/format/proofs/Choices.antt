@@ -5,14 +5,14 @@ use mathlib.Core.Bool.{Bool, true, false}
 use mathlib.Core.Option.{none, some, some-injective, none-ne-some}
 use lib.Dec.{eqb}
 use borrow.Author.Tests.{eqb-true, eq-eqb, ne_eqb}
-use Rattle.base.specs.If.{if◌then◌else◌}
+use Rattle.std.specs.Prelude.{if◌then◌else◌}
 use Rattle.format.specs.Choices.{no_choice, choice_under, choice_of, choice_number}
 use Rattle.format.specs.Claims.{Marked}
 
 -- under any mark: none is the mark, and a choice is its number
 module _ (mark : ℕ) where
   pub under_none : (x : ℕ) → choice_under mark x ≡ none → x ≡ mark
-  unfolding choice_under if◌then◌else◌
+  unfolding choice_under
   under_none x e = go (eqb x mark) refl e
     where
       go : (t : Bool) → eqb x mark ≡ t → (if t then none else some x) ≡ none → x ≡ mark
@@ -20,7 +20,7 @@ module _ (mark : ℕ) where
       go false q r = absurd (none-ne-some x (sym r))
 
   pub under_some : (x y : ℕ) → choice_under mark x ≡ some y → x ≡ y
-  unfolding choice_under if◌then◌else◌
+  unfolding choice_under
   under_some x y e = go (eqb x mark) e
     where
       go : (t : Bool) → (if t then none else some x) ≡ some y → x ≡ y
@@ -28,11 +28,11 @@ module _ (mark : ℕ) where
       go false r = some-injective x y r
 
   pub under_mark : choice_under mark mark ≡ none
-  unfolding choice_under if◌then◌else◌
+  unfolding choice_under
   under_mark = rw (eq-eqb mark mark refl)
 
   pub under_choice : (x : ℕ) → (x ≡ mark → ⊥) → choice_under mark x ≡ some x
-  unfolding choice_under if◌then◌else◌
+  unfolding choice_under
   under_choice x h = rw (ne_eqb x mark h)
 
 -- under that of today
@@ -49,7 +49,7 @@ pub of_choice : (x : ℕ) → (x ≡ no_choice → ⊥) → choice_of x ≡ some
 of_choice = under_choice no_choice
 
 pub number_back : (x : ℕ) → choice_number (choice_of x) ≡ x
-unfolding choice_under choice_number if◌then◌else◌
+unfolding choice_under choice_number
 number_back x = go (eqb x no_choice) refl
   where
     go : (t : Bool) → eqb x no_choice ≡ t → choice_number (if t then none else some x) ≡ x

@@ -1,5 +1,5 @@
 -- Records of either of two forms: there and back, `exact_either`, and in which order they are refused, `either_head` and `either-body`.
-use Prim.Native.Nat.{ℕ, ◌+◌, ◌≤◌}
+use Prim.Native.Nat.{ℕ, ◌≤◌}
 use mathlib.Core.Path.{◌≡◌, refl, sym, ap, ◌∙◌}
 use mathlib.Core.Logic.{◌⊎◌, inl, inr}
 use mathlib.Core.Bool.{Bool, true, false}
@@ -8,7 +8,7 @@ use native.Mathlib.Omega.{arith}
 use lib.Dec.{eqb}
 use lib.ListN.{length, get_or, take, drop}
 use borrow.Author.Tests.{eq-eqb, ne_eqb}
-use Rattle.base.specs.If.{if◌then◌else◌}
+use Rattle.std.specs.Prelude.{if◌then◌else◌}
 use Rattle.format.specs.Fields.{number, total, fields, spelled, Fit, Bytes}
 use Rattle.format.specs.Limits.{AllKept}
 use Rattle.format.specs.Parser.{Result, refused, took, with_value}
@@ -99,16 +99,16 @@ module _ (f g : Form) where
 -- which form a record is of
 module _ (f g : Form) (apart : f.kind ≡ g.kind → ⊥) where
   pub first_form : (k : ℕ) → k ≡ f.kind → form_for f g k ≡ f
-  unfolding form_for if◌then◌else◌
+  unfolding form_for
   first_form k e = rw (e, ne_eqb f.kind g.kind apart)
 
   pub second_form : (k : ℕ) → k ≡ g.kind → form_for f g k ≡ g
-  unfolding form_for if◌then◌else◌
+  unfolding form_for
   second_form k e = rw (e, eq-eqb g.kind g.kind refl)
 
   -- one of the two, whatever the kind
   pub either_form : (k : ℕ) → (form_for f g k ≡ f) ⊎ (form_for f g k ≡ g)
-  unfolding form_for if◌then◌else◌
+  unfolding form_for
   either_form k = go (eqb k g.kind)
     where
       go : (t : Bool) → ((if t then g else f) ≡ f) ⊎ ((if t then g else f) ≡ g)

@@ -7,7 +7,7 @@ use mathlib.Core.List.{List, [], ◌∷◌, ◌++◌}
 use native.Mathlib.Omega.{arith}
 use borrow.Author.Tests.{leb-true, le-leb}
 use lib.Dec.{leb}
-use Rattle.base.specs.If.{if◌then◌else◌}
+use Rattle.std.specs.Prelude.{if◌then◌else◌}
 use Rattle.base.proofs.Tests.{both_true}
 use Rattle.format.specs.Limits.{Limit, kept, both_kept, each_kept, broken, AllKept}
 
@@ -18,11 +18,10 @@ pub not_true : {A : Type 0} → false ≡ true → A
 not_true e = let z : ◌≡◌ {A = ℕ} 0 1 = cc in absurd (omega arith)
 
 pub is_kept : (l : Limit) → Kept l → kept l ≡ true
-unfolding kept if◌then◌else◌
+unfolding kept
 is_kept l h = simp (le-leb l.low l.value h.0, le-leb l.value l.high h.1)
 
 of_kept_by : (a b c : ℕ) (s t : Bool) → leb a b ≡ s → leb b c ≡ t → (if s then t else false) ≡ true → (a ≤ b) × (b ≤ c)
-unfolding if◌then◌else◌
 of_kept_by a b c true true p q e = (leb-true a b p, leb-true b c q)
 of_kept_by a b c true false p q e = not_true e
 of_kept_by a b c false t p q e = not_true e
@@ -40,11 +39,11 @@ not_kept l g = not_kept_by l (kept l) refl g
 
 -- one limit in front
 pub broken_step : (l : Limit) (ls : List Limit) → kept l ≡ true → broken (l ∷ ls) ≡ broken ls
-unfolding broken if◌then◌else◌
+unfolding broken
 broken_step l ls e = rw e
 
 pub broken_here : (l : Limit) (ls : List Limit) → kept l ≡ false → broken (l ∷ ls) ≡ some l.refusal
-unfolding broken if◌then◌else◌
+unfolding broken
 broken_here l ls e = rw e
 
 pub none_broken : (ls : List Limit) → AllKept ls → broken ls ≡ none
@@ -77,7 +76,6 @@ broken_one k (l ∷ ls) a g = go (kept l) refl (λ f. broken_one k ls a.1 f)
 
 -- a value that is not too large is kept if it is large enough
 if_same : (t : Bool) → (if t then true else false) ≡ t
-unfolding if◌then◌else◌
 if_same true = refl
 if_same false = refl
 
@@ -96,7 +94,7 @@ unfolding both_kept
 broken_either l m ls q e = go (kept l) refl
   where
     go : (s : Bool) → kept l ≡ s → broken (l ∷ m ∷ ls) ≡ some l.refusal
-    go true k = broken_step l (m ∷ ls) k ∙ broken_here m ls (unfold if◌then◌else◌ in (rw k at e)) ∙ ap some (sym q)
+    go true k = broken_step l (m ∷ ls) k ∙ broken_here m ls ((rw k at e)) ∙ ap some (sym q)
     go false k = broken_here l (m ∷ ls) k
 
 -- one list of limits after another
@@ -127,7 +125,7 @@ all_fit [] e = tt
 all_fit (l ∷ ls) e = let t = both_true (kept l) (each_kept ls) e in (of_kept l t.0, all_fit ls t.1)
 
 pub fit_all : (ls : List Limit) → AllKept ls → true ≡ each_kept ls
-unfolding each_kept if◌then◌else◌
+unfolding each_kept
 fit_all [] h = refl
 fit_all (l ∷ ls) h = rw (is_kept l h.0) (fit_all ls h.1)
 

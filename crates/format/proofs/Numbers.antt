@@ -8,7 +8,7 @@ use mathlib.Core.List.{List, [], ◌∷◌}
 use native.Mathlib.Omega.{arith}
 use lib.Dec.{ltb, eqb}
 use lib.ListN.{length, drop}
-use Rattle.base.specs.If.{if◌then◌else◌}
+use Rattle.std.specs.Prelude.{if◌then◌else◌}
 use Rattle.base.proofs.Tests.{branch}
 use Rattle.format.specs.Fields.{total, fields}
 use Rattle.format.specs.Limits.{Limit, kept, broken}
@@ -43,7 +43,7 @@ module _ (d : Door) where
   Numbered p = (b : List ℕ) (n : ℕ) → p b ≡ refused n → OwnNumber d n
 
   block_numbered : (ws : List ℕ) (limits : List ℕ → List Limit) (k : ℕ) → ((vs : List ℕ) → AllOf k (limits vs)) → OwnNumber d k → Numbered (block ws limits)
-  unfolding block if◌then◌else◌ unless_refused
+  unfolding block unless_refused
   block_numbered ws limits k all own b n = go (ltb (length b) (total ws)) (broken (limits (fields ws b))) refl
     where
       go : (t : Bool) (o : Option ℕ) → broken (limits (fields ws b)) ≡ o → (if t then refused 1 else unless_refused o (took (fields ws b) (total ws))) ≡ refused n → OwnNumber d n

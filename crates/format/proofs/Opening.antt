@@ -103,7 +103,7 @@ unfolding many
 units_refused t zero k l e = absurd (omega arith)
 units_refused {m} {b} no_more (suc n) k l e = bind_refused (unit_parser m) _ b k e
 units_refused {m} {b} (one_more {u = u} {k = i} {us} {s} f t) (suc n) k l e =
-    bind_later (unit_parser m) _ b u i k f (bind_refused (many n (unit_parser m)) _ (drop i b) k (units_refused t n k (omega arith) (rw drop-drop e)))
+    bind_later (unit_parser m) _ b u i k f (bind_refused (many n (unit_parser m)) _ (drop i b) k (units_refused {b = drop i b} t n k (omega arith) (rw drop-drop e)))
 
 opening_order : (d : Door) (b : List ℕ) → OpeningOrder d b
 unfolding parse done

@@ -8,7 +8,7 @@ use native.Mathlib.Omega.{arith}
 use borrow.Author.Tests.{ltb-false}
 use lib.Dec.{ltb}
 use lib.ListN.{length, take, drop, length-drop}
-use Rattle.base.specs.If.{if◌then◌else◌}
+use Rattle.std.specs.Prelude.{if◌then◌else◌}
 use Rattle.base.specs.Refusals.{Test, refusal, unless, first, guarded, Condition}
 use Rattle.base.proofs.Refusals.{not_none, refusal_join, Decides, AllHold, in_order}
 use Rattle.format.specs.Fields.{number, total, fields}
@@ -118,7 +118,7 @@ pub record BlockTook (ws : List ℕ) (limits : List ℕ → List Limit) (b vs : 
   pub kept : AllKept (limits vs)
 
 pub block_is : (ws : List ℕ) (limits : List ℕ → List Limit) (b vs : List ℕ) (n : ℕ) → block ws limits b ≡ took vs n → BlockTook ws limits b vs n
-unfolding block if◌then◌else◌ unless_refused
+unfolding block unless_refused
 block_is ws limits b vs n = go (ltb (length b) (total ws)) refl (broken (limits (fields ws b))) refl
   where
     go : (t : Bool) → ltb (length b) (total ws) ≡ t → (o : Option ℕ) → broken (limits (fields ws b)) ≡ o → (if t then refused 1 else unless_refused o (took (fields ws b) (total ws))) ≡ took vs n → BlockTook ws limits b vs n

@@ -7,7 +7,6 @@ use native.Mathlib.Nat.{suc-mul, zero-mul}
 use borrow.Author.Tests.{le-leb}
 use lib.ListN.{length, get_or, take, drop, replicate, length-drop, length-replicate}
 use lib.Seq.{drop-drop}
-use Rattle.base.specs.If.{if◌then◌else◌}
 use Rattle.model.specs.Job.{Coding, Job, nothing, job_coding}
 use Rattle.format.specs.Fields.{number, total, fields}
 use Rattle.format.specs.Parser.{refused, took, Parser, many, Each, no_more, one_more}
@@ -26,7 +25,7 @@ use Rattle.format.proofs.RoundTrip.{header_total, either_count, level_each}
 
 -- a field that is wholly there
 pub field_there : (w : ℕ) (b : List ℕ) (at : ℕ) → at + w ≤ length b → field_at w b at ≡ number (take w (drop at b))
-unfolding field_at if◌then◌else◌
+unfolding field_at
 field_there w b at h = rw (le-leb (at + w) (length b) h)
 
 -- the same record at a place and of a size that are shown equal

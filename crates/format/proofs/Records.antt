@@ -7,7 +7,6 @@ use native.Mathlib.Omega.{arith}
 use native.Mathlib.Nat.{mul-zero, mul-suc}
 use borrow.Author.Tests.{le-ltb, lt-ltb}
 use lib.ListN.{length, replicate}
-use Rattle.base.specs.If.{if◌then◌else◌}
 use Rattle.format.specs.Fields.{total, fields}
 use Rattle.format.specs.Limits.{Limit, broken}
 use Rattle.format.specs.Parser.{refused, took, unless_refused}
@@ -26,11 +25,11 @@ total_entries (suc m) = omega (arith, total_entries m)
 
 module _ (ws : List ℕ) (limits : List ℕ → List Limit) (b : List ℕ) where
   pub block_short : length b < total ws → block ws limits b ≡ refused 1
-  unfolding block if◌then◌else◌
+  unfolding block
   block_short h = rw (lt-ltb (length b) (total ws) h)
 
   pub block_there : total ws ≤ length b → block ws limits b ≡ unless_refused (broken (limits (fields ws b))) (took (fields ws b) (total ws))
-  unfolding block if◌then◌else◌
+  unfolding block
   block_there h = rw (le-ltb (length b) (total ws) h)
 
   pub block_took : total ws ≤ length b → broken (limits (fields ws b)) ≡ none → block ws limits b ≡ took (fields ws b) (total ws)

@@ -1,7 +1,6 @@
 -- A choice as a number: a mark stands for none, which is no pin in a set of pins and no unit in a plan (document 01, "Pins" and "Levels, interval by interval").
-use Rattle.std.specs.Prelude.{ℕ, eqb}
+use Rattle.std.specs.Prelude.{ℕ, eqb, if◌then◌else◌}
 use Rattle.std.proofs.Math.Option.{Option, none, some}
-use Rattle.base.specs.If.{if◌then◌else◌}
 
 -- the mark, and how many bytes a choice takes in a plan
 abbrev pub no_choice : ℕ

@@ -1,7 +1,6 @@
 -- A job as bytes: `parse` reads one, `encode` writes one, and `WellFormed` says which can be written (document 01, "The job's bytes"; document 02, E5 and E8). What is claimed of them stands in `Claims`.
 use Rattle.std.specs.Prelude.{ℕ, zero, suc, ◌-◌, ◌≡◌, Bool, true, false, ◌&&◌, eqb, length, get_or, drop, replicate}
 use mathlib.Core.List.{List, [], ◌∷◌, ◌++◌, map, zip_with}
-use Rattle.base.specs.If.{if◌then◌else◌}
 use Rattle.model.specs.Job.{Bucket, Coding, Job}
 use Rattle.format.specs.Fields.{number, bytes, total, fields, spelled}
 use Rattle.format.specs.Limits.{Limit, limit, kept, broken, AllKept}
@@ -269,5 +268,5 @@ pub record Formed (d : Door) (j : Job) : Type 0 where
 
 -- to unfold this is to unfold all that `parse` and `encode` compute through: for a worked example
 unfoldable pub computes : Unit {0}
-unfolding number bytes total fields spelled kept broken done further onward ◌>>=◌ unless_refused with_value many all_bytes if◌then◌else◌ zip_with block head_values head_limits record_due kind_in form_for record_either record_bytes bucket_values policed_by nine_values header_values header_of same_buckets same_header unit_values codings entry_widths bucket_widths header_widths header_kind header_form rates_form unit_form bucket_of job_of policed header_in header_read draining header_parser unit_parser parse unit_bytes header_bytes encode
+unfolding number bytes total fields spelled kept broken done further onward ◌>>=◌ unless_refused with_value many all_bytes zip_with block head_values head_limits record_due kind_in form_for record_either record_bytes bucket_values policed_by nine_values header_values header_of same_buckets same_header unit_values codings entry_widths bucket_widths header_widths header_kind header_form rates_form unit_form bucket_of job_of policed header_in header_read draining header_parser unit_parser parse unit_bytes header_bytes encode
 computes = tt

@@ -1,7 +1,6 @@
 -- Limits on values, each with the refusal that it is checked by, and the first of a list that is not kept.
-use Rattle.std.specs.Prelude.{ℕ, ◌≤◌, Bool, true, false, List, [], ◌∷◌, leb}
+use Rattle.std.specs.Prelude.{ℕ, ◌≤◌, Bool, true, false, List, [], ◌∷◌, leb, if◌then◌else◌}
 use Rattle.std.proofs.Math.Option.{Option, none, some}
-use Rattle.base.specs.If.{if◌then◌else◌}
 
 pub record Limit : Type 0 where
   pub low : ℕ

@@ -1,6 +1,5 @@
 -- Where the fields of a job stand, for readers that look up one of them (document 01, "The job's bytes").
-use Rattle.std.specs.Prelude.{ℕ, ◌+◌, ◌*◌, ◌-◌, List, leb, length, take, drop}
-use Rattle.base.specs.If.{if◌then◌else◌}
+use Rattle.std.specs.Prelude.{ℕ, ◌+◌, ◌*◌, ◌-◌, List, leb, length, take, drop, if◌then◌else◌}
 use Rattle.model.specs.Job.{Coding}
 use Rattle.format.specs.Fields.{number}
 use Rattle.format.specs.JobBytes.{Header, further_buckets}

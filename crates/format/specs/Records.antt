@@ -1,6 +1,5 @@
 -- The record that is due: the tests of document 01's table for "each record" and its fields, in their order.
-use Rattle.std.specs.Prelude.{ℕ, ◌+◌, List, [], ◌∷◌, ◌++◌, ltb, eqb, length, get_or, take, drop, replicate}
-use Rattle.base.specs.If.{if◌then◌else◌}
+use Rattle.std.specs.Prelude.{ℕ, ◌+◌, List, [], ◌∷◌, ◌++◌, ltb, eqb, length, get_or, take, drop, replicate, if◌then◌else◌}
 use Rattle.format.specs.Fields.{number, total, fields, spelled}
 use Rattle.format.specs.Limits.{Limit, limit, broken}
 use Rattle.format.specs.Parser.{refused, took, Parser, ◌>>=◌, unless_refused, with_value}

@@ -9,7 +9,6 @@ use lib.Dec.{leb}
 use lib.ListN.{length, get_or}
 use borrow.Author.Tests.{eqb-true, eq-eqb, ne_eqb, le-leb, lt-leb}
 use Rattle.base.specs.Answer.{refused, gives}
-use Rattle.base.specs.If.{if◌then◌else◌}
 use Rattle.base.specs.Lent.{over, over_at, refuse}
 use Rattle.base.specs.Refusals.{test}
 use Rattle.base.proofs.Lent.{stored_at, stored}
@@ -47,15 +46,15 @@ choice_widened x n = rw (under_choice former_mark x n) refl
 -- whether the bytes were a plan, from what each test answered
 module _ (h : Header) (b : List ℕ) where
   pub too_many : former_choices < h.choices → false ≡ former_shaped h b
-  unfolding former_shaped if◌then◌else◌
+  unfolding former_shaped
   too_many l = rw (lt-leb h.choices former_choices l)
 
   pub not_long : h.choices ≤ former_choices → (length b ≡ former_size * (h.units + h.delay) → ⊥) → false ≡ former_shaped h b
-  unfolding former_shaped if◌then◌else◌
+  unfolding former_shaped
   not_long l f = rw (le-leb h.choices former_choices l, ne_eqb _ _ f)
 
   pub by_entries : h.choices ≤ former_choices → length b ≡ former_size * (h.units + h.delay) → (t : Bool) → t ≡ entries_fit former_mark h (former_rate b) (former_choice b) (h.units + h.delay) → t ≡ former_shaped h b
-  unfolding former_shaped if◌then◌else◌
+  unfolding former_shaped
   by_entries l e t q = rw (le-leb h.choices former_choices l, eq-eqb _ _ e) q
 
   -- an old plan has its bytes

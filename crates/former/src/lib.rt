@@ -1,5 +1,7 @@
 // Plans as they were stored before a unit could have a thousand choices (document 02, E6): two bytes an interval, the rate index and the choice index, 255 where no unit is decoded. Here they are turned into the entries of today.
 
+#![tactic(auto)]
+
 ghost use Rattle.std.specs.Prelude.{◌≡◌, ◌+◌, ◌*◌, ◌≤◌, length};
 ghost use Rattle.base.specs.Lent.{over};
 ghost use Rattle.format.specs.Choices.{choice_under, choice_number};
@@ -13,14 +15,14 @@ use header::{Choice, Door, Header};
 use job::Reading;
 
 // An entry of such a plan.
-#[derive(Drop)]
+#[derive(Clone, Copy)]
 struct Entry {
     rate: u8,
     choice: u8,
 }
 
 // Whether an old plan was turned, or the refusal's number.
-#[derive(Drop)]
+#[derive(Clone, Copy)]
 pub enum Turned {
     Done,
     Refused(u8),

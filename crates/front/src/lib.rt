@@ -1,4 +1,7 @@
 // The entries of an old plan that remain when the contract changes (document 02, E12): the levels that they lead to under the old contract, and their totals.
+
+#![tactic(auto)]
+
 ghost use Rattle.format.specs.JobBytes.{job_in};
 ghost use Rattle.header.specs.Answers.{plain};
 ghost use Rattle.pinning.specs.PinSet.{lines};
@@ -8,7 +11,7 @@ use header::{Choice, Header};
 use interval::{Buffers, Levels, Outcome, Totals};
 
 // Where they lead, and their totals; or that one of them has a violation.
-#[derive(Drop)]
+#[derive(Clone, Copy)]
 pub enum Front {
     Leads { at: Levels, sum: Totals },
     Breaks,

@@ -7,7 +7,7 @@ use native.Mathlib.Omega.{arith}
 use lib.ListN.{length, take, drop}
 use lib.Seq.{drop-drop}
 use lib.Dec.{eqb}
-use Rattle.base.specs.If.{if◌then◌else◌, one_if}
+use Rattle.base.specs.If.{one_if}
 use Rattle.model.specs.Job.{Coding}
 use Rattle.format.specs.Fields.{number, fields}
 use Rattle.format.specs.JobBytes.{Policed, Header, policed_by, header_of, bucket_widths, header_form, same_buckets}
@@ -45,11 +45,11 @@ header_made b n more e₀ e₁ e₂ e₃ e₄ e₅ e₆ e₇ e₈ m =
 
 -- the second bucket, where there is one, from what its fields were read as
 pub no_second : (b : List ℕ) (k : Policed) (two : Bool) → two ≡ false → one_if two k ≡ policed_by (fields (bucket_widths (extra two)) (drop 18 b))
-unfolding one_if extra if◌then◌else◌ policed_by bucket_widths fields
+unfolding one_if extra policed_by bucket_widths fields
 no_second b k two e = rw e
 
 pub second_made : (b : List ℕ) (two : Bool) {s d l : ℕ} → two ≡ true → s ≡ number (take 2 (drop 18 b)) → d ≡ number (take 2 (drop 20 b)) → l ≡ number (take 2 (drop 22 b)) → one_if two (record { size = s; drain = d; fill = l }) ≡ policed_by (fields (bucket_widths (extra two)) (drop 18 b))
-unfolding one_if extra if◌then◌else◌ policed_by bucket_widths fields
+unfolding one_if extra policed_by bucket_widths fields
 second_made b two e p q r = rw (e, p, q, r, drop-drop, drop-drop)
 
 -- a header's further buckets compared, and its first
@@ -90,5 +90,5 @@ small_size h w e = go h.two e
 
 -- the bytes of a second bucket that is there
 pub two_room : (two : Bool) (n : ℕ) → two ≡ true → 18 + 6 * extra two ≤ n → 24 ≤ n
-unfolding extra if◌then◌else◌
+unfolding extra
 two_room two n e h = rw e at h

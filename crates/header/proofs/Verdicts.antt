@@ -7,7 +7,7 @@ use mathlib.Core.List.{List, [], ◌∷◌}
 use borrow.Author.Tests.{leb-true, leb-false}
 use lib.Dec.{leb}
 use lib.ListN.{length}
-use Rattle.base.specs.If.{if◌then◌else◌, one_if}
+use Rattle.base.specs.If.{one_if}
 use Rattle.format.specs.Limits.{Limit, limit, both_kept, each_kept, broken, AllKept}
 use Rattle.format.specs.JobBytes.{Policed, Header, largest_sizes, bucket_limits, header_limits}
 use Rattle.format.proofs.Opening.{header_number}
@@ -66,17 +66,17 @@ all_in h i = fits (header_limits (plain h)) (i.units, ((omega arith, i.delay), (
 
 -- the test for two limits says that both are kept
 pub both : (l m : Limit) → Kept l → Kept m → true ≡ both_kept l m
-unfolding both_kept if◌then◌else◌
+unfolding both_kept
 both l m h k = rw (is_kept l h) (sym (is_kept m k))
 
 -- it says no where the first is not kept
 pub not_first : (l m : Limit) → (Kept l → ⊥) → false ≡ both_kept l m
-unfolding both_kept if◌then◌else◌
+unfolding both_kept
 not_first l m g = rw (not_kept l g)
 
 -- and where the second is not
 pub not_second : (l m : Limit) → Kept l → (Kept m → ⊥) → false ≡ both_kept l m
-unfolding both_kept if◌then◌else◌
+unfolding both_kept
 not_second l m h g = rw (is_kept l h) (sym (not_kept m g))
 
 -- the limits of a header's buckets: the first's, then those of the second where there is one
@@ -96,7 +96,7 @@ module _ (k l : Policed) (two : Bool) where
   two_fit e q r f = rw q (go (all_fit (bucket_limits (255 ∷ []) (k ∷ [])) (sym e)))
     where
       go : AllKept (bucket_limits (255 ∷ []) (k ∷ [])) → r ≡ each_kept (bucket_limits largest_sizes (k ∷ l ∷ []))
-      go h = unfold each_kept if◌then◌else◌ in (f ∙ rw (is_kept (limit 3 0 255 k.size) h.0, is_kept (limit 3 0 4095 k.drain) h.1.0, is_kept (limit 3 0 k.size k.fill) h.1.1.0))
+      go h = unfold each_kept in (f ∙ rw (is_kept (limit 3 0 255 k.size) h.0, is_kept (limit 3 0 4095 k.drain) h.1.0, is_kept (limit 3 0 k.size k.fill) h.1.1.0))
 
 -- a size, a drain and a level within their limits, by two comparisons
 pub three_fit : (s d l m : ℕ) → d ≤ 4095 → leb s m && leb l s ≡ each_kept (limit 3 0 m s ∷ limit 3 0 4095 d ∷ limit 3 0 s l ∷ [])

@@ -1,7 +1,7 @@
 -- What the structs of a header and a verdict mean in the terms of the crates below.
-use Rattle.std.specs.Prelude.{ℕ, Bool, ◌∷◌}
+use Rattle.std.specs.Prelude.{ℕ, Bool, ◌∷◌, if◌then◌else◌}
 use Rattle.std.proofs.Math.Option.{Option, none, some}
-use Rattle.base.specs.If.{if◌then◌else◌, one_if}
+use Rattle.base.specs.If.{one_if}
 use Rattle.model.specs.Job as model
 use Rattle.format.specs.JobBytes as format
 use Rattle.header.specs.declared.Bucket.{Bucket}

@@ -1,4 +1,7 @@
 // A job's header (document 01, "The job's bytes"): its fields and buckets with their limits, and looking up rates and codings behind it.
+
+#![tactic(auto)]
+
 pub mod refusal;
 
 ghost use Rattle.std.specs.Prelude.{◌≡◌, [], ◌∷◌, ◌+◌, ◌*◌, ◌-◌, ◌≤◌, length, drop};
@@ -10,7 +13,7 @@ ghost use Rattle.format.specs.Places.{header_size, unit_size, rate_at, coding_at
 ghost use Rattle.header.specs.Answers.{extra, policed_of, plain, door_of, verdict, coding_of};
 
 // A leaky bucket as a header tells it: its size, what it drains in an interval, its level at the start. Sizes and levels are counted in grains, document 01's fixed count of bits.
-#[derive(Drop)]
+#[derive(Clone, Copy)]
 pub struct Bucket {
     pub size: u16,
     pub drain: u16,
@@ -18,7 +21,7 @@ pub struct Bucket {
 }
 
 // What kind 1 says of a job, or kind 8, which has two buckets (document 02, E5). A kind 1 header has a second bucket of zeros, which is not looked at.
-#[derive(Drop)]
+#[derive(Clone, Copy)]
 pub struct Header {
     pub units: u16,
     pub delay: u16,
@@ -33,7 +36,7 @@ pub struct Header {
 }
 
 // A unit as one choice codes it.
-#[derive(Drop)]
+#[derive(Clone, Copy)]
 pub struct Coding {
     pub size: u16,
     pub distortion: u32,
@@ -45,14 +48,14 @@ pub type Choice = u16;
 pub const NO_CHOICE: Choice = 65535;
 
 // Which jobs a reader takes (document 02, E8): opening none that has a bucket which never drains, the archive these too.
-#[derive(Drop)]
+#[derive(Clone, Copy)]
 pub enum Door {
     Opening,
     Archive,
 }
 
 // Whether a record is taken, or the refusal's number.
-#[derive(Drop)]
+#[derive(Clone, Copy)]
 pub enum Verdict {
     Fits,
     Refused(u8),

@@ -12,7 +12,8 @@ use Rattle.format.specs.JobBytes.{Policed, bucket_of}
 use Rattle.interval.specs.declared.Totals.{Totals}
 use native.Mathlib.Omega.{arith}
 use borrow.Author.Tests.{lt-ltb, le-ltb}
-use Rattle.base.specs.If.{if◌then◌else◌, one_if}
+use Rattle.std.specs.Prelude.{if◌then◌else◌}
+use Rattle.base.specs.If.{one_if}
 use Rattle.model.specs.Admissible.{Violation, bucket_overflow, pin_not_held, breaks, holds}
 use Rattle.model.specs.Step.{decoder_step, Drained, bucket_step, Outcome, violates, reaches, after_sending, overfull, pin_held, or_overflow, after_decoder, outcome_of}
 use Rattle.interval.specs.declared.Buffers.{Buffers}
@@ -39,12 +40,12 @@ module _ (k : Buffers) (before : Levels) (c : ℕ) (r : code.Drained) where
       go false t p = refl
 
   second_over : SecondStep k before c r → k.bucket2 < r.level → overfull (one_if k.two (second_of k)) (one_if (k.two && before.two) r.level) ≡ some 0
-  unfolding one_if overfull second_of if◌then◌else◌ drained
+  unfolding one_if overfull second_of drained
   second_over (both p q e) l = rw (p, q, lt-ltb k.bucket2 r.level l)
   second_over (not_both p e) l = absurd (omega (arith, ap (λ (x : Drained). x.level) e))
 
   second_within : SecondStep k before c r → r.level ≤ k.bucket2 → overfull (one_if k.two (second_of k)) (one_if (k.two && before.two) r.level) ≡ none
-  unfolding one_if overfull second_of if◌then◌else◌
+  unfolding one_if overfull second_of
   second_within (both p q e) l = rw (p, q, le-ltb k.bucket2 r.level l)
   second_within (not_both p e) l = go k.two before.two p
     where
@@ -69,29 +70,29 @@ module _ (k : Buffers) (before : Levels) (c : ℕ) (r : code.Drained) where
       opened = rw (sent_on) (unfold line_of in rw (← e))
 
       pub outcome_bucket : k.bucket < x → violates (bucket_overflow 0) ≡ outcome
-      unfolding line_of overfull or_overflow if◌then◌else◌
+      unfolding line_of overfull or_overflow
       outcome_bucket o = sym (opened ∙ rw (lt-ltb k.bucket x o))
 
       pub outcome_second : x ≤ k.bucket → k.bucket2 < r.level → violates (bucket_overflow 1) ≡ outcome
-      unfolding line_of overfull or_overflow if◌then◌else◌
+      unfolding line_of overfull or_overflow
       outcome_second o l = sym (opened ∙ rw (le-ltb k.bucket x o, second_over s l))
 
       module _ (o : x ≤ k.bucket) (l : r.level ≤ k.bucket2) where
         within : overfull (line_of k []).buckets (x ∷ one_if (k.two && before.two) r.level) ≡ none
-        unfolding line_of overfull if◌then◌else◌
+        unfolding line_of overfull
         within = rw (le-ltb k.bucket x o, second_within s l)
 
         pub outcome_pin : pin_held pinned choice ≡ false → violates pin_not_held ≡ outcome
-        unfolding or_overflow if◌then◌else◌
+        unfolding or_overflow
         outcome_pin q = sym (opened ∙ rw (within, q))
 
         pub outcome_reaches : pin_held pinned choice ≡ true → reaches (record { decoder = d; buckets = x ∷ one_if (k.two && before.two) r.level }) ≡ outcome
-        unfolding or_overflow if◌then◌else◌
+        unfolding or_overflow
         outcome_reaches q = sym (opened ∙ rw (within, q))
 
 -- what goes unused of the second bucket's drain
 pub second_unused : (k : Buffers) (before : Levels) (c : ℕ) (r : code.Drained) (two : Bool) (u : ℕ) → SecondStep k before c r → one_if (two && (k.two && before.two)) (if two && (k.two && before.two) then u + r.unused else 0) ≡ zip_with ◌+◌ (one_if two u) (zip_with (λ k l. (bucket_step k.drain l c).unused) (one_if k.two (second_of k)) (one_if before.two before.bucket2))
-unfolding one_if zip_with second_of if◌then◌else◌ drained
+unfolding one_if zip_with second_of drained
 second_unused k before c r true u (both p q e) = let l : r.unused ≡ (bucket_step k.drain2 before.bucket2 c).unused = ap (λ (x : Drained). x.unused) e in rw (p, q, l)
 second_unused k before c r false u (both p q e) = refl
 second_unused k before c r two u (not_both p e) = go two k.two before.two p

@@ -1,6 +1,8 @@
 // One interval of a plan: what it does to the levels, what it violates, and what it adds to the totals (document 01, "Levels, interval by interval"). Replay and planner share it.
-ghost use Rattle.std.specs.Prelude.{◌≡◌, true, [], ◌+◌, ◌<◌};
-ghost use Rattle.base.specs.If.{if◌then◌else◌};
+
+#![tactic(auto)]
+
+ghost use Rattle.std.specs.Prelude.{◌≡◌, true, [], ◌+◌, ◌<◌, if◌then◌else◌};
 ghost use Rattle.model.specs.Step.{outcome_of};
 ghost use Rattle.format.specs.Choices.{choice_of};
 ghost use Rattle.header.specs.Answers.{plain};
@@ -10,7 +12,7 @@ use header::{Choice, Header};
 use parts::{Decoded, Drained, Violation};
 
 // Distortion, source size (the sum of R), channel size (the sum of C) and the drain that each bucket left unused: of two, where the line has a second bucket (document 02, E5).
-#[derive(Drop)]
+#[derive(Clone, Copy)]
 pub struct Totals {
     pub distortion: u32,
     pub source: u32,
@@ -21,7 +23,7 @@ pub struct Totals {
 }
 
 // The levels at an interval's end: the decoder's, and one for each bucket.
-#[derive(Drop)]
+#[derive(Clone, Copy)]
 pub struct Levels {
     pub decoder: u16,
     pub bucket: u16,
@@ -30,7 +32,7 @@ pub struct Levels {
 }
 
 // What a step reads of a line: the decoder's size, and each bucket's size and drain.
-#[derive(Drop)]
+#[derive(Clone, Copy)]
 pub struct Buffers {
     pub decoder: u16,
     pub bucket: u16,
@@ -41,14 +43,14 @@ pub struct Buffers {
 }
 
 // What an interval leads to.
-#[derive(Drop)]
+#[derive(Clone, Copy)]
 pub enum Outcome {
     Reaches(Levels),
     Violates(Violation),
 }
 
 // What a plan does in one interval: C, R and the distortion of the unit that is decoded, its pin and the choice made, the mark where there is none.
-#[derive(Drop)]
+#[derive(Clone, Copy)]
 pub struct Interval {
     pub sent: u16,
     pub size: u16,

@@ -19,7 +19,7 @@ use Rattle.format.specs.Limits.{AllKept, broken}
 use Rattle.format.specs.Parser.{Result, refused, took, Parser, done, further, onward, ◌>>=◌, many, refusal_of, with_value, unless_refused}
 use Rattle.format.specs.Records.{record_due, record_either}
 use Rattle.format.specs.JobBytes.{Header, header_of, header_limits, codings, header_kind, header_form, rates_form, unit_form, job_of, header_in, header_parser, unit_parser, parse, Door, drain_limits, header_read, draining}
-use Rattle.base.specs.If.{if◌then◌else◌}
+use Rattle.std.specs.Prelude.{if◌then◌else◌}
 use Rattle.format.specs.Places.{field_at, header_size}
 use Rattle.format.proofs.RoundTrip.{header_total}
 use Rattle.format.proofs.Places.{header_count}
@@ -124,7 +124,7 @@ after_header h = do
   done (job_of h rates units)
 
 form_told : (two : Bool) → (if two then header_form 1 else header_form 0) ≡ header_form (extra two)
-unfolding if◌then◌else◌ extra
+unfolding extra
 form_told true = refl
 form_told false = refl
 

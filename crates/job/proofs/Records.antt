@@ -9,7 +9,7 @@ use borrow.Author.Tests.{ltb-false, lt-ltb, le-ltb}
 use lib.Dec.{ltb}
 use lib.ListN.{length, take, drop, length-drop}
 use lib.Seq.{take_all}
-use Rattle.base.specs.If.{if◌then◌else◌}
+use Rattle.std.specs.Prelude.{if◌then◌else◌}
 use Rattle.base.specs.Refusals.{unless, first}
 use Rattle.base.proofs.Refusals.{first_none}
 use Rattle.format.specs.Fields.{number, total, fields}
@@ -36,7 +36,6 @@ first_assoc (some n) y z = refl
 
 -- a test that gives no refusal failed
 not_refused : (t : Bool) → ◌≡◌ {A = Option ℕ} (if t then some 1 else none) none → t ≡ false
-unfolding if◌then◌else◌
 not_refused true e = not_some e
 not_refused false e = refl
 
@@ -58,13 +57,13 @@ unfolding block
 block_first ws limits b = go (ltb (length b) (total ws))
   where
     go : (t : Bool) → refusal_of (if t then refused 1 else unless_refused (broken (limits (fields ws b))) (took (fields ws b) (total ws))) ≡ first (if t then some 1 else none) (broken (limits (fields ws b)))
-    go true = unfold if◌then◌else◌ refusal_of unless in refl
-    go false = unfold if◌then◌else◌ unless in (refusal_unless (broken (limits (fields ws b))) (fields ws b) (total ws))
+    go true = unfold refusal_of unless in refl
+    go false = unfold unless in (refusal_unless (broken (limits (fields ws b))) (fields ws b) (total ws))
 
 module _ (f : Form) (len kind : ℕ) where
   -- the length decides where the kind is the one due
   pub head_by : (n : ℕ) → 2 + total f.widths ≡ n → kind ≡ f.kind → (r : Verdict) → verdict r ≡ broken (limit 2 n n len ∷ []) → verdict r ≡ broken (head_limits f (len ∷ kind ∷ []))
-  unfolding head_limits broken if◌then◌else◌
+  unfolding head_limits broken
   head_by n e k r h = h ∙ rw (e, k, is_kept (limit 2 f.kind f.kind f.kind) (omega arith))
 
   -- a kind that is not the one due is refused
@@ -80,12 +79,12 @@ module _ (f : Form) (len kind : ℕ) where
 module _ (f : Form) (b : List ℕ) where
   -- a record whose head is not wholly there
   pub shape_short : length b < 4 → verdict (Refused 1) ≡ shape f b
-  unfolding shape verdict unless if◌then◌else◌ total
+  unfolding shape verdict unless total
   shape_short h = rw (block_first head_widths (head_limits f) b, lt-ltb (length b) 4 h)
 
   -- where the head is there, its limits and then the body's presence
   shape_there : 4 ≤ length b → shape f b ≡ first (broken (head_limits f (number (take 2 b) ∷ number (take 2 (drop 2 b)) ∷ []))) (if ltb (length (drop 4 b)) (total f.widths) then some 1 else none)
-  unfolding shape unless if◌then◌else◌ total fields
+  unfolding shape unless total fields
   shape_there h = rw (block_first head_widths (head_limits f) b, le-ltb (length b) 4 h)
 
   -- the length and the kind are there, and r is the verdict on them
@@ -106,12 +105,12 @@ module _ (f : Form) (b : List ℕ) where
 
     -- then a body that is not wholly there
     pub body_absent : r ≡ Fits → length b < len + 2 → verdict (Refused 1) ≡ shape f b
-    unfolding verdict unless if◌then◌else◌
+    unfolding verdict unless
     body_absent e a = rw (shape_by, e, lt-ltb (length (drop 4 b)) (total f.widths) (rw length-drop (omega (arith, due e))))
 
     -- and nothing where it is there
     pub body_there : r ≡ Fits → len + 2 ≤ length b → verdict Fits ≡ shape f b
-    unfolding verdict unless if◌then◌else◌
+    unfolding verdict unless
     body_there e a = rw (shape_by, e, le-ltb (length (drop 4 b)) (total f.widths) (rw length-drop (omega (arith, due e))))
 
   -- the refusal of a head and a body: the head's, then the body's

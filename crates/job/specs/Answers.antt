@@ -1,7 +1,6 @@
 -- What the reader's structs and answers mean in the terms of the crates below, case by case.
-use Rattle.std.specs.Prelude.{ℕ, ◌≤◌, Bool, List, ltb, length, drop}
+use Rattle.std.specs.Prelude.{ℕ, ◌≤◌, Bool, List, ltb, length, drop, if◌then◌else◌}
 use Rattle.std.proofs.Math.Option.{Option, none, some}
-use Rattle.base.specs.If.{if◌then◌else◌}
 use Rattle.base.specs.Refusals.{first}
 use Rattle.format.specs.Fields.{total, fields}
 use Rattle.format.specs.Limits.{broken}

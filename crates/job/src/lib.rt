@@ -1,4 +1,7 @@
 // A job's bytes (document 01, "The job's bytes"): opening them.
+
+#![tactic(auto)]
+
 ghost use Rattle.std.specs.Prelude.{◌≡◌, [], ◌∷◌, ◌*◌, ◌≤◌, eqb, length, drop, replicate};
 ghost use Rattle.format.specs.Fields.{fields};
 ghost use Rattle.format.specs.Limits.{limit, broken, AllKept};
@@ -12,7 +15,7 @@ ghost use Rattle.job.specs.Answers.{header_refusal, form_of, Small, reading, sha
 use header::{Door, Header, Verdict};
 
 // The record that is due: a header with one bucket or with two, so many rates, a unit with so many codings, or so many fields of two bytes with any values.
-#[derive(Drop)]
+#[derive(Clone, Copy)]
 enum Due {
     Header,
     TwoBuckets,
@@ -22,7 +25,7 @@ enum Due {
 }
 
 // The header and how many bytes the job took, or the refusal's number.
-#[derive(Drop)]
+#[derive(Clone, Copy)]
 pub enum Reading {
     Read { header: Header, taken: usize },
     Refused(u8),

@@ -1,6 +1,8 @@
 // One layer of the table of least distortions from the next: what the intervals' moves offer to every state of a line with two buckets.
 // It knows neither a job nor its pins, only the line, the least distortion of each size and how distortions combine.
 
+#![tactic(auto)]
+
 ghost use Rattle.std.specs.Prelude.{◌≡◌, ◌++◌, ◌+◌, ◌≤◌, length, take, drop};
 ghost use Rattle.model.specs.Table.{layer_words};
 ghost use Rattle.planning.specs.Rule.{layer_from};

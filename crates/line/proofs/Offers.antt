@@ -4,7 +4,6 @@ use mathlib.Core.Path.{◌≡◌, refl, sym, ◌∙◌}
 use mathlib.Core.Bool.{Bool, true, false}
 use mathlib.Core.Option.{none}
 use lib.ListN.{length}
-use Rattle.base.specs.If.{if◌then◌else◌}
 use Rattle.trellis.specs.Table.{offered}
 use Rattle.model.specs.Job as model
 use Rattle.model.specs.Admissible.{Violation}
@@ -25,7 +24,7 @@ use Rattle.decoder.specs.Answers.{coding_if}
 
 -- a choice that the pin rules out
 pub barred_offers : (line : model.Line) (W : model.Levels → ℕ) (s : model.Levels) (sent : ℕ) (free : Bool) (size distortion : ℕ) → free ≡ false → mark ≡ coding_offer ◌+◌ line W s sent (coding_if free size distortion)
-unfolding coding_offer coding_if if◌then◌else◌
+unfolding coding_offer coding_if
 barred_offers line W s sent free size distortion e = rw e
 
 module _ (l : Line) (from : Levels) (sent size distortion : ℕ) (x : Interval) (is : IntervalOf sent size distortion x) where
@@ -40,9 +39,9 @@ module _ (l : Line) (from : Levels) (sent size distortion : ℕ) (x : Interval) 
   -- a choice that it leaves open
   module _ (W : model.Levels → ℕ) (free : Bool) (e : free ≡ true) where
     pub violation_offers : (v : Violation) → step_of l.buffers from x ≡ violates v → mark ≡ coding_offer ◌+◌ (line_is l) W (levels_of from) sent (coding_if free size distortion)
-    unfolding coding_offer coding_if if◌then◌else◌ offered reached
+    unfolding coding_offer coding_if offered reached
     violation_offers v h = rw (e, sym line_steps ∙ h)
 
     pub reached_offers : (to : Levels) → step_of l.buffers from x ≡ reaches (levels_of to) → charged ◌+◌ distortion (W (levels_of to)) ≡ coding_offer ◌+◌ (line_is l) W (levels_of from) sent (coding_if free size distortion)
-    unfolding coding_offer coding_if if◌then◌else◌ offered reached charged
+    unfolding coding_offer coding_if offered reached charged
     reached_offers to h = rw (e, sym line_steps ∙ h)

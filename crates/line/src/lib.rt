@@ -1,5 +1,8 @@
 // The line of receiver and carrier: how many words a layer of the table has over it, where levels stand in a layer, and what one move offers from them.
 // It knows neither a job's bytes nor its pins.
+
+#![tactic(auto)]
+
 ghost use Rattle.std.specs.Prelude.{◌≡◌, [], ◌+◌, ◌≤◌, length};
 ghost use Rattle.base.specs.If.{one_if};
 ghost use Rattle.model.specs.Table.{span, layer_words, tops, flat, place, layer_of, word_in};
@@ -12,7 +15,7 @@ use interval::{Buffers, Interval, Levels, Outcome};
 use sender::Bucket;
 
 // What receiver and carrier fix: the decoder's size, the buckets and the rates on offer, of which there are `count`.
-#[derive(Drop)]
+#[derive(Clone, Copy)]
 pub struct Line {
     pub buffers: Buffers,
     pub count: u16,
@@ -20,7 +23,7 @@ pub struct Line {
 }
 
 // A choice that a move may make: whether the pin leaves it open, and how it codes the unit.
-#[derive(Drop)]
+#[derive(Clone, Copy)]
 pub struct Candidate {
     pub free: bool,
     pub size: u16,

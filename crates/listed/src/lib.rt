@@ -1,4 +1,7 @@
 // A playlist for programs in other languages (document 02, E14): the answer as one number.
+
+#![tactic(auto)]
+
 ghost use Rattle.std.specs.Prelude.{◌≡◌};
 ghost use Rattle.exporting.specs.Playlists.{told, playlisted, playlist_export};
 ghost use Rattle.playlist.specs.Answers.{outcome};

@@ -4,7 +4,7 @@ use mathlib.Core.Path.{◌≡◌, refl, sym, ◌∙◌, ap}
 use mathlib.Core.List.{List}
 use native.Mathlib.Omega.{arith}
 use lib.IntN.{ℤ, pos, ◌+ℤ◌, ◌-ℤ◌, +ℤ_assoc, +ℤ_comm, -ℤ-+ℤ_cancel, pos-+ℤ-pos}
-use Rattle.model.specs.Job.{Job, Entry, waits, PlanFits}
+use Rattle.model.specs.Job.{Job, Entry, PlanFits}
 use Rattle.model.specs.Levels.{sent, taken, decoder_level, sent_after, effective_buffer, units_taken}
 use Rattle.base.specs.Lists.{sum, gathered}
 use Rattle.model.specs.Claims.{EffectiveBuffers, RunningBuffers}

@@ -8,7 +8,7 @@ use borrow.Author.Tests.{ltb-true, ltb-false, leb-true, leb-false, lt-ltb, le-lt
 use lib.Dec.{leb, ltb}
 use lib.IntN.{ℤ, pos, negsuc, nat_abs, ◌-ℤ◌}
 use lib.Signed.{lt_z, non_neg, ◌≤ℤ◌, lt_z_yes, lt_z_no, clash_ℤ, yes_non_neg, pos-nat_abs}
-use Rattle.base.specs.If.{if◌then◌else◌}
+use Rattle.std.specs.Prelude.{if◌then◌else◌}
 use Rattle.model.specs.Levels.{decoder_peak}
 use Rattle.model.specs.Admissible.{Violation, decoder_overflow, decoder_underflow, Decoded, breaks, holds, verify, ending}
 use Rattle.model.specs.Step.{decoder_step}
@@ -29,19 +29,16 @@ abbrev tested : Bool → Bool → ℕ → Decoded
 tested over kept n = if over then breaks decoder_overflow else if kept then holds n else breaks decoder_underflow
 
 was_over : (s t : Bool) (n : ℕ) → tested s t n ≡ breaks decoder_overflow → s ≡ true
-unfolding if◌then◌else◌
 was_over true t n e = refl
 was_over false true n e = absurd (breaks_or_holds (sym e))
 was_over false false n e = absurd (over_or_short (sym (one_violation e)))
 
 was_short : (s t : Bool) (n : ℕ) → tested s t n ≡ breaks decoder_underflow → (s ≡ false) × (t ≡ false)
-unfolding if◌then◌else◌
 was_short true t n e = absurd (over_or_short (one_violation e))
 was_short false true n e = absurd (breaks_or_holds (sym e))
 was_short false false n e = (refl, refl)
 
 was_held : (s t : Bool) (n b : ℕ) → tested s t n ≡ holds b → (s ≡ false) × (t ≡ true) × (n ≡ b)
-unfolding if◌then◌else◌
 was_held true t n b e = absurd (breaks_or_holds e)
 was_held false true n b e = (refl, refl, cc)
 was_held false false n b e = absurd (breaks_or_holds e)
@@ -74,7 +71,7 @@ module _ (size : ℕ) (peak level : ℤ) where
       rw (← w.2) (pos-nat_abs level (rw w.1 tt))
 
   verified_iff : ((b : ℕ) × (verify size peak level ≡ holds b)) ↔ ((peak ≤ℤ pos size) × (pos 0 ≤ℤ level))
-  unfolding verify if◌then◌else◌
+  unfolding verify
   verified_iff = (
     λ h. let w = was_held (lt_z (pos size) peak) (non_neg level) (nat_abs level) h.0 h.1 in
         ((not_less (pos size) peak).0 w.0, (natural level).0 w.1),
@@ -88,7 +85,7 @@ decoder_range j m s start p n = verified_iff _ _ _
 -- in natural numbers
 module _ (size b c r : ℕ) where
   step_tests : decoder_step size b c r ≡ tested (ltb size (b + c)) (leb r (b + c)) ((b + c) - r)
-  unfolding decoder_step verify if◌then◌else◌
+  unfolding decoder_step verify
   step_tests = go (leb r (b + c)) refl
     where
       go : (t : Bool) → leb r (b + c) ≡ t → tested (ltb size (b + c)) (non_neg (pos (b + c) -ℤ pos r)) (nat_abs (pos (b + c) -ℤ pos r)) ≡ tested (ltb size (b + c)) t ((b + c) - r)
@@ -96,7 +93,6 @@ module _ (size b c r : ℕ) where
       go false e = rw (shortfall (b + c) r (leb-false r (b + c) e)) refl
 
   decoder_claim : DecoderClaim size b c r
-  unfolding if◌then◌else◌
   decoder_claim =
       record {
         over_iff = (λ e. ltb-true size (b + c) (was_over over kept n (sym step_tests ∙ e)), λ h. step_tests ∙ rw (lt-ltb size (b + c) h) refl);

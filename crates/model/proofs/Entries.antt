@@ -14,7 +14,7 @@ use Rattle.trellis.specs.Minimum.{Sorted}
 use Rattle.trellis.specs.Pairs.{Pair, pair}
 use Rattle.trellis.proofs.Sorted.{sorted_map}
 use Rattle.trellis.proofs.Pairs.{rows_member, member_rows, rows_sorted}
-use Rattle.base.specs.If.{if◌then◌else◌}
+use Rattle.std.specs.Prelude.{if◌then◌else◌}
 use Rattle.model.specs.Job.{Job, Entry, ChoiceFits, waits, decodes, EntryFits}
 use Rattle.model.specs.Best.{Order, late, early, RateBefore, ChoiceBefore, smaller, Before, turn, pairs, entry, width, entries}
 
@@ -51,7 +51,6 @@ unfolding pairs
 pairs_sorted o m k = rows_sorted (PairBefore o) (turn o m) m k (λ a b x y l h p q. inl (rw (p, q) (turn_before o m x y l h))) (λ a b p q. inr (p, q))
 
 choice_before : (k x y : ℕ) (b : Bool) → y < (if b then 1 else k) → x < y → ChoiceBefore (if b then none else some x) (if b then none else some y)
-unfolding if◌then◌else◌
 choice_before k x y true h q = absurd (omega arith)
 choice_before k x y false h q = smaller q
 
@@ -69,7 +68,7 @@ module _ (j : Job) (t : ℕ) where
       sorted_map (PairBefore o) (Before o) (entry j t) (pairs o P W) (λ a b m n r. pair_before o a b (pairs_member o P W b n).1 r) (pairs_sorted o P W)
 
   pub listed_fits : (o : Order) {e : Entry} → Memᴰ e (entries o j t) → EntryFits j t e
-  unfolding entries entry width if◌then◌else◌
+  unfolding entries entry width
   listed_fits o m =
       let r = Memᴰ.of_map (entry j t) (pairs o (length j.line.rates) (width j t)) m in
       let k = pairs_member o (length j.line.rates) (width j t) r.0 r.1 in
@@ -80,7 +79,7 @@ module _ (j : Job) (t : ℕ) where
       go x false q h = decodes (leb-false t j.delay q) h
 
   pub fits_listed : (o : Order) {e : Entry} → EntryFits j t e → Memᴰ e (entries o j t)
-  unfolding entries entry width if◌then◌else◌
+  unfolding entries entry width
   fits_listed o {e} f = go f.choice
     where
       at : (x : ℕ) → x < width j t → Memᴰ (entry j t (pair e.rate x)) (entries o j t)

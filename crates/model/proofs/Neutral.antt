@@ -8,7 +8,7 @@ use native.Mathlib.Nat.{one-mul, div-eq_of_lt, mod-eq_of_lt, mod-lt}
 use native.Mathlib.Omega.{arith}
 use lib.IntN.{pos, nat_abs, ◌+ℤ◌, ◌-ℤ◌}
 use lib.Signed.{lt_z, non_neg}
-use Rattle.base.specs.If.{if◌then◌else◌}
+use Rattle.std.specs.Prelude.{if◌then◌else◌}
 use Rattle.model.specs.Job.{Line, Levels}
 use Rattle.model.specs.Admissible.{breaks, holds, verify, decoder_overflow, decoder_underflow, pin_not_held}
 use Rattle.model.specs.Step.{Outcome, violates, reaches, decoder_step, bucket_step, after_sending, overfull, pin_held, or_overflow, after_decoder, outcome_of}
@@ -44,7 +44,7 @@ module _ (drain : ℕ) (line : Line) where
     after_sending_same ls = let z : (0 + c) - drain ≡ 0 = omega arith in rw z
 
     pub overfull_same : (ls : List ℕ) → overfull (neutral drain ∷ line.buckets) (0 ∷ ls) ≡ map suc (overfull line.buckets ls)
-    unfolding overfull neutral if◌then◌else◌
+    unfolding overfull neutral
     overfull_same ls = refl
 
     pub outcome_same : (pinned choice : Option ℕ) (b : ℕ) (ls : List ℕ) (r : ℕ) → outcome_of (fronted drain line) pinned choice b (0 ∷ ls) c r ≡ front_outcome (outcome_of line pinned choice b ls c r)
@@ -54,11 +54,11 @@ module _ (drain : ℕ) (line : Line) where
         (go (lt_z (pos line.decoder) (pos b +ℤ pos c)) (non_neg ((pos b +ℤ pos c) -ℤ pos r)) (overfull line.buckets (after_sending c line.buckets ls)) (pin_held pinned choice))
       where
         go : (over short : Bool) (o : Option ℕ) (held : Bool) → after_decoder (if over then breaks decoder_overflow else if short then holds (nat_abs ((pos b +ℤ pos c) -ℤ pos r)) else breaks decoder_underflow) (λ d. or_overflow (map suc o) (if held then reaches (record { decoder = d; buckets = 0 ∷ after_sending c line.buckets ls }) else violates pin_not_held)) ≡ front_outcome (after_decoder (if over then breaks decoder_overflow else if short then holds (nat_abs ((pos b +ℤ pos c) -ℤ pos r)) else breaks decoder_underflow) (λ d. or_overflow o (if held then reaches (record { decoder = d; buckets = after_sending c line.buckets ls }) else violates pin_not_held)))
-        go true short o held = unfold if◌then◌else◌ after_decoder front_outcome front_violation in refl
-        go false false o held = unfold if◌then◌else◌ after_decoder front_outcome front_violation in refl
-        go false true (some i) held = unfold if◌then◌else◌ after_decoder or_overflow front_outcome front_violation in refl
-        go false true none true = unfold if◌then◌else◌ after_decoder or_overflow front_outcome front in refl
-        go false true none false = unfold if◌then◌else◌ after_decoder or_overflow front_outcome front_violation in refl
+        go true short o held = unfold after_decoder front_outcome front_violation in refl
+        go false false o held = unfold after_decoder front_outcome front_violation in refl
+        go false true (some i) held = unfold after_decoder or_overflow front_outcome front_violation in refl
+        go false true none true = unfold after_decoder or_overflow front_outcome front in refl
+        go false true none false = unfold after_decoder or_overflow front_outcome front_violation in refl
 
     pub reached_same : (s : Levels) (r : ℕ) → reached (outcome_of (fronted drain line) none none s.decoder (0 ∷ s.buckets) c r) ≡ map front (reached (outcome_of line none none s.decoder s.buckets c r))
     reached_same s r = rw (outcome_same none none s.decoder s.buckets r) (go (outcome_of line none none s.decoder s.buckets c r))

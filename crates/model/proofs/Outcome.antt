@@ -5,7 +5,7 @@ use mathlib.Core.Option.{Option}
 use mathlib.Core.List.{List}
 use lib.IntN.{pos, ◌+ℤ◌, ◌-ℤ◌}
 use Rattle.model.specs.Job.{Line, Levels}
-use Rattle.base.specs.If.{if◌then◌else◌}
+use Rattle.std.specs.Prelude.{if◌then◌else◌}
 use Rattle.model.specs.Admissible.{Violation, pin_not_held, Decoded, breaks, holds, verify, AllWithin, Ending, Verified, Sound, Violates, unverified, bucket, unpinned, Shows}
 use Rattle.model.specs.Step.{Outcome, violates, reaches, decoder_step, after_sending, overfull, pin_held, or_overflow, after_decoder, outcome_of}
 use Rattle.model.proofs.Decoder.{verified_level}

@@ -7,7 +7,6 @@ use native.Mathlib.Decide.{dec_lt}
 use native.Mathlib.Omega.{arith}
 use lib.ListN.{length, get_or}
 use borrow.Author.Tests.{le-leb, lt-leb}
-use Rattle.base.specs.If.{if◌then◌else◌}
 use Rattle.model.specs.Job.{Coding, nothing, Levels, Job, Entry, intervals, coding, job_coding, sends, takes, distorts, ChoiceFits, waits, decodes, EntryFits, PlanFits, ends, goes}
 use Rattle.model.specs.Levels.{entry_of, sent, taken, distorted}
 use Rattle.model.specs.Pins.{PinMap, mapped_pin, pin_at, PinHeld, free, kept}
@@ -61,11 +60,11 @@ units j p = record {
 
 -- the pin that bears on an interval, by unit
 pin_waits : (j : Job) (m : PinMap) (t : ℕ) → t ≤ j.delay → pin_at j m t ≡ none
-unfolding pin_at if◌then◌else◌
+unfolding pin_at
 pin_waits j m t h = rw (le-leb t j.delay h)
 
 pin_of : (j : Job) (m : PinMap) (u : ℕ) → 1 ≤ u → pin_at j m (u + j.delay) ≡ get_or m (u - 1) none
-unfolding pin_at mapped_pin if◌then◌else◌
+unfolding pin_at mapped_pin
 pin_of j m u h = let e : u + j.delay - j.delay ≡ u = omega arith in rw (lt-leb (u + j.delay) j.delay (omega arith), e)
 
 held_some : {c : ℕ} {o : Option ℕ} → PinHeld (some c) o → o ≡ some c

@@ -1,8 +1,7 @@
 -- What is asked of a plan: the limits kept by the levels of the equations and the pins held, and which limit is violated first. Nothing here knows replay or search.
-use Rattle.std.specs.Prelude.{ℕ, suc, ◌+◌, ◌<◌, ◌≤◌, ◌≡◌, List, length, get_or, ℤ, pos, nat_abs}
+use Rattle.std.specs.Prelude.{ℕ, suc, ◌+◌, ◌<◌, ◌≤◌, ◌≡◌, List, length, get_or, ℤ, pos, nat_abs, if◌then◌else◌}
 use Rattle.std.proofs.Math.Option.{Option}
 use Rattle.std.specs.Int.Signed.{lt_z, non_neg}
-use Rattle.base.specs.If.{if◌then◌else◌}
 use Rattle.model.specs.Job.{Bucket, Line, bucket_at, Levels, no_levels, Job, Entry, PlanFits}
 use Rattle.model.specs.Levels.{entry_of, decoder_level, decoder_peak, bucket_levels}
 use Rattle.model.specs.Pins.{PinMap, pin_at, PinHeld}

@@ -1,10 +1,9 @@
 -- The best plan: the trellis of a job with its pins, for the theory of the crate `trellis` (document 01, "The best plan"; document 02, E7).
-use Rattle.std.specs.Prelude.{ℕ, suc, ◌+◌, ◌-◌, ◌<◌, max, ◌≡◌, ◌⊎◌, List, map, leb, length}
+use Rattle.std.specs.Prelude.{ℕ, suc, ◌+◌, ◌-◌, ◌<◌, max, ◌≡◌, ◌⊎◌, List, map, leb, length, if◌then◌else◌}
 use Rattle.std.proofs.Math.Option.{Option, none, some}
 use Rattle.trellis.specs.Trellis.{Trellis, least, best}
 use Rattle.trellis.specs.Limit.{limited}
 use Rattle.trellis.specs.Pairs.{Pair, rows}
-use Rattle.base.specs.If.{if◌then◌else◌}
 use Rattle.model.specs.Job.{Levels, Job, Entry, distorts, intervals}
 use Rattle.model.specs.Pins.{PinMap}
 use Rattle.model.specs.Step.{Outcome, violates, reaches, outcome}

@@ -1,8 +1,7 @@
 -- What an interval does to the levels: the levels at its end, or the first limit that it violates, tested in order (document 01, "Levels, interval by interval"; document 02, E2).
-use Rattle.std.specs.Prelude.{ℕ, suc, ◌+◌, ◌-◌, Bool, true, false, ltb, eqb, pos, ◌+ℤ◌, ◌-ℤ◌}
+use Rattle.std.specs.Prelude.{ℕ, suc, ◌+◌, ◌-◌, Bool, true, false, ltb, eqb, pos, ◌+ℤ◌, ◌-ℤ◌, if◌then◌else◌}
 use Rattle.std.proofs.Math.Option.{Option, none, some, map}
 use mathlib.Core.List.{List, [], ◌∷◌, zip_with}
-use Rattle.base.specs.If.{if◌then◌else◌}
 use Rattle.model.specs.Job.{Bucket, Line, Levels, Job, Entry, sends, takes}
 use Rattle.model.specs.Pins.{PinMap, pin_at}
 use Rattle.model.specs.Admissible.{Violation, bucket_overflow, pin_not_held, Decoded, breaks, holds, verify}

@@ -7,7 +7,7 @@ use native.Mathlib.Omega.{arith}
 use lib.Dec.{eqb}
 use lib.ListN.{length, get_or, take, drop}
 use borrow.Author.Tests.{lt-leb, le-leb, eq-eqb, ne_eqb}
-use Rattle.base.specs.If.{if◌then◌else◌, one_if}
+use Rattle.base.specs.If.{one_if}
 use Rattle.format.specs.JobBytes.{Policed, Header, header_of}
 use Rattle.pinning.specs.PinSet.{PinSet}
 use Rattle.pinning.specs.Numbers.{two_byte, one_kind, set_shaped, field_count, set_in}
@@ -17,21 +17,21 @@ use Rattle.numbers.specs.Parts.{bucket_at_lem, FieldIn}
 -- the tests in their order
 module _ (l : List ℕ) where
   pub too_short : length l < 528 → false ≡ set_shaped l
-  unfolding set_shaped if◌then◌else◌
+  unfolding set_shaped
   too_short h = rw (lt-leb 528 (length l) h)
 
   module _ (h : 528 ≤ length l) where
     pub too_wide : two_byte l 1 524 ≡ false → false ≡ set_shaped l
-    unfolding set_shaped if◌then◌else◌
+    unfolding set_shaped
     too_wide e = rw (le-leb 528 (length l) h, e)
 
     module _ (e : two_byte l 1 524 ≡ true) where
       pub two_kind : get_or l 0 0 ≡ 8 → true ≡ set_shaped l
-      unfolding set_shaped if◌then◌else◌
+      unfolding set_shaped
       two_kind k = rw (le-leb 528 (length l) h, e, eq-eqb (get_or l 0 0) 8 k)
 
       pub by_one_kind : (get_or l 0 0 ≡ 8 → ⊥) → one_kind l ≡ set_shaped l
-      unfolding set_shaped if◌then◌else◌
+      unfolding set_shaped
       by_one_kind k = rw (le-leb 528 (length l) h, e, ne_eqb (get_or l 0 0) 8 k)
 
 -- a field is in the list, and of two bytes

@@ -1,4 +1,7 @@
 // A set of pins as plain numbers in a list that the caller lends, as an editor's tool keeps it between calls: the kind of the header, its twelve fields, 512 pins, three totals.
+
+#![tactic(auto)]
+
 ghost use Rattle.std.specs.Prelude.{◌≡◌, true, ◌≤◌, length, get_or, take, drop};
 ghost use Rattle.base.specs.Lent.{over, over_at};
 ghost use Rattle.format.specs.JobBytes.{no_bucket, further_buckets, header_kind, header_of};

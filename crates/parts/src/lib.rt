@@ -1,4 +1,7 @@
 // The parts of an interval: the decoder's, a bucket's, and whether a pin holds (document 01, "Levels, interval by interval").
+
+#![tactic(auto)]
+
 ghost use Rattle.std.specs.Prelude.{◌≡◌};
 ghost use Rattle.model.specs.Step.{decoder_step, bucket_step, pin_held};
 ghost use Rattle.format.specs.Choices.{choice_of};
@@ -7,7 +10,7 @@ ghost use Rattle.parts.specs.Answers.{decoded, drained};
 use header::Choice;
 
 // The violations, document 01's breaches and document 02's of a second bucket, in the order in which they are tested.
-#[derive(Drop)]
+#[derive(Clone, Copy)]
 pub enum Violation {
     DecoderOverflow,
     DecoderUnderflow,
@@ -17,14 +20,14 @@ pub enum Violation {
 }
 
 // The decoder's part of an interval: its level at the end, or the limit that it violates.
-#[derive(Drop)]
+#[derive(Clone, Copy)]
 pub enum Decoded {
     Level(u16),
     Violated(Violation),
 }
 
 // The bucket's part of an interval: its level at the end, and what it could have drained besides.
-#[derive(Drop)]
+#[derive(Clone, Copy)]
 pub struct Drained {
     pub level: u32,
     pub unused: u32,

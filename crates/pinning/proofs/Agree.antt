@@ -9,7 +9,7 @@ use native.Mathlib.Omega.{arith}
 use lib.Dec.{eqb}
 use lib.ListN.{length, get_or}
 use borrow.Author.Tests.{eq-eqb, ne_eqb}
-use Rattle.base.specs.If.{if◌then◌else◌}
+use Rattle.std.specs.Prelude.{if◌then◌else◌}
 use Rattle.base.specs.Refusals.{Test, guarded, Condition, condition}
 use Rattle.base.proofs.Refusals.{Decides, AllHold, in_order}
 use Rattle.model.specs.Job.{Coding, Job, job_coding}
@@ -31,29 +31,29 @@ use Rattle.pinning.proofs.Checks.{byte_kept, checks}
 
 -- equal totals, test by test
 pub totals_differ_count : (a b : PinTotals) → (a.count ≡ b.count → ⊥) → false ≡ same_totals a b
-unfolding same_totals if◌then◌else◌
+unfolding same_totals
 totals_differ_count a b h = rw (ne_eqb a.count b.count h)
 
 pub totals_differ_size : (a b : PinTotals) → a.count ≡ b.count → (a.size ≡ b.size → ⊥) → false ≡ same_totals a b
-unfolding same_totals if◌then◌else◌
+unfolding same_totals
 totals_differ_size a b e h = rw (eq-eqb a.count b.count e, ne_eqb a.size b.size h)
 
 pub totals_by_distortion : (a b : PinTotals) → a.count ≡ b.count → a.size ≡ b.size → eqb a.distortion b.distortion ≡ same_totals a b
-unfolding same_totals if◌then◌else◌
+unfolding same_totals
 totals_by_distortion a b e f = rw (eq-eqb a.count b.count e, eq-eqb a.size b.size f)
 
 -- the check, test by test
 module _ (codings : ℕ → ℕ → Coding) (h : Header) (s : PinSet) where
   pub fits_not_header : same_header s.header h ≡ false → false ≡ fits codings h s
-  unfolding fits if◌then◌else◌
+  unfolding fits
   fits_not_header e = rw e
 
   pub fits_not_bytes : same_header s.header h ≡ true → pins_fit h s.pins 512 ≡ false → false ≡ fits codings h s
-  unfolding fits if◌then◌else◌
+  unfolding fits
   fits_not_bytes e f = rw (e, f)
 
   pub fits_by_totals : same_header s.header h ≡ true → pins_fit h s.pins 512 ≡ true → same_totals s.totals (totals_to codings (lines h.units s.pins) h.units) ≡ fits codings h s
-  unfolding fits if◌then◌else◌
+  unfolding fits
   fits_by_totals e f = rw (e, f)
 
 module _ (d : Door) (b : List ℕ) (j : Job) (k : ℕ) (parsed : parse d b ≡ took j k) where
@@ -68,11 +68,11 @@ module _ (d : Door) (b : List ℕ) (j : Job) (k : ℕ) (parsed : parse d b ≡ t
       (looks_up d b j k parsed).coding (suc i) x (omega arith) (omega arith) c ∙ ap (λ (n : ℕ). job_coding j n x) e
 
   pub checked_took : (s : PinSet) → fits (job_coding j) (header_in j) s ≡ true → checked d b s ≡ took j k
-  unfolding checked accept if◌then◌else◌
+  unfolding checked accept
   checked_took s e = rw (parsed, e)
 
   pub checked_six : (s : PinSet) → fits (job_coding j) (header_in j) s ≡ false → checked d b s ≡ refused 6
-  unfolding checked accept if◌then◌else◌
+  unfolding checked accept
   checked_six s e = rw (parsed, e)
 
   -- in the document's words
@@ -109,7 +109,7 @@ module _ (d : Door) (b : List ℕ) (j : Job) (k : ℕ) (parsed : parse d b ≡ t
         below i x p q (inr h) = omega arith
 
     pub fits_agree : fits (codings_in b (header_in j)) (header_in j) s ≡ fits (job_coding j) (header_in j) s
-    unfolding fits if◌then◌else◌ header_in
+    unfolding fits header_in
     fits_agree = go (same_header s.header (header_in j)) (pins_fit (header_in j) s.pins 512) refl
       where
         go : (t f : Bool) → pins_fit (header_in j) s.pins 512 ≡ f → (if t then if f then same_totals s.totals (totals_to (codings_in b (header_in j)) (lines (length j.units) s.pins) (length j.units)) else false else false) ≡ (if t then if f then same_totals s.totals (totals_to (job_coding j) (lines (length j.units) s.pins) (length j.units)) else false else false)
@@ -118,7 +118,7 @@ module _ (d : Door) (b : List ℕ) (j : Job) (k : ℕ) (parsed : parse d b ≡ t
         go true true e = ap (same_totals s.totals) (totals_agree_in e)
 
 pub checked_parsed : (d : Door) (b : List ℕ) (s : PinSet) (j : Job) (k : ℕ) → checked d b s ≡ took j k → parse d b ≡ took j k
-unfolding checked accept if◌then◌else◌
+unfolding checked accept
 checked_parsed d b s j k e = go (parse d b) e
   where
     by_test : (t : Bool) (i : Job) (n : ℕ) → (if t then took i n else refused 6) ≡ took j k → took i n ≡ took j k

@@ -8,7 +8,6 @@ use native.Mathlib.Decide.{dec_lt}
 use lib.Dec.{eqb}
 use lib.ListN.{length, get_or}
 use borrow.Author.Tests.{eqb-true, eq-eqb, ltb-true, lt-ltb}
-use Rattle.base.specs.If.{if◌then◌else◌}
 use Rattle.model.specs.Job.{Job, job_coding}
 use Rattle.model.specs.Pins.{PinTotals, pin_totals}
 use Rattle.base.proofs.Tests.{branch, both_true, true_both}
@@ -30,7 +29,7 @@ module _ (h : Header) where
       (λ q e. let p = both_true _ _ e in inr (ltb-true i h.units p.0, ltb-true x h.choices p.1))
 
   kept_byte : (i x : ℕ) → (x ≡ no_choice) ⊎ ((i < h.units) × (x < h.choices)) → pin_fits h i x ≡ true
-  unfolding pin_fits if◌then◌else◌
+  unfolding pin_fits
   kept_byte i x (inl e) = rw (eq-eqb x no_choice e)
   kept_byte i x (inr p) =
       branch (λ (t : Bool). t ≡ true) (eqb x no_choice) (λ q. refl)

@@ -14,7 +14,7 @@ use lib.Seq.{get_or-set_same, get_or-set_other, ext_get_or}
 use borrow.Author.Tests.{leb-true, leb-false, le-leb, lt-leb, lt-ltb, le-ltb, eq-eqb, ne_eqb}
 use Rattle.base.specs.Refusals.{test, refusal, unless, first, guarded}
 use Rattle.base.proofs.Refusals.{refusal_join, guarded_past, guarded_here, guarded_last}
-use Rattle.base.specs.If.{if◌then◌else◌}
+use Rattle.std.specs.Prelude.{if◌then◌else◌}
 use Rattle.model.specs.Job.{Job, job_coding}
 use Rattle.model.specs.Pins.{PinMap, PinTotals, no_pins, mapped_pin, Call, pin, lift, Click, plain, sees, Noted, outside, note_pin, note_lift, note, note_short, note_click, pins_after, answers, clicks_after, click_answers, with_line, pin_totals}
 use Rattle.model.specs.Table.{words}
@@ -135,7 +135,7 @@ module _ (j : Job) (limits : InLimits j) where
         rw (guarded_last (refuse s) (test 10 (not (eqb (pin_of s u) no_choice))) (take_in (called j s (lift u))) (ap not (line_full u y l e)), q) (record { answered = refl; holds = lifted_holds (u - 1) l y e })
 
     pub call_follows : (k : Call) → Follows j (note j.choices m k) (call_in j s k)
-    unfolding note call_in call_tests mapped_pin if◌then◌else◌
+    unfolding note call_in call_tests mapped_pin
     call_follows (pin u x) = rw map_length (go (outside (length j.units) u) refl (leb j.choices x) refl)
       where
         go : (t : Bool) → outside (length j.units) u ≡ t → (c : Bool) → leb j.choices x ≡ c → Follows j (if t then record { refused = some 7; map = m } else if c then record { refused = some 8; map = m } else note_pin m u x (get_or m (u - 1) none)) (guarded (refuse s) (test 7 (not t) ∷ test 8 (ltb x j.choices) ∷ test 9 (eqb (pin_of s u) no_choice) ∷ []) (take_in (called j s (pin u x))))
@@ -154,7 +154,7 @@ module _ (j : Job) (limits : InLimits j) where
     its_call k o q = rw q at (call_follows k)
 
     sees_follows : (k : Call) (n : ℕ) (t : Bool) → leb (words j) n ≡ t → (o : Option ℕ) → refusal (call_tests j s k) ≡ o → Follows j (if t then note j.choices m k else note_short m (note j.choices m k).refused) (unless (refuse s) (first o (refusal (test 11 t ∷ []))) (take_in (called j s k)))
-    unfolding refusal if◌then◌else◌ unless note_short refuse take_in
+    unfolding refusal unless note_short refuse take_in
     sees_follows k n t e o q = go t o (its_call k o q)
       where
         go : (t : Bool) (o : Option ℕ) → Follows j (note j.choices m k) (unless (refuse s) o (take_in (called j s k))) → Follows j (if t then note j.choices m k else note_short m (note j.choices m k).refused) (unless (refuse s) (first o (refusal (test 11 t ∷ []))) (take_in (called j s k)))
@@ -260,7 +260,7 @@ call_history b j n parsed calls =
     rw (← p.answered (words j) j.choices (no_pins (length j.units)), ← p.noted (words j) j.choices (no_pins (length j.units)), ← p.made b (open_call opening b).set) (history b j n parsed (map plain calls))
 
 pub sees_are : Sees
-unfolding note_click note_short if◌then◌else◌
+unfolding note_click note_short
 sees_are words choices m k n = record {
   refused_first = λ x e. first_of (leb words n) (note choices m k) x e;
   then_11 = λ e. (λ q. ltb_of (leb words n) refl e q, λ l. rw (le_false l) (rw e));

@@ -7,7 +7,6 @@ use native.Mathlib.Numerals.{add-one}
 use lib.Dec.{ltb}
 use lib.ListN.{length, get_or}
 use borrow.Author.Tests.{eq-eqb, ne_eqb, lt-ltb, le-ltb}
-use Rattle.base.specs.If.{if◌then◌else◌}
 use Rattle.model.specs.Job.{Coding}
 use Rattle.model.specs.Pins.{PinTotals, with_line, totals_to}
 use Rattle.format.specs.JobBytes.{Header}
@@ -19,15 +18,15 @@ use Rattle.pinning.proofs.Lines.{lines_at}
 module _ (h : Header) where
   -- a byte, test by test
   pub fits_none : (i x : ℕ) → x ≡ no_choice → true ≡ pin_fits h i x
-  unfolding pin_fits if◌then◌else◌
+  unfolding pin_fits
   fits_none i x e = rw (eq-eqb x no_choice e)
 
   pub fits_below : (i x : ℕ) → (x ≡ no_choice → ⊥) → i < h.units → ltb x h.choices ≡ pin_fits h i x
-  unfolding pin_fits if◌then◌else◌
+  unfolding pin_fits
   fits_below i x e l = rw (ne_eqb x no_choice e, lt-ltb i h.units l)
 
   pub fits_past : (i x : ℕ) → (x ≡ no_choice → ⊥) → h.units ≤ i → false ≡ pin_fits h i x
-  unfolding pin_fits if◌then◌else◌
+  unfolding pin_fits
   fits_past i x e l = rw (ne_eqb x no_choice e, le-ltb i h.units l)
 
 -- one line more

@@ -10,7 +10,8 @@ use lib.Dec.{leb, ltb, eqb}
 use lib.ListN.{length, get_or, take, drop, length-append, get_or-append}
 use lib.Seq.{get_or-append-add, drop-cons, take_at, take-add}
 use borrow.Author.Tests.{eqb-true, ltb-true, lt-ltb, leb-true, le-leb}
-use Rattle.base.specs.If.{if◌then◌else◌, one_if}
+use Rattle.std.specs.Prelude.{if◌then◌else◌}
+use Rattle.base.specs.If.{one_if}
 use Rattle.base.specs.Lists.{build}
 use Rattle.base.proofs.Tests.{branch, both_true, true_both}
 use Rattle.base.proofs.All.{all_each, each_all}
@@ -151,11 +152,11 @@ module _ (l : List ℕ) where
     pins = take 512 (drop pins_place l);
     totals = record { count = get_or l totals_place 0; size = get_or l (totals_place + 1) 0; distortion = get_or l (totals_place + 2) 0 };
   }
-  unfolding set_in if◌then◌else◌
+  unfolding set_in
   read_shaped e = rw e
 
   pub read_other : set_shaped l ≡ false → set_in l ≡ fresh no_header
-  unfolding set_in if◌then◌else◌
+  unfolding set_in
   read_other e = rw e
 
 -- a list of at least n numbers by its first n
@@ -185,7 +186,7 @@ header_at l = record {
 }
 
 pub header_told : (l : List ℕ) → 13 ≤ length l → header_of (take (field_count l) (drop 1 l)) ≡ header_at l
-unfolding header_of field_count policed_by if◌then◌else◌ one_if header_at
+unfolding header_of field_count policed_by one_if header_at
 header_told = thirteen (λ l. header_of (take (field_count l) (drop 1 l)) ≡ header_at l) (λ a₀ a₁ a₂ a₃ a₄ a₅ a₆ a₇ a₈ a₉ b₀ b₁ b₂ t. go a₁ a₂ a₃ a₄ a₅ a₆ a₇ a₈ a₉ b₀ b₁ b₂ t (eqb a₀ 8))
   where
     go : (a₁ a₂ a₃ a₄ a₅ a₆ a₇ a₈ a₉ b₀ b₁ b₂ : ℕ) (t : List ℕ) (two : Bool) → header_of (take (if two then 12 else 9) (a₁ ∷ a₂ ∷ a₃ ∷ a₄ ∷ a₅ ∷ a₆ ∷ a₇ ∷ a₈ ∷ a₉ ∷ b₀ ∷ b₁ ∷ b₂ ∷ t)) ≡ record { units = a₁; delay = a₂; decoder = a₃; level = a₆; buckets = record { size = a₄; drain = a₅; fill = a₇ } ∷ one_if two (record { size = b₀; drain = b₁; fill = b₂ }); rates = a₈; choices = a₉ }
@@ -266,11 +267,11 @@ module _ (s : PinSet) (kind : ℕ) (k k2 : Policed) (is : set_numbers s ≡ fron
 -- of either kind
 module _ (s : PinSet) (rest : List ℕ) where
   kind_back_one : (k : Policed) → s.header.buckets ≡ k ∷ [] → (if eqb (get_or (set_numbers s ++ rest) 0 0) 8 then true else one_kind (set_numbers s ++ rest)) ≡ true
-  unfolding front one_kind if◌then◌else◌
+  unfolding front one_kind
   kind_back_one k e = rw (numbers_one s k e)
 
   kind_back_two : (k k2 : Policed) → s.header.buckets ≡ k ∷ k2 ∷ [] → (if eqb (get_or (set_numbers s ++ rest) 0 0) 8 then true else one_kind (set_numbers s ++ rest)) ≡ true
-  unfolding front one_kind if◌then◌else◌
+  unfolding front one_kind
   kind_back_two k k2 e = rw (numbers_two s k k2 e)
 
   header_back_one : (k : Policed) → s.header.buckets ≡ k ∷ [] → header_at (set_numbers s ++ rest) ≡ s.header

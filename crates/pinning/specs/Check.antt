@@ -1,6 +1,5 @@
 -- The check of a set against a job, refusal 6: the header differs; a pin is neither the mark nor below M; one past N is not the mark; a total is not the sum over the pins (document 01, "Where each refusal is checked"; the mark is that of document 02, E6).
-use Rattle.std.specs.Prelude.{ℕ, suc, ◌<◌, ◌≤◌, ◌≡◌, ◌⊎◌, Bool, true, false, List, eqb, ltb, length, get_or}
-use Rattle.base.specs.If.{if◌then◌else◌}
+use Rattle.std.specs.Prelude.{ℕ, suc, ◌<◌, ◌≤◌, ◌≡◌, ◌⊎◌, Bool, true, false, List, eqb, ltb, length, get_or, if◌then◌else◌}
 use Rattle.base.specs.All.{all_below}
 use Rattle.model.specs.Job.{Coding, Job, job_coding}
 use Rattle.model.specs.Pins.{PinTotals, totals_to, pin_totals}

@@ -1,6 +1,5 @@
 -- A set of pins as plain numbers in a list, as an editor's tool keeps it between calls (document 02, E9): the kind of the header, its twelve fields, 512 pins, three totals.
-use Rattle.std.specs.Prelude.{ℕ, ◌+◌, ◌-◌, Bool, true, false, ◌&&◌, List, [], ◌∷◌, ◌++◌, leb, ltb, eqb, length, get_or, take, drop, replicate}
-use Rattle.base.specs.If.{if◌then◌else◌}
+use Rattle.std.specs.Prelude.{ℕ, ◌+◌, ◌-◌, Bool, true, false, ◌&&◌, List, [], ◌∷◌, ◌++◌, leb, ltb, eqb, length, get_or, take, drop, replicate, if◌then◌else◌}
 use Rattle.base.specs.All.{all_below}
 use Rattle.model.specs.Pins.{PinTotals}
 use Rattle.format.specs.JobBytes.{header_kind, header_values, header_of, no_header}

@@ -10,7 +10,6 @@ use lib.ListN.{length, get_or}
 use borrow.Author.Tests.{le-leb, lt-leb, lt-ltb, le-ltb, eq-eqb, ne_eqb}
 use Rattle.base.specs.Refusals.{test, guarded}
 use Rattle.base.proofs.Refusals.{guarded_past, guarded_here, guarded_last}
-use Rattle.base.specs.If.{if◌then◌else◌}
 use Rattle.model.specs.Job.{Job, job_coding}
 use Rattle.model.specs.Pins.{pin, lift, outside}
 use Rattle.format.specs.JobBytes.{Header, job_in}
@@ -24,11 +23,11 @@ use Rattle.pinning.proofs.Inside.{inside}
 
 -- a unit that is not in 1 to N
 pub outside_low : (units u : ℕ) → u < 1 → true ≡ outside units u
-unfolding outside if◌then◌else◌
+unfolding outside
 outside_low units u h = rw (lt-leb 1 u h)
 
 pub outside_high : (units u : ℕ) → 1 ≤ u → ltb units u ≡ outside units u
-unfolding outside if◌then◌else◌
+unfolding outside
 outside_high units u h = rw (le-leb 1 u h)
 
 module _ (b : List ℕ) (h : Header) (s : PinSet) (r : Ready b h s) where

@@ -1,4 +1,7 @@
 // The pins that editors set on a job's units (document 01, "Pins"): opening a job, pinning a unit at a choice, lifting the pin.
+
+#![tactic(auto)]
+
 pub mod kind;
 pub mod refusal;
 
@@ -16,28 +19,28 @@ use job::Reading;
 use pinset::PinSet;
 
 // How many bytes the job took, or the refusal's number.
-#[derive(Drop)]
+#[derive(Clone, Copy)]
 pub enum Opening {
     Took(usize),
     Refused(u8),
 }
 
 // The answer of opening, and the set; beside a refusal the set is that of no job.
-#[derive(Drop)]
+#[derive(Clone, Copy)]
 pub struct Opened {
     pub answer: Opening,
     pub set: PinSet,
 }
 
 // Whether a pin or a lift is taken, or the refusal's number.
-#[derive(Drop)]
+#[derive(Clone, Copy)]
 pub enum Answer {
     Done,
     Refused(u8),
 }
 
 // The answer of a pin or a lift, and the set as it is now; a refused call hands it back as it came.
-#[derive(Drop)]
+#[derive(Clone, Copy)]
 pub struct Handed {
     pub answer: Answer,
     pub set: PinSet,

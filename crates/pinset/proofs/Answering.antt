@@ -5,7 +5,7 @@ use mathlib.Core.Bool.{Bool, true, false}
 use mathlib.Core.List.{List}
 use native.Mathlib.Omega.{arith}
 use lib.ListN.{length}
-use Rattle.base.specs.If.{if◌then◌else◌}
+use Rattle.std.specs.Prelude.{if◌then◌else◌}
 use Rattle.model.specs.Job.{Job, job_coding}
 use Rattle.format.specs.Parser.{Result, refused, took, with_value}
 use Rattle.format.specs.JobBytes.{Header, header_in, Door, parse, job_in}
@@ -44,7 +44,7 @@ module _ (d : Door) (b : List ℕ) where
 
     -- a set that the check takes matches the job
     ready_by : (j : Job) (k : ℕ) (p : Result Job) → length s.pins ≡ 512 → parse d b ≡ p → accept s p ≡ took j k → Ready b (header_in j) s × (job_in b ≡ j)
-    unfolding accept if◌then◌else◌
+    unfolding accept
     ready_by j k (refused n) size e q = let z : ◌≡◌ {A = ℕ} 0 1 = cc in absurd (omega arith)
     ready_by j k (took i m) size e q = go (fits (job_coding i) (header_in i) s) refl q
       where

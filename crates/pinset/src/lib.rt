@@ -1,4 +1,7 @@
 // A set of pins (document 01, "Pins"): without a pin, with one more and with one lifted, and the check of a set against a job.
+
+#![tactic(auto)]
+
 pub mod refusal;
 
 ghost use Rattle.std.specs.Prelude.{◌≡◌, ◌<◌, ◌≤◌, length};
@@ -16,7 +19,7 @@ use header::{Choice, Coding, Door, Header};
 use job::Reading;
 
 // Document 01's desk: the job's header, a pin for each of 512 units, and the totals of the pins: how many, their sizes, their distortions.
-#[derive(Drop)]
+#[derive(Clone, Copy)]
 pub struct PinSet {
     pub header: Header,
     pub pins: [Choice; 512],
@@ -26,7 +29,7 @@ pub struct PinSet {
 }
 
 // Sums over pins, wide enough for any bytes.
-#[derive(Drop)]
+#[derive(Clone, Copy)]
 struct Tally {
     count: u64,
     size: u64,

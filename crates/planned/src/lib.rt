@@ -1,4 +1,7 @@
 // A plan after calls as numbers, or with the pins of a set as numbers, and its totals as values in a list that is lent.
+
+#![tactic(auto)]
+
 ghost use Rattle.std.specs.Prelude.{◌≡◌, length};
 ghost use Rattle.header.specs.Answers.{verdict};
 ghost use Rattle.pinset.specs.Answers.{set_of};

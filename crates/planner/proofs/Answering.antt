@@ -12,7 +12,8 @@ use borrow.Author.Tests.{lt-leb, le-leb}
 use Rattle.trellis.specs.Trellis.{Combines}
 use Rattle.trellis.specs.Table.{encode}
 use Rattle.trellis.proofs.Optimality.{sum_combines, greatest_combines}
-use Rattle.base.specs.If.{if◌then◌else◌, one_if}
+use Rattle.std.specs.Prelude.{if◌then◌else◌}
+use Rattle.base.specs.If.{one_if}
 use Rattle.base.specs.Refusals.{test, guarded}
 use Rattle.base.proofs.Refusals.{guarded_here, guarded_past, guarded_last}
 use Rattle.base.specs.Answer.{refused, gives}
@@ -250,11 +251,11 @@ module _ (b : List ℕ) (h : Header) (s : PinSet) (r : Ready b h s) where
 
 -- whether levels fit: the first bucket's, then the second's or none
 pub not_fitting : (k l : ℕ) (ks ls : List ℕ) → k < l → false ≡ levels_fit (k ∷ ks) (l ∷ ls)
-unfolding levels_fit if◌then◌else◌
+unfolding levels_fit
 not_fitting k l ks ls h = rw (lt-leb l k h)
 
 pub fitting_two : (k k2 l l2 : ℕ) (two : Bool) → l ≤ k → (two && leb l2 k2) ≡ levels_fit (k ∷ k2 ∷ []) (l ∷ one_if two l2)
-unfolding levels_fit if◌then◌else◌ one_if
+unfolding levels_fit one_if
 fitting_two k k2 l l2 true h = rw (le-leb l k h) (itself (leb l2 k2))
   where
     itself : (t : Bool) → t ≡ (if t then true else false)
@@ -263,7 +264,7 @@ fitting_two k k2 l l2 true h = rw (le-leb l k h) (itself (leb l2 k2))
 fitting_two k k2 l l2 false h = rw (le-leb l k h)
 
 pub fitting_one : (k l l2 : ℕ) (two : Bool) → l ≤ k → not two ≡ levels_fit (k ∷ []) (l ∷ one_if two l2)
-unfolding levels_fit if◌then◌else◌ one_if
+unfolding levels_fit one_if
 fitting_one k l l2 true h = rw (le-leb l k h)
 fitting_one k l l2 false h = rw (le-leb l k h)
 

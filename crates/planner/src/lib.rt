@@ -1,5 +1,8 @@
 // Planning: the tests in their order, then the search, which fills the table of least distortions and has the best plan read off it (document 01, "The best plan").
 // For even pictures the table is filled by the greatest distortion first: its word at the start is the limit of the search for the least total (document 02, E7).
+
+#![tactic(auto)]
+
 pub mod refusal;
 
 ghost use Rattle.std.specs.Prelude.{◌≡◌, map, length};
@@ -27,21 +30,21 @@ use pinset::PinSet;
 use table::Limit;
 
 // The totals of the best plan, or the refusal's number.
-#[derive(Drop)]
+#[derive(Clone, Copy)]
 pub enum Planned {
     Best(Totals),
     Refused(u8),
 }
 
 // What is to be least: the total distortion; or, for even pictures, the greatest distortion of a unit, and of the plans in which that is least the total.
-#[derive(Drop)]
+#[derive(Clone, Copy)]
 pub enum Aim {
     Total,
     Even,
 }
 
 // The levels of the buckets where a programme starts: one, or two.
-#[derive(Drop)]
+#[derive(Clone, Copy)]
 pub struct BucketLevels {
     pub bucket: u16,
     pub two: bool,

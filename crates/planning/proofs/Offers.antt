@@ -10,7 +10,7 @@ use Rattle.trellis.specs.Limit.{keeps_to, only, limited}
 use Rattle.trellis.specs.Pairs.{Pair}
 use Rattle.trellis.specs.Table.{first_at, offered, marked_offer, marked_stage}
 use Rattle.trellis.proofs.Congruence.{lowest_cong, lowest_map, first_at_cong, first_at_map, offered_cong}
-use Rattle.base.specs.If.{if◌then◌else◌}
+use Rattle.std.specs.Prelude.{if◌then◌else◌}
 use Rattle.model.specs.Job.{Line, Coding, Levels, Job, coding, sends, takes, distorts}
 use Rattle.model.specs.Pins.{pin_at}
 use Rattle.model.specs.Step.{decoder_step, after_sending, overfull, pin_held, or_overflow, after_decoder, outcome_of, outcome, reaches, violates}
@@ -26,7 +26,7 @@ use Rattle.planning.specs.Rule.{Allowed, coding_offer, pair_offer, least_offer, 
 
 -- a step with a pin: where the pin is held, the step without pins
 reached_pinned : (line : Line) (pinned choice : Option ℕ) (b : ℕ) (ls : List ℕ) (c r : ℕ) → reached (outcome_of line pinned choice b ls c r) ≡ (if pin_held pinned choice then reached (outcome_of line none none b ls c r) else none)
-unfolding outcome_of reached after_decoder or_overflow if◌then◌else◌ pin_held
+unfolding outcome_of reached after_decoder or_overflow pin_held
 reached_pinned line pinned choice b ls c r = go (decoder_step line.decoder b c r) (overfull line.buckets (after_sending c line.buckets ls)) (pin_held pinned choice)
   where
     go : (d : Decoded) (o : Option ℕ) (t : Bool) → reached (after_decoder d (λ x. or_overflow o (if t then reaches (record { decoder = x; buckets = after_sending c line.buckets ls }) else violates pin_not_held))) ≡ (if t then reached (after_decoder d (λ x. or_overflow o (reaches (record { decoder = x; buckets = after_sending c line.buckets ls })))) else none)
@@ -50,10 +50,10 @@ module _ (◌⊕◌ : ℕ → ℕ → ℕ) (j : Job) (m : Open) (t : ℕ) (W : L
       leb' = leb (suc t) j.delay
 
       go : (x : Option ℕ) (p l : Bool) → offered mark bound ◌⊕◌ (coding j (suc t) x).distortion (only l (if p then reached (outcome_of j.line none none s.decoder s.buckets (get_or j.line.rates a.outer 0) (coding j (suc t) x).size) else none)) W ≡ coding_offer ◌⊕◌ j.line W s (get_or j.line.rates a.outer 0) (if p then only l (some (coding j (suc t) x)) else none)
-      go x true true = unfold if◌then◌else◌ only coding_offer in refl
-      go x true false = unfold if◌then◌else◌ only coding_offer offered in refl
-      go x false true = unfold if◌then◌else◌ only coding_offer offered in refl
-      go x false false = unfold if◌then◌else◌ only coding_offer offered in refl
+      go x true true = unfold only coding_offer in refl
+      go x true false = unfold only coding_offer offered in refl
+      go x false true = unfold only coding_offer offered in refl
+      go x false false = unfold only coding_offer offered in refl
 
   -- the least, and the first that offers a number
   pub stage_is : marked_stage (trellis_of j m late) ◌⊕◌ mark bound t W s ≡ least_offer ◌⊕◌ j.line (width j (suc t)) (allowed_in j m (suc t)) W s
@@ -95,7 +95,7 @@ layer_from_cong ◌⊕◌ line n a b next same = build_cong (layer_words line) _
 
 -- a step that reaches levels holds its pin, and is the step without pins
 pub held_step : (line : Line) (pinned choice : Option ℕ) (b : ℕ) (ls : List ℕ) (c r : ℕ) (u : Levels) → outcome_of line pinned choice b ls c r ≡ reaches u → (pin_held pinned choice ≡ true) × (outcome_of line none none b ls c r ≡ reaches u)
-unfolding reached if◌then◌else◌
+unfolding reached
 held_step line pinned choice b ls c r u e = go (pin_held pinned choice) refl (sym (reached_pinned line pinned choice b ls c r) ∙ ap reached e)
   where
     go : (t : Bool) → pin_held pinned choice ≡ t → (if t then reached (outcome_of line none none b ls c r) else none) ≡ some u → (pin_held pinned choice ≡ true) × (outcome_of line none none b ls c r ≡ reaches u)

@@ -12,7 +12,7 @@ use lib.ListN.{length, get_or}
 use Rattle.trellis.specs.Pairs.{Pair, pair, row, rows}
 use Rattle.trellis.specs.Table.{lowest, offered}
 use Rattle.trellis.proofs.Scans.{lowest_snoc, lowest_append}
-use Rattle.base.specs.If.{if◌then◌else◌}
+use Rattle.std.specs.Prelude.{if◌then◌else◌}
 use Rattle.model.specs.Job.{Line, Coding, Levels}
 use Rattle.base.specs.Lists.{build}
 use Rattle.model.specs.Step.{reaches, decoder_step, after_sending, overfull, pin_held, or_overflow, after_decoder, outcome_of}
@@ -61,7 +61,7 @@ then_decoded (some u) r = decoded u r
 
 module _ (line : Line) (s : Levels) (c r : ℕ) where
   pub arrives : reached (outcome_of line none none s.decoder s.buckets c r) ≡ then_decoded (arrived line s c) r
-  unfolding outcome_of reached after_decoder or_overflow if◌then◌else◌ pin_held arrived unless_over then_decoded decoded
+  unfolding outcome_of reached after_decoder or_overflow pin_held arrived unless_over then_decoded decoded
   arrives = go (ltb line.decoder (s.decoder + c)) (ltb (s.decoder + c) r) (overfull line.buckets ls) refl refl
     where
       ls : List ℕ
@@ -79,7 +79,7 @@ module _ (line : Line) (s : Levels) (c r : ℕ) where
 
 -- what arrives in a layer is in the layer
 pub arrived_inside : (line : Line) (s u : Levels) (c : ℕ) → InLayer line s → arrived line s c ≡ some u → InLayer line u
-unfolding then_decoded decoded if◌then◌else◌
+unfolding then_decoded decoded
 arrived_inside line s u c a e =
     let z : ltb u.decoder 0 ≡ false = le-ltb u.decoder 0 (omega arith) in
     let d : u.decoder - 0 ≡ u.decoder = omega arith in
@@ -147,11 +147,11 @@ module _ (◌⊕◌ : ℕ → ℕ → ℕ) where
         go : (t : Bool) → ltb i (k.size * w) ≡ t → offered mark bound ◌⊕◌ k.distortion (decoded (state_at line i) k.size) (word_in line next) ≡ (if t then mark else charged ◌⊕◌ k.distortion (get_or next (i - k.size * w) 0))
         go true e =
             let h : i / w < k.size = (div-lt_iff_lt-mul {k = w} {x = i} {y = k.size} (span_positive (sizes line))).1 (ltb-true i (k.size * w) e) in
-            unfold if◌then◌else◌ decoded offered state_at in rw (lt-ltb (i / w) k.size h)
+            unfold decoded offered state_at in rw (lt-ltb (i / w) k.size h)
         go false e =
             let l = ltb-false i (k.size * w) e in
             let h : k.size ≤ i / w = (le-div_iff_mul-le {k = w} {x = k.size} {y = i} (span_positive (sizes line))).1 l in
-            unfold if◌then◌else◌ decoded offered charged state_at word_in flat tops place in rw (le-ltb (i / w) k.size h, place_levels (sizes line) (i % w) (mod-lt i (span_positive (sizes line))), row_place k.size l)
+            unfold decoded offered charged state_at word_in flat tops place in rw (le-ltb (i / w) k.size h, place_levels (sizes line) (i % w) (mod-lt i (span_positive (sizes line))), row_place k.size l)
 
   -- the first pass, in the terms of rows
   pub decoded_rows : (line : Line) (n : ℕ) (allowed : Allowed) (next : List ℕ) → decoded_from ◌⊕◌ line n allowed next ≡ build (layer_words line) (λ i. least_below n (λ x. row_offer ◌⊕◌ (span (sizes line)) next i (allowed x)))

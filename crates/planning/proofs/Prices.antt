@@ -11,7 +11,7 @@ use borrow.Author.Tests.{lt-ltb, le-ltb, ltb-false, eq-eqb, eqb-true}
 use lib.Dec.{ltb, leb, eqb}
 use lib.ListN.{get_or}
 use Rattle.trellis.specs.Table.{charge}
-use Rattle.base.specs.If.{if◌then◌else◌}
+use Rattle.std.specs.Prelude.{if◌then◌else◌}
 use Rattle.base.proofs.Builds.{build_cong}
 use Rattle.model.specs.Job as model
 use Rattle.model.specs.Table.{mark, bound, sizes, span, tops, layer_words}
@@ -48,16 +48,16 @@ least_attained (suc n) f h = go (λ k. least_attained n f k) (dec_lt (least_belo
 -- a choice whose price is its size's distortion
 module _ (r : ℕ) where
   priced_some : (k : Option model.Coding) → price_at r k < mark → k ≡ some (record { size = r; distortion = price_at r k })
-  unfolding price_at if◌then◌else◌
+  unfolding price_at
   priced_some none h = absurd (omega arith)
   priced_some (some k) h = go (eqb k.size r) refl h
     where
       go : (t : Bool) → eqb k.size r ≡ t → (if t then k.distortion else mark) < mark → ◌≡◌ {A = Option model.Coding} (some k) (some (record { size = r; distortion = if t then k.distortion else mark }))
-      go true e b = unfold if◌then◌else◌ in ap (λ (s : ℕ). some (record { size = s; distortion = k.distortion })) (eqb-true k.size r e)
-      go false e b = absurd (unfold if◌then◌else◌ in omega arith)
+      go true e b = ap (λ (s : ℕ). some (record { size = s; distortion = k.distortion })) (eqb-true k.size r e)
+      go false e b = absurd (omega arith)
 
 price_opens : (r price : ℕ) → price ≤ bound → price_open r price ≡ some (record { size = r; distortion = price })
-unfolding price_open if◌then◌else◌
+unfolding price_open
 price_opens r price h = rw (le-ltb bound price h)
 
 layer_rows : (line : model.Line) → layer_words line ≡ (line.decoder + 1) * span (sizes line)
@@ -67,7 +67,7 @@ layer_rows line = refl
 -- a lesser distortion offers no more
 module _ (◌⊕◌ : ℕ → ℕ → ℕ) (mono : (a b x : ℕ) → a ≤ b → ◌⊕◌ a x ≤ ◌⊕◌ b x) where
   offer_mono : (width : ℕ) (next : List ℕ) (i r a b : ℕ) → a ≤ b → row_offer ◌⊕◌ width next i (some (record { size = r; distortion = a })) ≤ row_offer ◌⊕◌ width next i (some (record { size = r; distortion = b }))
-  unfolding row_offer charged charge if◌then◌else◌
+  unfolding row_offer charged charge
   offer_mono width next i r a b h = go (ltb i (r * width)) (leb (get_or next (i - r * width) 0) bound)
     where
       go : (s t : Bool) → (if s then mark else charge mark bound ◌⊕◌ t a (get_or next (i - r * width) 0)) ≤ (if s then mark else charge mark bound ◌⊕◌ t b (get_or next (i - r * width) 0))
@@ -93,7 +93,7 @@ module _ (◌⊕◌ : ℕ → ℕ → ℕ) (mono : (a b x : ℕ) → a ≤ b →
       where
         go : Dec (k.size < m) → by_size ≤ row_offer ◌⊕◌ w next i (some k)
         go (yes b) =
-            let one : price_at k.size (allowed x) ≡ k.distortion = unfold price_at if◌then◌else◌ in rw (e, eq-eqb k.size k.size refl) refl in
+            let one : price_at k.size (allowed x) ≡ k.distortion = unfold price_at in rw (e, eq-eqb k.size k.size refl) refl in
             let low = least_le n (λ y. price_at k.size (allowed y)) x h in
             let p : ℕ = prices k.size in
             let le : p ≤ k.distortion = omega (arith, stands k.size b, low, one) in
@@ -105,7 +105,7 @@ module _ (◌⊕◌ : ℕ → ℕ → ℕ) (mono : (a b x : ℕ) → a ≤ b →
             let far = mul-le-mul_right {m = line.decoder + 1} {n = k.size} w (omega arith) in
             let size = layer_rows line in
             let q = least_marked m (λ r. row_offer ◌⊕◌ w next i (price_open r (prices r))) in
-            unfold row_offer if◌then◌else◌ in rw (lt-ltb i (k.size * w) (omega (arith, size, far))) q
+            unfold row_offer in rw (lt-ltb i (k.size * w) (omega (arith, size, far))) q
 
     -- and each size what one of its choices does
     choice_offers : (r : ℕ) → r < m → by_choice ≤ row_offer ◌⊕◌ w next i (price_open r (prices r))
@@ -116,7 +116,7 @@ module _ (◌⊕◌ : ℕ → ℕ → ℕ) (mono : (a b x : ℕ) → a ≤ b →
         marked = least_marked n (λ x. row_offer ◌⊕◌ w next i (allowed x))
 
         go : (t : Bool) → ltb bound (prices r) ≡ t → by_choice ≤ row_offer ◌⊕◌ w next i (price_open r (prices r))
-        go true e = unfold price_open if◌then◌else◌ row_offer in rw e marked
+        go true e = unfold price_open row_offer in rw e marked
         go false e =
             let p : ℕ = prices r in
             let b = ltb-false bound p e in

@@ -11,7 +11,6 @@ use Rattle.trellis.proofs.Limit.{up_to_kept}
 use Rattle.trellis.specs.Pairs.{Pair}
 use Rattle.trellis.specs.Table.{encode, first_at}
 use Rattle.trellis.proofs.Congruence.{first_at_member}
-use Rattle.base.specs.If.{if◌then◌else◌}
 use Rattle.model.specs.Job.{Levels, Job, EntryFits, coding, sends, takes, distorts, intervals}
 use Rattle.model.specs.Pins.{pin_at}
 use Rattle.model.specs.Step.{reaches, pin_held, outcome_of, outcome}
@@ -71,7 +70,7 @@ module _ (j : Job) (m : Open) (o : Order) (table : List ℕ) (t : ℕ) (s : Leve
   held = held_step j.line _ _ _ _ _ _ claim.end lands
 
   allowed : allowed_in j m (suc t) picked.0.inner ≡ some (coding j (suc t) (entry j (suc t) picked.0).choice)
-  unfolding allowed_in choice_in entry if◌then◌else◌ only distorts
+  unfolding allowed_in choice_in entry only distorts
   allowed = rw (held.0, up_to_kept (rw (← picked.2) at claim.up_to))
 
   pub first_pair : FirstPair j m o table t s v

@@ -9,7 +9,6 @@ use lib.ListN.{length, get_or}
 use lib.Seq.{get_or-set_other}
 use borrow.Author.Tests.{le-leb, lt-leb}
 use Rattle.base.specs.Answer.{refused}
-use Rattle.base.specs.If.{if◌then◌else◌}
 use Rattle.base.proofs.Answers.{not_refused}
 use Rattle.base.specs.Refusals.{refusal, unless, guarded, Condition, condition}
 use Rattle.base.proofs.Refusals.{AllHold}
@@ -121,7 +120,7 @@ words_read distortion word small = record {
 -- pins that agree from a place on: the layers behind it are the same
 module _ (◌⊕◌ : ℕ → ℕ → ℕ) (combines : Combines ◌⊕◌) (j : Job) (m r : PinMap) (bounded : Bounded j) (u : ℕ) (agree : (i : ℕ) → u ≤ i → get_or m i none ≡ get_or r i none) where
   same_pin : (t : ℕ) → u + j.delay ≤ t → pin_at j m (suc t) ≡ pin_at j r (suc t)
-  unfolding pin_at mapped_pin if◌then◌else◌
+  unfolding pin_at mapped_pin
   same_pin t h = rw (lt-leb (suc t) j.delay (omega arith), agree (suc t - j.delay - 1) (omega arith))
 
   same_allowed : (t : ℕ) → u + j.delay ≤ t → (x : ℕ) → allowed_in j (unlimited m) (suc t) x ≡ allowed_in j (unlimited r) (suc t) x

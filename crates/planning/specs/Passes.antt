@@ -1,9 +1,8 @@
 -- A layer from the next in two passes, with the levels between arrival and decoding in the middle: what is sent has arrived, so that the decoder stands at its peak, and no unit has left yet.
 -- Which levels arrive depends on the rate alone, and what leaves them on the choice alone, so that no pass goes through pairs.
-use Rattle.std.specs.Prelude.{ℕ, zero, suc, ◌+◌, ◌-◌, ◌*◌, min, List, leb, ltb, length, get_or}
+use Rattle.std.specs.Prelude.{ℕ, zero, suc, ◌+◌, ◌-◌, ◌*◌, min, List, leb, ltb, length, get_or, if◌then◌else◌}
 use Rattle.std.proofs.Math.Option.{Option, none, some}
 use Rattle.trellis.specs.Table.{charge, offered}
-use Rattle.base.specs.If.{if◌then◌else◌}
 use Rattle.model.specs.Job.{Line, Coding, Levels}
 use Rattle.base.specs.Lists.{build}
 use Rattle.model.specs.Step.{after_sending, overfull}

@@ -1,7 +1,6 @@
 -- Of the choices of one size only the least distortion counts for a word, and a size above the decoder's never fits: however many choices an interval has, D + 1 prices stand for them all (document 02, E6).
-use Rattle.std.specs.Prelude.{ℕ, ltb, eqb}
+use Rattle.std.specs.Prelude.{ℕ, ltb, eqb, if◌then◌else◌}
 use Rattle.std.proofs.Math.Option.{Option, none, some}
-use Rattle.base.specs.If.{if◌then◌else◌}
 use Rattle.model.specs.Job.{Coding}
 use Rattle.model.specs.Table.{mark, bound}
 use Rattle.planning.specs.Rule.{Allowed}

@@ -1,10 +1,9 @@
 -- One layer of the table from the next, of a line and the codings that may be chosen in the interval between them: no job, no pins (document 01, "The best plan"). Then layers made anew in a list, of a job with the choices that are open.
-use Rattle.std.specs.Prelude.{ℕ, zero, suc, ◌*◌, List, ◌++◌, length, get_or, take, drop}
+use Rattle.std.specs.Prelude.{ℕ, zero, suc, ◌*◌, List, ◌++◌, length, get_or, take, drop, if◌then◌else◌}
 use Rattle.std.proofs.Math.Option.{Option, none, some}
 use Rattle.trellis.specs.Table.{lowest, offered}
 use Rattle.trellis.specs.Limit.{keeps_to, only}
 use Rattle.trellis.specs.Pairs.{Pair, pair}
-use Rattle.base.specs.If.{if◌then◌else◌}
 use Rattle.model.specs.Job.{Line, Coding, Levels, Job, coding}
 use Rattle.base.specs.Lists.{build}
 use Rattle.model.specs.Pins.{pin_at}

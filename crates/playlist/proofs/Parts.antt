@@ -8,7 +8,8 @@ use native.Mathlib.Omega.{arith}
 use lib.Dec.{eqb}
 use lib.ListN.{length, take, drop, length-map}
 use borrow.Author.Tests.{eqb-true, eq-eqb, ne_eqb, le-leb, lt-leb, not-false}
-use Rattle.base.specs.If.{if◌then◌else◌, one_if}
+use Rattle.std.specs.Prelude.{if◌then◌else◌}
+use Rattle.base.specs.If.{one_if}
 use Rattle.base.specs.Refusals.{test, guarded}
 use Rattle.base.proofs.Refusals.{guarded_past, guarded_here, guarded_last}
 use Rattle.model.specs.Job.{Job, Bucket}
@@ -39,7 +40,7 @@ abbrev pub other : Bool → List ℕ → ℕ → Bool
 other t ls n = t && not (eqb (length ls) n)
 
 many_not : (j : Job) (t : Bool) (ls : List ℕ) (n : ℕ) → length j.line.buckets ≡ n → as_many j (if t then some ls else none) ≡ not (other t ls n)
-unfolding as_many if◌then◌else◌
+unfolding as_many
 many_not j false ls n e = refl
 many_not j true ls n e = rw e (twice (eqb (length ls) n))
   where
@@ -48,7 +49,6 @@ many_not j true ls n e = rw e (twice (eqb (length ls) n))
     twice false = refl
 
 alike : (t : Bool) (ls : List ℕ) (h : format.Header) → other t ls (length h.buckets) ≡ false → length (if t then ls else map (λ k. k.fill) h.buckets) ≡ length h.buckets
-unfolding if◌then◌else◌
 alike true ls h e = eqb-true (length ls) (length h.buckets) (not-false _ e)
 alike false ls h e = length-map h.buckets (λ k. k.fill)
 

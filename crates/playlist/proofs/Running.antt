@@ -5,7 +5,6 @@ use mathlib.Core.Bool.{false}
 use mathlib.Core.List.{List, [], ◌∷◌}
 use native.Mathlib.Omega.{arith}
 use lib.ListN.{length, get_or, drop, drop_of_length-le}
-use Rattle.base.specs.If.{if◌then◌else◌}
 use Rattle.planner.specs.declared.BucketLevels.{BucketLevels}
 use Rattle.playlists.specs.Calls as calls
 use Rattle.playlists.specs.Calls.{Programme, programmes, Standing, at_first, stops, goes_on, refused_at, ended, onward, play}
@@ -44,7 +43,7 @@ pub record Running (b ns table₀ entries₀ totals₀ : List ℕ) (at : ℕ) (s
   pub plays : runs b ns table₀ entries₀ totals₀ ≡ play b (drop at (programmes ns)) (stands s table entries totals)
 
 pub running_first : (b ns table entries totals : List ℕ) (l : BucketLevels) → Running b ns table entries totals 0 (record { done = 0; used = 0; any = false; levels = l }) table entries totals
-unfolding runs at_first stands carries if◌then◌else◌
+unfolding runs at_first stands carries
 running_first b ns table entries totals l = record { done = refl; used = omega arith; entries_size = refl; totals_size = refl; plays = refl }
 
 module _ (b ns table₀ entries₀ totals₀ : List ℕ) (count : ℕ) (g : Going ns count) (at : ℕ) (s : code.Standing) (table entries totals : List ℕ) (r : Running b ns table₀ entries₀ totals₀ at s table entries totals) where

@@ -10,7 +10,7 @@ use lib.Dec.{leb}
 use lib.ListN.{length, get_or, take, drop, length-map, length-drop}
 use borrow.Author.Tests.{le-leb}
 use borrow.Rule.Slice.PartMut.{put_mid, put_same}
-use Rattle.base.specs.If.{if◌then◌else◌}
+use Rattle.std.specs.Prelude.{if◌then◌else◌}
 use Rattle.base.specs.Answer.{refused, gives}
 use Rattle.base.specs.Lent.{over_at}
 use Rattle.model.specs.Job.{Job, Bucket, Levels, bucket_at, intervals}
@@ -38,7 +38,7 @@ use Rattle.base.proofs.Lent.{part_all, put_back}
 
 -- the carried levels, or a job's own
 chosen : (j : Job) (t : Bool) (ls own : List ℕ) → j.start.buckets ≡ own → (if t then ls else own) ≡ starting j (if t then some ls else none)
-unfolding starting if◌then◌else◌
+unfolding starting
 chosen j true ls own e = refl
 chosen j false ls own e = sym e
 
@@ -85,7 +85,7 @@ size_most j l (suc (suc i)) h = absurd (omega (arith, l.buckets, h))
 -- the entries from the plans before a programme to the end that is found for it: what planning is lent, and what stands there when it was given back
 module _ (s : code.Standing) (table entries totals : List ℕ) (fits : s.used ≤ length entries) (end : ℕ) (ends : end ≡ end_for s (length entries) (length totals)) where
   pub end_in : (s.used ≤ end) × (end ≤ length entries)
-  unfolding end_for if◌then◌else◌
+  unfolding end_for
   end_in = rw ends (go (leb (5 * (s.done + 1)) (length totals)))
     where
       go : (t : Bool) → (s.used ≤ (if t then length entries else s.used)) × ((if t then length entries else s.used) ≤ length entries)
@@ -93,7 +93,7 @@ module _ (s : code.Standing) (table entries totals : List ℕ) (fits : s.used �
       go false = (omega arith, fits)
 
   lent : take (end - s.used) (drop s.used entries) ≡ rest_of (stands s table entries totals)
-  unfolding end_for if◌then◌else◌ rest_of stands
+  unfolding end_for rest_of stands
   lent = rw ends (go (leb (5 * (s.done + 1)) (length totals)))
     where
       go : (t : Bool) → take ((if t then length entries else s.used) - s.used) (drop s.used entries) ≡ (if t then drop s.used entries else [])
@@ -101,7 +101,7 @@ module _ (s : code.Standing) (table entries totals : List ℕ) (fits : s.used �
       go false = let z : s.used - s.used ≡ 0 = omega arith in rw z
 
   given_back : 5 * (s.done + 1) ≤ length totals → (new : List ℕ) → put_mid s.used (end - s.used) entries new ≡ take s.used entries ++ new
-  unfolding end_for if◌then◌else◌
+  unfolding end_for
   given_back h new = let e : end ≡ length entries = ends ∙ rw (le-leb (5 * (s.done + 1)) (length totals) h) in rw e (put_back entries new s.used fits)
 
 module _ (b : List ℕ) (h : Header) (s : code.Standing) (o : Opened b h s) (table entries totals : List ℕ) (fits : s.used ≤ length entries) (end : ℕ) (ends : end ≡ end_for s (length entries) (length totals)) where
@@ -184,7 +184,7 @@ module _ (b : List ℕ) (h : Header) (s : code.Standing) (o : Opened b h s) (tab
 
     -- the next programme's turn comes
     pub turn_best : (d u : ℕ) (levels : BucketLevels) (list new : List ℕ) → d ≡ s.done + 1 → u ≡ s.used + 3 * (h.units + h.delay) → levels_of_buckets levels ≡ led_by h from x → list ≡ put_mid s.used (end - s.used) entries e → new ≡ over_at (5 * s.done) (five (totals_of x)) totals → turned (turn.GoesOn (record { done = d; used = u; any = true; levels = levels })) s t list new ≡ plan_turn b J st
-    unfolding turned stands carries if◌then◌else◌ plan_turn planned answered
+    unfolding turned stands carries plan_turn planned answered
     turn_best d u levels list new ed eu el es put =
         let same : e ≡ found.entries = ap (λ (r : planning.Planned). r.entries) q in
         ap goes_on (standing_same d (suc s.done) u (s.used + 3 * intervals J) (levels_of_buckets levels) (led_to J (starting J st.carried) e) t list (take s.used entries ++ e) new (over_at (5 * s.done) (five (totals_of x)) totals) (omega (arith, ed)) (omega (arith, eu, intervals_are b h o.opens)) (el ∙ led_is ∙ ap (led_to J (starting J st.carried)) (sym same)) (es ∙ given_back s table entries totals fits end ends balance.places e) put)

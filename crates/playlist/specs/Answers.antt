@@ -1,8 +1,7 @@
 -- What the answers of this crate mean in the terms of `playlists`, case by case, and what its private functions say and ask.
-use Rattle.std.specs.Prelude.{ℕ, ◌+◌, ◌*◌, ◌-◌, ◌<◌, ◌≤◌, ◌≡◌, leb, length, get_or}
+use Rattle.std.specs.Prelude.{ℕ, ◌+◌, ◌*◌, ◌-◌, ◌<◌, ◌≤◌, ◌≡◌, leb, length, get_or, if◌then◌else◌}
 use Rattle.std.proofs.Math.Option.{Option, none, some}
 use mathlib.Core.List.{List, map, zip_with}
-use Rattle.base.specs.If.{if◌then◌else◌}
 use Rattle.format.specs.Parser.{took}
 use Rattle.format.specs.JobBytes as format
 use Rattle.format.specs.JobBytes.{job_in, Opens, parse, opening}

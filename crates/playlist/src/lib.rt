@@ -1,5 +1,8 @@
 // A playlist (document 02, E14): programmes that are sent back to back, each planned from the bucket levels at which the last one ended. It uses the planner through its contracts alone.
 // The entries of the list are pairs of numbers; `programme` turns structs into them.
+
+#![tactic(auto)]
+
 pub mod refusal;
 
 ghost use Rattle.std.specs.Prelude.{◌≡◌, ◌+◌, ◌*◌, ◌≤◌, length, get_or};
@@ -19,7 +22,7 @@ use pinset::PinSet;
 use planner::{Aim, BucketLevels, Planned};
 
 // All programmes are planned; a refusal of the list; or that of a programme, with its place, counted from 1.
-#[derive(Drop)]
+#[derive(Clone, Copy)]
 pub enum Outcome {
     Finished,
     RefusedList(u8),
@@ -27,7 +30,7 @@ pub enum Outcome {
 }
 
 // Between two programmes: how many are planned, how many bytes their plans take, and the bucket levels at which the last one ended, if there is one.
-#[derive(Drop)]
+#[derive(Clone, Copy)]
 struct Standing {
     done: usize,
     used: usize,
@@ -36,7 +39,7 @@ struct Standing {
 }
 
 // A programme is refused, or the next one's turn comes.
-#[derive(Drop)]
+#[derive(Clone, Copy)]
 enum Turn {
     Stops(u8),
     GoesOn(Standing),

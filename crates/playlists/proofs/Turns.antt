@@ -8,7 +8,7 @@ use lib.Dec.{leb}
 use lib.ListN.{length, get_or, take, drop, length-append, length-drop}
 use lib.Seq.{length-take-le}
 use borrow.Author.Tests.{leb-true, leb-false, le-leb, eqb-true, eqb-false}
-use Rattle.base.specs.If.{if◌then◌else◌}
+use Rattle.std.specs.Prelude.{if◌then◌else◌}
 use Rattle.base.specs.Answer as base
 use Rattle.base.specs.Answer.{Answer, gives}
 use Rattle.base.specs.Refusals.{Test, test, guarded, InOrder}
@@ -76,11 +76,9 @@ pub record Roomy (st : Standing) : Type 0 where
   pub all : rest_of st ≡ drop st.used st.entries
 
 with_room : (m n : ℕ) (l : List ℕ) → m ≤ n → (if leb m n then l else []) ≡ l
-unfolding if◌then◌else◌
 with_room m n l h = rw (le-leb m n h)
 
 room_by : (m n : ℕ) (l : List ℕ) → 1 ≤ length (if leb m n then l else []) → m ≤ n
-unfolding if◌then◌else◌
 room_by m n l h = go (leb m n) refl h
   where
     go : (t : Bool) → leb m n ≡ t → 1 ≤ length (if t then l else []) → m ≤ n

@@ -1,9 +1,12 @@
 // The entries of a playlist as structs, and as the numbers by which everything else goes (document 02, E14): a slice of structs is read here alone.
+
+#![tactic(auto)]
+
 ghost use Rattle.std.specs.Prelude.{◌≡◌, ◌++◌, ◌*◌, length, take, drop};
 ghost use Rattle.programme.specs.Programmes.{numbers_of, fitting};
 
 // Where a job's first byte stands, counted from 0, and how many bytes it has.
-#[derive(Drop)]
+#[derive(Clone, Copy)]
 pub struct Programme {
     pub first: u32,
     pub length: u32,

@@ -6,7 +6,7 @@ use mathlib.Core.Option.{none, some}
 use mathlib.Core.List.{List, [], ◌∷◌}
 use borrow.Author.Tests.{leb-true}
 use lib.ListN.{length}
-use Rattle.base.specs.If.{if◌then◌else◌}
+use Rattle.std.specs.Prelude.{if◌then◌else◌}
 use Rattle.base.specs.Refusals.{test, refusal, guarded}
 use Rattle.base.specs.Lent.{over}
 use Rattle.base.proofs.Refusals.{unless_some, unless_none}
@@ -24,7 +24,7 @@ use Rattle.reader.proofs.Codings.{sizes_are, distortions_are}
 
 -- five tests of 12
 five_tests : (a b c d e : Bool) → refusal (test 12 a ∷ test 12 b ∷ test 12 c ∷ test 12 d ∷ test 12 e ∷ []) ≡ (if a && b && c && d && e then none else some 12)
-unfolding refusal if◌then◌else◌
+unfolding refusal
 five_tests false b c d e = refl
 five_tests true false c d e = refl
 five_tests true true false d e = refl
@@ -62,11 +62,11 @@ module _ (fields rates sizes distortions values : List ℕ) where
     tests_are = rw (o.header_is, rates_are b h o, sizes_are b h o, distortions_are b h o) (five_tests _ _ _ _ _)
 
     pub back_12 : roomy h (length fields) (length rates) (length sizes) (length distortions) (length values) ≡ false → (taken : ℕ) → contents 12 fields rates sizes distortions values ≡ read_held fields rates sizes distortions values (job_in b) taken
-    unfolding read_held guarded if◌then◌else◌
+    unfolding read_held guarded
     back_12 e taken = sym (unless_some (unread fields rates sizes distortions values) _ 12 _ (tests_are ∙ rw e))
 
     pub back_done : roomy h (length fields) (length rates) (length sizes) (length distortions) (length values) ≡ true → (taken : ℕ) (f r s d v : List ℕ) → f ≡ over (header_values h) fields → r ≡ over (job_in b).line.rates rates → s ≡ over (sizes_in (job_in b)) sizes → d ≡ over (distortions_in (job_in b)) distortions → v ≡ over (taken ∷ length (header_values h) ∷ []) values → contents 0 f r s d v ≡ read_held fields rates sizes distortions values (job_in b) taken
-    unfolding read_held guarded if◌then◌else◌ held read_values
+    unfolding read_held guarded held read_values
     back_done e taken f r s d v p q w x y = sym (unless_none (unread fields rates sizes distortions values) _ _ (tests_are ∙ rw e) ∙ rw (o.header_is, p, q, w, x, y))
 
   pub back_refused : (d : Door) (b : List ℕ) (n : ℕ) → parse d b ≡ P.refused n → contents n fields rates sizes distortions values ≡ read_export fields rates sizes distortions values d b

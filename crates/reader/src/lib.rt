@@ -1,4 +1,7 @@
 // A job read back: the fields of its header, its rates, and its sizes and distortions by unit and choice, unit after unit, as the writer takes them (document 02, E1). Everything is looked at before a number is written.
+
+#![tactic(auto)]
+
 ghost use Rattle.std.specs.Prelude.{◌≡◌, [], ◌∷◌, ◌*◌, ◌≤◌, ◌<◌, length};
 ghost use Rattle.base.specs.Lent.{over};
 ghost use Rattle.format.specs.JobBytes.{header_values, job_in, Opens};
@@ -12,7 +15,7 @@ use job::Reading;
 use values::{DONE, SHORT_LIST};
 
 // A unit, counted from 1, and one of its choices.
-#[derive(Drop)]
+#[derive(Clone, Copy)]
 struct Place {
     unit: u16,
     choice: u16,

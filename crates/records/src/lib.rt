@@ -1,4 +1,7 @@
 // The records of a job as they are written: the header's, the rates' and the units' (document 02, E1).
+
+#![tactic(auto)]
+
 ghost use Rattle.std.specs.Prelude.{◌≡◌, [], ◌∷◌, ◌+◌, ◌*◌, ◌≤◌, length, replicate};
 ghost use Rattle.format.specs.Fields.{spelled};
 ghost use Rattle.format.specs.Limits.{AllKept};

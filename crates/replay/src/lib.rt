@@ -1,4 +1,7 @@
 // Replaying a plan (document 01, "Levels, interval by interval").
+
+#![tactic(auto)]
+
 ghost use Rattle.std.specs.Prelude.{◌≡◌, suc, ◌+◌, ◌*◌, ◌≤◌, ◌∷◌, length};
 ghost use Rattle.format.specs.JobBytes.{job_in};
 ghost use Rattle.header.specs.Answers.{plain};
@@ -17,7 +20,7 @@ use parts::Violation;
 use pinset::PinSet;
 
 // The totals of a plan without a violation; else the first interval with one, counted from 1, and its first violation; or the refusal's number.
-#[derive(Drop)]
+#[derive(Clone, Copy)]
 pub enum Replayed {
     Clean(Totals),
     Violated { interval: u16, violation: Violation },

@@ -11,7 +11,7 @@ use lib.Dec.{eqb, ltb}
 use lib.ListN.{length, get_or, take, drop, length-append}
 use lib.Seq.{drop-append-add, drop-drop}
 use borrow.Author.Tests.{eqb-true, eq-eqb, ltb-true, ltb-false, lt-ltb, le-ltb}
-use Rattle.base.specs.If.{if◌then◌else◌}
+use Rattle.std.specs.Prelude.{if◌then◌else◌}
 use Rattle.model.specs.Job.{Job, Entry, intervals, ChoiceFits, waits, decodes, EntryFits, PlanFits, ends, goes}
 use Rattle.model.specs.Levels.{no_entry, entry_of}
 use Rattle.base.proofs.Tests.{branch, both_true, true_both}
@@ -48,8 +48,8 @@ module _ (j : Job) (mark : ℕ) (few : j.choices ≤ mark) where
   entry_fits_true i rate x f = true_both _ _ (lt-ltb _ _ f.rate) (go x (choice_under mark x) refl f.choice)
     where
       go : (x : ℕ) (o : Option ℕ) → choice_under mark x ≡ o → ChoiceFits j (suc i) o → (if ltb i j.delay then eqb x mark else ltb x j.choices) ≡ true
-      go x o q (waits h) = unfold if◌then◌else◌ in (rw (lt-ltb i j.delay h) (eq-eqb x mark (under_none mark x q)))
-      go x o q (decodes {x = y} h k) = let e = under_some mark x y q in unfold if◌then◌else◌ in (rw (le-ltb i j.delay (omega arith)) (lt-ltb x j.choices (omega arith)))
+      go x o q (waits h) = (rw (lt-ltb i j.delay h) (eq-eqb x mark (under_none mark x q)))
+      go x o q (decodes {x = y} h k) = let e = under_some mark x y q in (rw (le-ltb i j.delay (omega arith)) (lt-ltb x j.choices (omega arith)))
 
   -- whatever numbers the places have
   module _ (rate choice : ℕ → ℕ) where
@@ -169,7 +169,8 @@ module _ (j : Job) (few : j.choices ≤ no_choice) (rates : length j.line.rates 
   unfolding entries_from entry_bytes
   bytes_back rest (ends e) = refl
   bytes_back rest (goes {t} {e} {p} f r) =
-      rw (append_assoc (one_entry e) (entry_bytes p) rest) (ap₂ ◌∷◌ (entry_back e (suc t) (entry_bytes p ++ rest) f) (later_entries (one_entry e) (entry_bytes p ++ rest) 0 (length p) (one_size e) ∙ bytes_back rest r))
+      ap (λ (b : List ℕ). plan_from b 0 (suc (length p))) (append_assoc (one_entry e) (entry_bytes p) rest)
+      ∙ ap₂ ◌∷◌ (entry_back e (suc t) (entry_bytes p ++ rest) f) (later_entries (one_entry e) (entry_bytes p ++ rest) 0 (length p) (one_size e) ∙ bytes_back rest r)
 
   pub plan_back : (p : List Entry) (rest : List ℕ) → PlanFits j 0 p → plan_of j (entry_bytes p ++ rest) ≡ p
   unfolding plan_of

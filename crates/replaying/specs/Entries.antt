@@ -1,6 +1,5 @@
 -- A plan as bytes: for each interval the rate index and the choice index, which is the mark where no unit is decoded (document 01, "Levels, interval by interval").
-use Rattle.std.specs.Prelude.{ℕ, zero, suc, ◌+◌, ◌*◌, Bool, false, List, [], ◌∷◌, ◌++◌, eqb, ltb, length, get_or, drop}
-use Rattle.base.specs.If.{if◌then◌else◌}
+use Rattle.std.specs.Prelude.{ℕ, zero, suc, ◌+◌, ◌*◌, Bool, false, List, [], ◌∷◌, ◌++◌, eqb, ltb, length, get_or, drop, if◌then◌else◌}
 use Rattle.base.specs.All.{all_below}
 use Rattle.model.specs.Job.{Job, Entry, intervals}
 use Rattle.format.specs.Fields.{fields, spelled}

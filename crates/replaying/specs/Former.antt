@@ -1,6 +1,5 @@
 -- Plans as they were stored before document 02, E6: two bytes an interval, the rate index and the choice index, 255 where no unit is decoded. Turning one into the entries of today keeps every rate and choice.
-use Rattle.std.specs.Prelude.{ℕ, ◌+◌, ◌*◌, Bool, false, List, [], ◌∷◌, eqb, leb, length, get_or}
-use Rattle.base.specs.If.{if◌then◌else◌}
+use Rattle.std.specs.Prelude.{ℕ, ◌+◌, ◌*◌, Bool, false, List, [], ◌∷◌, eqb, leb, length, get_or, if◌then◌else◌}
 use Rattle.base.specs.Answer.{gives}
 use Rattle.base.specs.Lent.{Ended, over, refuse}
 use Rattle.base.specs.Refusals.{Test, test, guarded}

@@ -1,4 +1,7 @@
 // The effective buffer sizes of a plan (document 01, "Levels, interval by interval").
+
+#![tactic(auto)]
+
 ghost use Rattle.std.specs.Prelude.{◌≡◌};
 ghost use Rattle.model.specs.Levels.{effective_buffer, effective_buffers};
 ghost use Rattle.format.specs.JobBytes.{job_in, Opens};
@@ -13,7 +16,7 @@ use header::{Door, Header};
 use job::Reading;
 
 // Whether the report is written, or the refusal's number.
-#[derive(Drop)]
+#[derive(Clone, Copy)]
 pub enum Reported {
     Done,
     Refused(u8),

@@ -1,4 +1,7 @@
 // Pin and see, lift and see (document 02, E9): a pin or a lift, then the lent table is brought up to date and the least total told. For unit u only the layers of intervals 0 to u + d - 1 depend on its pin, and only these are filled again.
+
+#![tactic(auto)]
+
 ghost use Rattle.std.specs.Prelude.{◌≡◌};
 ghost use Rattle.model.specs.Pins.{pin, lift};
 ghost use Rattle.header.specs.Answers.{plain};
@@ -15,14 +18,14 @@ use pinset::PinSet;
 use table::Limit;
 
 // The word of layer 0 at the starting levels, the least total distortion or the mark where there is no plan; or the refusal's number.
-#[derive(Drop)]
+#[derive(Clone, Copy)]
 pub enum Sight {
     Word(u32),
     Refused(u8),
 }
 
 // The answer of a call that sees, and the set as it is now; a refused call hands it back as it came.
-#[derive(Drop)]
+#[derive(Clone, Copy)]
 pub struct Seen {
     pub answer: Sight,
     pub set: PinSet,

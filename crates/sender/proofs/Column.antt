@@ -9,7 +9,7 @@ use borrow.Author.Tests.{lt-ltb, le-ltb}
 use lib.Dec.{ltb}
 use lib.ListN.{length, get_or, take, drop}
 use lib.Seq.{length-take-le, get_or-drop}
-use Rattle.base.specs.If.{if◌then◌else◌}
+use Rattle.std.specs.Prelude.{if◌then◌else◌}
 use Rattle.model.specs.Table.{mark, sizes, span, layer_words, state_at, word_in}
 use Rattle.planning.specs.Passes.{least_below, arrived, word_if}
 use Rattle.planning.proofs.Passes.{least_cong}
@@ -23,18 +23,18 @@ use Rattle.sender.proofs.Rows.{row_is}
 
 -- a rate that does not drain at once offers nothing
 pub column_over : (n drain : ℕ) (words block : List ℕ) (c : ℕ) → drain < c → Lowered n (λ i. column_read drain words i c) block block
-unfolding column_read if◌then◌else◌
+unfolding column_read
 column_over n drain words block c h = record { size = refl; each = λ i k m. rw (lt-ltb drain c h) (omega arith) }
 
 -- any other offers the word of the level that it leads to
 pub column_moved : (n drain : ℕ) (words old new : List ℕ) (c : ℕ) → c ≤ drain → Lowered n (λ i. level_read 0 words i c) old new → Lowered n (λ i. column_read drain words i c) old new
-unfolding column_read if◌then◌else◌
+unfolding column_read
 column_moved n drain words old new c h a = record { size = a.size; each = λ i k m. rw (le-ltb drain c h) (a.each i k m) }
 
 -- which is what it offers to a row of one word
 module _ (outer inner : Bucket) (s : outer.size ≡ 0) (t : inner.size ≡ 0) (words : List ℕ) (b c : ℕ) where
   column_rate : column_read (min outer.drain inner.drain) words b c ≡ rate_read outer inner (length words - b) (drop b words) 0 0 c
-  unfolding column_read level_read rate_read if◌then◌else◌
+  unfolding column_read level_read rate_read
   column_rate = rw (s, t) (go (dec_lt c (length words - b)) (dec_lt outer.drain c) (dec_lt inner.drain c))
     where
       go : Dec (c < length words - b) → Dec (outer.drain < c) → Dec (inner.drain < c) → (if ltb (min outer.drain inner.drain) c then mark else (if ltb ((b + c) - 0) (length words) then get_or words ((b + c) - 0) 0 else mark)) ≡ (if ltb c (length words - b) then (if ltb ((0 + c) - outer.drain) 1 then (if ltb ((0 + c) - inner.drain) 1 then get_or (drop b words) ((c * 1 + ((0 + c) - outer.drain)) * 1 + ((0 + c) - inner.drain)) 0 else mark) else mark) else mark)

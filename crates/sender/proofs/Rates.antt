@@ -8,7 +8,7 @@ use native.Mathlib.Omega.{arith}
 use borrow.Author.Tests.{lt-ltb, le-ltb}
 use lib.Dec.{ltb}
 use lib.ListN.{length, get_or, take, drop}
-use Rattle.base.specs.If.{if◌then◌else◌}
+use Rattle.std.specs.Prelude.{if◌then◌else◌}
 use Rattle.model.specs.Table.{mark}
 use Rattle.sender.specs.declared.Bucket.{Bucket}
 use Rattle.block.specs.Blocks.{Lessened, Lowered}
@@ -49,7 +49,7 @@ module _ (drain : ℕ) (words : List ℕ) (c : ℕ) (positive : 0 < length words
   width = length words
 
   levels_lowered : (old mid new : List ℕ) → Lessened 0 (min low width) (λ i. get_or words 0 0) old mid → Lessened low (width - (low + high)) (λ i. get_or words (high + i) 0) mid new → Lowered width (λ i. level_read drain words i c) old new
-  unfolding level_read if◌then◌else◌
+  unfolding level_read
   levels_lowered old mid new a b =
       record { size = b.size ∙ a.size; each = λ i k m. go i k m (dec_lt i low) (dec_lt (i - low) (width - (low + high))) }
     where
@@ -84,12 +84,12 @@ module _ (outer inner : Bucket) (rows : ℕ) (rest : List ℕ) (k c : ℕ) where
 
   -- a rate whose peak is over the decoder's size
   pub peak_lowered : (block : List ℕ) → rows ≤ c → Lowered w (λ i. rate_read outer inner rows rest k i c) block block
-  unfolding rate_read if◌then◌else◌
+  unfolding rate_read
   peak_lowered block h = record { size = refl; each = λ i b m. rw (le-ltb c rows h) (omega arith) }
 
   -- one that brings the outer bucket over its size
   pub over_lowered : (block : List ℕ) (to : ℕ) → c < rows → to ≡ (k + c) - outer.drain → u ≤ to → Lowered w (λ i. rate_read outer inner rows rest k i c) block block
-  unfolding rate_read if◌then◌else◌
+  unfolding rate_read
   over_lowered block to p e h = record { size = refl; each = λ i b m. rw (lt-ltb c rows p, le-ltb ((k + c) - outer.drain) u (rw e at h)) (omega arith) }
 
   -- the block that the outer level leads to stands in the rows
@@ -112,8 +112,8 @@ module _ (outer inner : Bucket) (rows : ℕ) (rest : List ℕ) (k c : ℕ) where
 
       go : (i : ℕ) → Dec ((i + c) - inner.drain < w) → level_read inner.drain (take (at + w - at) (drop at rest)) i c ≡ rate_read outer inner rows rest k i c
       go i (yes q) =
-          unfold level_read rate_read if◌then◌else◌ in
+          unfold level_read rate_read in
           rw (long, lt-ltb c rows p, ← e, lt-ltb to u h, lt-ltb ((i + c) - inner.drain) w q) (part_at at w rest ((i + c) - inner.drain) q)
       go i (no q) =
-          unfold level_read rate_read if◌then◌else◌ in
+          unfold level_read rate_read in
           rw (long, lt-ltb c rows p, ← e, lt-ltb to u h, le-ltb ((i + c) - inner.drain) w (omega arith)) refl

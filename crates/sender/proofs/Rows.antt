@@ -10,7 +10,7 @@ use borrow.Author.Tests.{lt-ltb, le-ltb, ltb-true}
 use lib.Dec.{ltb}
 use lib.ListN.{length, get_or, take, drop}
 use lib.Seq.{get_or-take, get_or-drop}
-use Rattle.base.specs.If.{if◌then◌else◌}
+use Rattle.std.specs.Prelude.{if◌then◌else◌}
 use Rattle.model.specs.Step.{bucket_step, after_sending, overfull}
 use Rattle.model.specs.Table.{mark, sizes, span, layer_words, state_at, word_in}
 use Rattle.model.proofs.Places.{layer_each, place_below}
@@ -61,7 +61,7 @@ module _ (outer inner : Bucket) (rows start low : ℕ) (f : ℕ → ℕ → ℕ)
       get_or-drop start part ((suc d * u + to) * w + j) 0 ∙ a.after (start + ((suc d * u + to) * w + j)) (omega arith) ∙ sym (get_or-drop start old ((suc d * u + to) * w + j) 0)
 
   rate_kept : (j c : ℕ) → rate_read outer inner rows (drop start part) low j c ≡ rate_read outer inner rows (drop start old) low j c
-  unfolding rate_read if◌then◌else◌
+  unfolding rate_read
   rate_kept j c = go (ltb c rows) (ltb ((low + c) - outer.drain) u) (ltb ((j + c) - inner.drain) w) refl
     where
       go : (x y z : Bool) → ltb ((j + c) - inner.drain) w ≡ z → (if x then (if y then (if z then get_or (drop start part) ((c * u + ((low + c) - outer.drain)) * w + ((j + c) - inner.drain)) 0 else mark) else mark) else mark) ≡ (if x then (if y then (if z then get_or (drop start old) ((c * u + ((low + c) - outer.drain)) * w + ((j + c) - inner.drain)) 0 else mark) else mark) else mark)
@@ -103,17 +103,17 @@ module _ (l : Line) (between rest : List ℕ) (b : ℕ) (top : b ≤ l.decoder) 
     where
       go : Dec (c < l.decoder + 1 - b) → Dec ((k + c) - l.outer.drain < n1) → Dec ((j + c) - l.inner.drain < n2) → rate_read l.outer l.inner (l.decoder + 1 - b) rest k j c ≡ word_if (word_in (line_is l) between) (arrived (line_is l) (levels l b k j) c)
       go (yes p) (yes q) (yes r) =
-          unfold rate_read arrived line_is bucket_is after_sending zip_with bucket_step overfull if◌then◌else◌ unless_over word_if in
+          unfold rate_read arrived line_is bucket_is after_sending zip_with bucket_step overfull unless_over word_if in
           rw (lt-ltb c (l.decoder + 1 - b) p, lt-ltb ((k + c) - l.outer.drain) n1 q, lt-ltb ((j + c) - l.inner.drain) n2 r, le-ltb l.decoder (b + c) (omega arith), le-ltb l.outer.size ((k + c) - l.outer.drain) (omega arith), le-ltb l.inner.size ((j + c) - l.inner.drain) (omega arith))
           (peak_word c ((k + c) - l.outer.drain) ((j + c) - l.inner.drain) (omega arith) q r)
       go (yes p) (yes q) (no r) =
-          unfold rate_read arrived line_is bucket_is after_sending zip_with bucket_step overfull if◌then◌else◌ unless_over word_if in
+          unfold rate_read arrived line_is bucket_is after_sending zip_with bucket_step overfull unless_over word_if in
           rw (lt-ltb c (l.decoder + 1 - b) p, lt-ltb ((k + c) - l.outer.drain) n1 q, le-ltb ((j + c) - l.inner.drain) n2 (omega arith), le-ltb l.decoder (b + c) (omega arith), le-ltb l.outer.size ((k + c) - l.outer.drain) (omega arith), lt-ltb l.inner.size ((j + c) - l.inner.drain) (omega arith)) refl
       go (yes p) (no q) t =
-          unfold rate_read arrived line_is bucket_is after_sending zip_with bucket_step overfull if◌then◌else◌ unless_over word_if in
+          unfold rate_read arrived line_is bucket_is after_sending zip_with bucket_step overfull unless_over word_if in
           rw (lt-ltb c (l.decoder + 1 - b) p, le-ltb ((k + c) - l.outer.drain) n1 (omega arith), le-ltb l.decoder (b + c) (omega arith), lt-ltb l.outer.size ((k + c) - l.outer.drain) (omega arith)) refl
       go (no p) s t =
-          unfold rate_read arrived line_is if◌then◌else◌ word_if in
+          unfold rate_read arrived line_is word_if in
           rw (le-ltb c (l.decoder + 1 - b) (omega arith), lt-ltb l.decoder (b + c) (omega arith)) refl
 
   -- the row is what the rule makes of it

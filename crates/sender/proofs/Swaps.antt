@@ -10,7 +10,7 @@ use borrow.Author.Tests.{ltb-true}
 use lib.Dec.{ltb}
 use lib.ListN.{length, get_or, take, drop}
 use lib.Seq.{get_or-take, get_or-drop}
-use Rattle.base.specs.If.{if◌then◌else◌}
+use Rattle.std.specs.Prelude.{if◌then◌else◌}
 use Rattle.model.specs.Table.{mark, sizes, span, layer_words, state_at, word_in}
 use Rattle.planning.specs.Passes.{least_below, arrived, word_if}
 use Rattle.planning.proofs.Passes.{least_cong}
@@ -69,7 +69,7 @@ levels_more b p q start old part new e a m =
 
 -- what a rate offers, from words in either order
 pub rate_swapped : (outer inner : Bucket) (rows : ℕ) (words other : List ℕ) → ((c k j : ℕ) → c < rows → k < outer.size + 1 → j < inner.size + 1 → get_or other ((c * (inner.size + 1) + j) * (outer.size + 1) + k) 0 ≡ get_or words ((c * (outer.size + 1) + k) * (inner.size + 1) + j) 0) → (k j c : ℕ) → rate_read inner outer rows other j k c ≡ rate_read outer inner rows words k j c
-unfolding rate_read if◌then◌else◌
+unfolding rate_read
 rate_swapped outer inner rows words other h k j c =
     go (ltb c rows) (ltb ((k + c) - outer.drain) (outer.size + 1)) (ltb ((j + c) - inner.drain) (inner.size + 1)) refl refl refl
   where

@@ -1,6 +1,5 @@
 -- Words of a layer while the second pass makes them, a block at a time, and what a rate offers to them.
-use Rattle.std.specs.Prelude.{ℕ, ◌+◌, ◌-◌, ◌*◌, ◌<◌, ◌≤◌, ◌≡◌, List, ltb, length, get_or}
-use Rattle.base.specs.If.{if◌then◌else◌}
+use Rattle.std.specs.Prelude.{ℕ, ◌+◌, ◌-◌, ◌*◌, ◌<◌, ◌≤◌, ◌≡◌, List, ltb, length, get_or, if◌then◌else◌}
 use Rattle.model.specs.Table.{mark}
 use Rattle.sender.specs.declared.Bucket.{Bucket}
 

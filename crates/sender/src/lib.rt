@@ -1,6 +1,8 @@
 // The second pass over a layer of the table, in place: what the rates of a line with two buckets offer to the levels before.
 // It knows neither sizes nor distortions.
 
+#![tactic(auto)]
+
 ghost use Rattle.std.specs.Prelude.{◌≡◌, ◌+◌, ◌-◌, ◌*◌, ◌<◌, ◌≤◌, min, length, get_or, take, drop};
 ghost use Rattle.model.specs.Table.{sizes, span, layer_words, state_at, word_in};
 ghost use Rattle.planning.specs.Passes.{least_below, arrived, word_if};
@@ -12,14 +14,14 @@ ghost use Rattle.sender.specs.Swaps.{swapped, LevelsSwapped};
 use block::NONE;
 
 // A leaky bucket: its size, and what it drains in an interval.
-#[derive(Drop)]
+#[derive(Clone, Copy)]
 pub struct Bucket {
     pub size: u16,
     pub drain: u16,
 }
 
 // What receiver and carrier fix. A line with one bucket has it as the inner one; its outer one is of size 0 and drains every rate, so that it is always empty.
-#[derive(Drop)]
+#[derive(Clone, Copy)]
 pub struct Line {
     pub decoder: u16,
     pub outer: Bucket,

@@ -1,4 +1,7 @@
 // What comes after calls as numbers: planning, or a replay.
+
+#![tactic(auto)]
+
 ghost use Rattle.std.specs.Prelude.{◌≡◌};
 ghost use Rattle.header.specs.Answers.{verdict};
 ghost use Rattle.replay.specs.Answers.{ended};

@@ -1,15 +1,18 @@
 // Tries sets that do not match their job: refusal 6 of every call that takes a set, and 17 of those that go by the door of opening, neither of which a call for other languages can reach with a set.
 // Standard input has Job A of document 01, 64 bytes, Job A with a second bucket, 70 bytes, Job A with drain 0, 64 bytes, then rows of one set each. A line says, for each of the three jobs, what the check, a pin of unit 2 at 0, a lift of unit 1, a replay and planning answer: 0, or the number of the refusal.
+
+#![tactic(auto)]
+
 ghost use Rattle.std.specs.Prelude.{◌≤◌, length};
 
 use best::Order;
 use header::{Bucket, Door, Header};
 use job::Reading;
-use libc::{STDIN_FILENO, STDOUT_FILENO};
 use pins::Answer;
 use pinset::PinSet;
 use planner::{Aim, Planned};
 use replay::Replayed;
+use std::io;
 
 // Where Job A ends, the second job and the third, and the bytes of a row: the nine fields of the set's header, whether it has a second bucket and that bucket's three, a unit and its pin, which unit 0 leaves out, and the three totals.
 const JOB: usize = 64;
@@ -69,80 +72,83 @@ fn set_at(input: &[u8], at: usize) -> PinSet
     }
 }
 
-fn print_number(n: u8) {
-    io::write_all(STDOUT_FILENO, b" ");
-    io::print_decimal(STDOUT_FILENO, n as u64);
+fn print_number(rt: HostRuntime, n: u8) -> io::Result<()> {
+    print!(rt; " {n}")
 }
 
-fn print_answer(answer: Answer) {
+fn print_answer(rt: HostRuntime, answer: Answer) -> io::Result<()> {
     match answer {
-        Answer::Done => print_number(0),
-        Answer::Refused(n) => print_number(n),
+        Answer::Done => print_number(rt, 0),
+        Answer::Refused(n) => print_number(rt, n),
     }
 }
 
-fn print_reading(reading: Reading) {
+fn print_reading(rt: HostRuntime, reading: Reading) -> io::Result<()> {
     match reading {
         Reading::Read {
             header: _,
             taken: _,
-        } => print_number(0),
-        Reading::Refused(n) => print_number(n),
+        } => print_number(rt, 0),
+        Reading::Refused(n) => print_number(rt, n),
     }
 }
 
-fn print_replayed(replayed: Replayed) {
+fn print_replayed(rt: HostRuntime, replayed: Replayed) -> io::Result<()> {
     match replayed {
-        Replayed::Refused(n) => print_number(n),
-        _ => print_number(0),
+        Replayed::Refused(n) => print_number(rt, n),
+        _ => print_number(rt, 0),
     }
 }
 
-fn print_planned(planned: Planned) {
+fn print_planned(rt: HostRuntime, planned: Planned) -> io::Result<()> {
     match planned {
-        Planned::Best(_) => print_number(0),
-        Planned::Refused(n) => print_number(n),
+        Planned::Best(_) => print_number(rt, 0),
+        Planned::Refused(n) => print_number(rt, n),
     }
 }
 
-fn try_set(job: &[u8], set: PinSet) {
-    print_reading(pinset::check(job, set, Door::Opening));
+fn try_set(rt: HostRuntime, job: &[u8], set: PinSet) -> io::Result<()> {
+    print_reading(rt, pinset::check(job, set, Door::Opening))?;
     let pinned = pins::pin(job, set, 2, 0);
     let answer = pinned.answer;
-    print_answer(answer);
+    print_answer(rt, answer)?;
     let lifted = pins::lift(job, set, 1);
     let answer = lifted.answer;
-    print_answer(answer);
+    print_answer(rt, answer)?;
     let mut levels = [0u16; 9];
     let plan = PLAN;
-    print_replayed(replay::replay(job, set, &plan, &mut levels));
+    print_replayed(rt, replay::replay(job, set, &plan, &mut levels))?;
     let mut table = [0u32; 160];
     let mut entries = [0u8; 9];
-    print_planned(planner::plan(job, set, Aim::Total, Order::Late, &mut table, &mut entries));
+    print_planned(
+        rt,
+        planner::plan(job, set, Aim::Total, Order::Late, &mut table, &mut entries),
+    )
 }
 
-fn try_rows(input: &[u8])
+fn try_rows(rt: HostRuntime, input: &[u8]) -> io::Result<()>
     requires { length input.now ≤ 4096 }
 {
     if input.len() < THIRD {
-        return;
+        return Ok(());
     }
     let rows = (input.len() - THIRD) / ROW;
     let start = 0;
     for row in 0..rows {
         let at = THIRD + ROW * row;
-        io::write_all(STDOUT_FILENO, b"set ");
-        io::print_decimal(STDOUT_FILENO, row as u64 + 1);
+        let number = row as u64 + 1;
+        print!(rt; "set {number}")?;
         let set = set_at(input, at);
-        try_set(&input[start..JOB], set);
-        try_set(&input[JOB..SECOND], set);
-        try_set(&input[SECOND..THIRD], set);
-        io::write_all(STDOUT_FILENO, b"\n");
+        try_set(rt, &input[start..JOB], set)?;
+        try_set(rt, &input[JOB..SECOND], set)?;
+        try_set(rt, &input[SECOND..THIRD], set)?;
+        println!(rt; "")?;
     }
+    Ok(())
 }
 
-fn main() {
+fn main(rt: HostRuntime) -> io::Result<()> {
     let mut input = [0u8; 4096];
-    let n = io::read_full(STDIN_FILENO, &mut input);
-    try_rows(&input[..n]);
+    let n = intake::fill(&mut rt.reader(), &mut input)?;
+    try_rows(rt, &input[..n])
 }

@@ -1,5 +1,5 @@
 -- Planning from given levels, with any set and after any list of pins and lifts: `Starts`, `LevelsCalls`, `LevelsAfter`, `OwnLevels`, `LevelsKeep`.
-use Prim.Native.Nat.{ℕ, zero, suc, ◌-◌, ◌≤◌}
+use Prim.Native.Nat.{ℕ, zero, suc, ◌≤◌}
 use mathlib.Core.Path.{◌≡◌, refl, sym, ap, ◌∙◌}
 use mathlib.Core.Logic.{◌↔◌}
 use mathlib.Core.Bool.{Bool, true, false}
@@ -8,7 +8,7 @@ use native.Mathlib.Omega.{arith}
 use lib.Dec.{leb}
 use lib.ListN.{length}
 use borrow.Author.Tests.{leb-true, le-leb}
-use Rattle.base.specs.If.{if◌then◌else◌}
+use Rattle.std.specs.Prelude.{if◌then◌else◌}
 use Rattle.base.specs.Refusals.{test}
 use Rattle.base.proofs.Refusals.{Decides, one_more, in_order, guarded_past, AllHold}
 use Rattle.model.specs.Job.{Bucket, Job}
@@ -39,7 +39,7 @@ starts j ls = record { buckets = refl; decoder = refl }
 
 -- what the test of the levels says
 fits_to : (ks : List Bucket) (ls : List ℕ) → levels_fit (map (λ k. k.size) ks) ls ≡ true → (length ls ≡ length ks) × AllWithin ks ls
-unfolding levels_fit if◌then◌else◌
+unfolding levels_fit
 fits_to [] [] e = (refl, λ i h. absurd (omega arith))
 fits_to [] (l ∷ ls) e = not_true e
 fits_to (k ∷ ks) [] e = not_true e
@@ -54,7 +54,7 @@ fits_to (k ∷ ks) (l ∷ ls) e = go (leb l k.size) refl (λ q. fits_to ks ls q)
         at h w (suc i) b = w i (omega arith)
 
 to_fits : (ks : List Bucket) (ls : List ℕ) → length ls ≡ length ks → AllWithin ks ls → levels_fit (map (λ k. k.size) ks) ls ≡ true
-unfolding levels_fit if◌then◌else◌
+unfolding levels_fit
 to_fits [] [] e w = refl
 to_fits [] (l ∷ ls) e w = absurd (omega arith)
 to_fits (k ∷ ks) [] e w = absurd (omega arith)

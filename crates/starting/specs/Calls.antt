@@ -1,6 +1,5 @@
 -- What planning from given levels of the buckets answers and leaves (document 02, E14).
-use Rattle.std.specs.Prelude.{ℕ, Bool, true, false, List, [], ◌∷◌, leb, length}
-use Rattle.base.specs.If.{if◌then◌else◌}
+use Rattle.std.specs.Prelude.{ℕ, Bool, true, false, List, [], ◌∷◌, leb, length, if◌then◌else◌}
 use Rattle.base.specs.Refusals.{Test, test, guarded}
 use Rattle.model.specs.Job.{Levels, Job}
 use Rattle.model.specs.Best.{Order, Aim}

@@ -9,7 +9,7 @@ use lib.ListN.{length, get_or, take}
 use lib.Seq.{get_or-take}
 use borrow.Author.Tests.{le-leb, lt-leb, eq-eqb, ne_eqb}
 use Rattle.trellis.specs.Limit.{keeps_to, only}
-use Rattle.base.specs.If.{if◌then◌else◌, one_if}
+use Rattle.base.specs.If.{one_if}
 use Rattle.model.specs.Job as model
 use Rattle.model.specs.Job.{bucket_at, on_line, job_coding, coding}
 use Rattle.model.specs.Pins.{mapped_pin, pin_at}
@@ -98,7 +98,7 @@ nothing_kept (some g) = le-leb 0 g (omega arith)
 -- the choices of the interval in a place: up to the delay, and after it
 module _ (b : List ℕ) (h : Header) (pins : List ℕ) (limit : Limit) (place : ℕ) (c : Choices) (o : Opens b h) (n : length pins ≡ 512) (k : place < h.units + h.delay) where
   none_chosen : place < h.delay → c.unit ≡ 0 → c.count ≡ 1 → ChoicesOf b h (job_in b) (open_of (lines h.units pins) limit) place c
-  unfolding width allowed_is allowed_in choice_in entry pin_at pin_held coding if◌then◌else◌ only
+  unfolding width allowed_is allowed_in choice_in entry pin_at pin_held coding only
   none_chosen l u e =
       let t = le-leb (suc place) (job_in b).delay (omega (arith, delay_is b h o)) in
       record {
@@ -108,7 +108,7 @@ module _ (b : List ℕ) (h : Header) (pins : List ℕ) (limit : Limit) (place : 
       }
 
   unit_chosen : h.delay ≤ place → c.unit ≡ place - h.delay + 1 → c.count ≡ h.choices → c.pin ≡ get_or pins (place - h.delay) 0 → c.limit ≡ limit → ChoicesOf b h (job_in b) (open_of (lines h.units pins) limit) place c
-  unfolding width allowed_is allowed_in choice_in entry pin_at mapped_pin coding if◌then◌else◌
+  unfolding width allowed_is allowed_in choice_in entry pin_at mapped_pin coding
   unit_chosen l u m p i =
       let d = delay_is b h o in
       let us = units_are b h o in

@@ -8,7 +8,6 @@ use Rattle.base.proofs.Refusals.{not_none}
 use Rattle.model.specs.Job.{Bucket}
 use Rattle.model.specs.Table.{tops, span, layer_words, words}
 use Rattle.format.specs.JobBytes.{Policed, Header, header_limits, bucket_of, job_in, Opens}
-use Rattle.base.specs.If.{if◌then◌else◌}
 use Rattle.format.proofs.Opened.{header_kept, intervals_are, decoder_is, buckets_are}
 use Rattle.interval.specs.Answers.{line_of, OfHeader}
 use Rattle.header.specs.declared.Header as job
@@ -30,7 +29,7 @@ sizes_same (k ∷ ks) = ap (λ (l : List ℕ). k.size ∷ l) (sizes_same ks)
 -- of a job, as the code computes it
 module _ (b : List ℕ) (h : Header) (o : Opens b h) where
   pub words_are : words (job_in b) ≡ table_words h
-  unfolding words tops span table_words if◌then◌else◌
+  unfolding words tops span table_words
   words_are = rw (← fit_all (header_limits h) (header_kept b h o), intervals_are b h o, decoder_is b h o, buckets_are b h o, sizes_same h.buckets)
 
 -- the words of a header's own table, by the verdict on it
@@ -43,7 +42,7 @@ module _ (h : job.Header) where
       go false q = refl
 
   pub words_none : (n : ℕ) → some n ≡ broken (header_limits (plain h)) → 0 ≡ table_words (plain h)
-  unfolding table_words if◌then◌else◌
+  unfolding table_words
   words_none n e = rw (out_of_range n e)
 
   module _ (k : Buffers) (e : none ≡ broken (header_limits (plain h))) (of : OfHeader k (plain h)) where
@@ -51,7 +50,7 @@ module _ (h : job.Header) where
     kept = all_kept (header_limits (plain h)) (sym e)
 
     pub words_some : words_over (plain h) k ≡ table_words (plain h)
-    unfolding words_over table_words if◌then◌else◌ tops span
+    unfolding words_over table_words tops span
     words_some =
         let d : (line_of k []).decoder ≡ (plain h).decoder = unfold line_of in of.decoder in
         rw (← fit_all (header_limits (plain h)) kept, d, of.buckets, sizes_same (plain h).buckets)

@@ -1,8 +1,7 @@
 -- What is read of a job's bytes and pins in the terms of `model` and `planning`, how long a table is, and what the functions of this crate say and ask.
-use Rattle.std.specs.Prelude.{ℕ, suc, ◌+◌, ◌-◌, ◌*◌, ◌<◌, ◌≤◌, ◌≡◌, List, [], map, eqb, length, get_or}
+use Rattle.std.specs.Prelude.{ℕ, suc, ◌+◌, ◌-◌, ◌*◌, ◌<◌, ◌≤◌, ◌≡◌, List, [], map, eqb, length, get_or, if◌then◌else◌}
 use Rattle.std.proofs.Math.Option.{Option, none, some}
 use Rattle.trellis.specs.Limit.{keeps_to, only}
-use Rattle.base.specs.If.{if◌then◌else◌}
 use Rattle.model.specs.Job as model
 use Rattle.model.specs.Pins.{PinMap}
 use Rattle.model.specs.Step.{pin_held}

@@ -1,5 +1,8 @@
 // The table of least distortions, filled from a job's bytes and the pins of a set: from the last layer to the first, each from the next (document 01, "The best plan").
 // The line of a job and the choices of an interval are read here, the line in one place; the table may be filled over any line.
+
+#![tactic(auto)]
+
 ghost use Rattle.std.specs.Prelude.{◌≡◌, [], ◌++◌, ◌+◌, ◌-◌, ◌<◌, ◌≤◌, length, take, drop, replicate};
 ghost use Rattle.model.specs.Table.{layer_words, words};
 ghost use Rattle.format.specs.JobBytes.{Opens};
@@ -22,14 +25,14 @@ use interval::Buffers;
 use line::{Candidate, Line};
 
 // What the distortion of a choice may be: anything, or at most so much (even pictures: document 02, E7).
-#[derive(Drop)]
+#[derive(Clone, Copy)]
 pub enum Limit {
     Free,
     UpTo(u32),
 }
 
 // The choices of one interval: of which unit, how many, the unit's pin, and the limit on their distortion. How each codes the unit stands in the job: a thousand codings are too many to hand on. Up to the delay there is one choice, which decodes no unit: unit 0.
-#[derive(Drop)]
+#[derive(Clone, Copy)]
 pub struct Choices {
     pub unit: u16,
     pub count: Choice,
@@ -114,7 +117,7 @@ pub fn candidate_at(job: &[u8], header: Header, choices: Choices, choice: Choice
 // The least distortion of each size among the choices that are open: however many they are, filling a layer goes through no more prices than the decoder has levels.
 fn prices_of(job: &[u8], header: Header, choices: Choices) -> [u32; 256]
     requires { ChoicesFit job.now (plain header) choices }
-    ensures* { λ r. ⌜ LeastOf 256 choices.count (λ r x. price_at r (allowed_is job.now (plain header) choices x)) r ⌝ }
+    ensures { LeastOf 256 choices.count (λ r x. price_at r (allowed_is job.now (plain header) choices x)) result }
 {
     let total = choices.count;
     let mut prices = decoder::no_prices();

@@ -1,4 +1,7 @@
 // Trial jobs (document 02, E11): the same large job on every machine, drawn from a starting state and written by the functions for each record that the writer has too.
+
+#![tactic(auto)]
+
 ghost use Rattle.std.specs.Prelude.{◌≡◌, ◌+◌, ◌*◌, ◌/◌, ◌%◌, ◌≤◌, length};
 ghost use Rattle.base.specs.Lists.{build};
 ghost use Rattle.format.specs.Limits.{AllKept};

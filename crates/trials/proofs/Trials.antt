@@ -10,7 +10,6 @@ use lib.Dec.{leb}
 use lib.ListN.{length, drop}
 use lib.Seq.{take_at}
 use Rattle.base.specs.Answer.{gives}
-use Rattle.base.specs.If.{if◌then◌else◌}
 use Rattle.base.specs.Refusals.{test, refusal, unless, first, guarded, InOrder}
 use Rattle.base.specs.Lent.{Ended, over, refuse}
 use Rattle.base.proofs.Answers.{not_refused, gives_same}
@@ -125,7 +124,7 @@ module _ (h : Header) (s : ℕ) (out : List ℕ) where
 
     -- the room decides
     room_good : (b : Bool) → leb (job_size h) (length out) ≡ b → Good (unless (refuse out) (refusal (test 12 b ∷ [])) (record { answer = gives (length (bytes h s)); list = over (bytes h s) out }))
-    unfolding unless refusal if◌then◌else◌
+    unfolding unless refusal
     room_good true e = λ n q. over_good (leb-true _ (length out) e) n (gives_same q)
     room_good false e = refused_good 12
 

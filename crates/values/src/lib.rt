@@ -1,4 +1,7 @@
 // The values that the exported calls give, as numbers in a list that is lent.
+
+#![tactic(auto)]
+
 ghost use Rattle.std.specs.Prelude.{◌≡◌, ◌+◌, ◌≤◌, [], ◌∷◌, length, replicate};
 ghost use Rattle.base.specs.Lent.{over};
 ghost use Rattle.header.specs.Answers.{plain};

@@ -8,7 +8,6 @@ use native.Mathlib.Decide.{dec_lt}
 use lib.ListN.{length}
 use borrow.Author.Tests.{lt-ltb, le-ltb}
 use Rattle.base.specs.Answer.{refused, gives}
-use Rattle.base.specs.If.{if◌then◌else◌}
 use Rattle.model.specs.Pins.{Call, sees}
 use Rattle.pinning.specs.PinSet.{PinSet}
 use Rattle.pinning.specs.Calls.{Handed, call, click}
@@ -66,7 +65,7 @@ module _ (b l : List ℕ) (k : Call) (own : PinSet) (e : own ≡ set_in l) (tabl
     shape o z = ap (λ (p : Option ℕ). record { refused = p; set = h.set }) (sym z) ∙ made
 
     of_words : h.refused ≡ none → Dec (length table < table_words h.set.header) → exported.seen (unseen_by none h.set.header (length table)) l table values ≡ see_export b l k table values
-    unfolding unseen_by if◌then◌else◌
+    unfolding unseen_by
     of_words z (yes q) =
         rw (lt-ltb (length table) (table_words h.set.header) q)
         (see_before b l k table values short 11 (refuses 11 (short_seen b own k h.set (taken b own k h.set (shape none z)) long full (unit_of k) refl table q)))

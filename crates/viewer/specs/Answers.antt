@@ -1,7 +1,6 @@
 -- What is told of a call that sees, and what that asks.
-use Rattle.std.specs.Prelude.{ℕ, ◌≤◌, ◌≡◌, List, ltb}
+use Rattle.std.specs.Prelude.{ℕ, ◌≤◌, ◌≡◌, List, ltb, if◌then◌else◌}
 use Rattle.std.proofs.Math.Option.{Option, none, some}
-use Rattle.base.specs.If.{if◌then◌else◌}
 use Rattle.format.specs.JobBytes.{Header}
 use Rattle.pinning.specs.Calls.{Handed}
 use Rattle.table.specs.Answers.{table_words}

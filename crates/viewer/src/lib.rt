@@ -1,4 +1,7 @@
 // Pins and lifts that see, with a set of pins as numbers: the set, the table and the least total in lists that an editor's tool lends.
+
+#![tactic(auto)]
+
 ghost use Rattle.std.specs.Prelude.{◌≡◌, ◌≤◌, [], ◌∷◌, length};
 ghost use Rattle.base.specs.Lent.{over};
 ghost use Rattle.model.specs.Pins.{pin, lift};

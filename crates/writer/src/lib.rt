@@ -1,4 +1,7 @@
 // Writing a job's bytes from its header and lists (document 02, E1). Everything is looked at before a byte is written.
+
+#![tactic(auto)]
+
 ghost use Rattle.std.specs.Prelude.{◌≡◌};
 ghost use Rattle.header.specs.Answers.{plain};
 ghost use Rattle.writing.specs.Calls.{write_call};
@@ -7,7 +10,7 @@ ghost use Rattle.writer.specs.Answers.{wrote};
 use header::{Header, Verdict};
 
 // How many bytes the job took, or the refusal's number.
-#[derive(Drop)]
+#[derive(Clone, Copy)]
 pub enum Wrote {
     Done(usize),
     Refused(u8),

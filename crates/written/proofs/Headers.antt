@@ -9,7 +9,8 @@ use lib.Dec.{eqb}
 use lib.ListN.{length, get_or, drop, length-drop, drop_of_length-le}
 use lib.Seq.{get_or-drop}
 use borrow.Author.Tests.{eqb-true}
-use Rattle.base.specs.If.{if◌then◌else◌, one_if}
+use Rattle.std.specs.Prelude.{if◌then◌else◌}
+use Rattle.base.specs.If.{one_if}
 use Rattle.format.specs.JobBytes.{Policed, Header, policed_by}
 use Rattle.format.proofs.Limits.{not_true}
 use Rattle.header.specs.Answers.{extra}
@@ -17,11 +18,11 @@ use Rattle.exporting.specs.Exports.{header_fields}
 
 -- fields of a second bucket
 pub twelve : (two : Bool) (n : ℕ) → two ≡ true → n ≡ 9 + 3 * extra two → n ≡ 12
-unfolding extra if◌then◌else◌
+unfolding extra
 twelve two n e h = rw e at h
 
 pub fields_two : (n : ℕ) → header_fields n ≡ true → n ≡ 9 + 3 * extra (eqb n 12)
-unfolding header_fields if◌then◌else◌ extra
+unfolding header_fields extra
 fields_two n e = go (eqb n 12) refl e
   where
     go : (t : Bool) → eqb n 12 ≡ t → (if t then true else eqb n 9) ≡ true → n ≡ 9 + 3 * (if t then 1 else 0)
@@ -29,7 +30,7 @@ fields_two n e = go (eqb n 12) refl e
     go false q e = eqb-true n 9 e
 
 pub header_told : (n : ℕ) → header_fields n ≡ true → (n ≡ 9) ⊎ (n ≡ 12)
-unfolding header_fields if◌then◌else◌
+unfolding header_fields
 header_told n e = go (eqb n 12) refl e
   where
     go : (t : Bool) → eqb n 12 ≡ t → (if t then true else eqb n 9) ≡ true → (n ≡ 9) ⊎ (n ≡ 12)
@@ -37,7 +38,7 @@ header_told n e = go (eqb n 12) refl e
     go false q e = inl (eqb-true n 9 e)
 
 pub no_told : (n : ℕ) → header_fields n ≡ false → (n ≡ 9) ⊎ (n ≡ 12) → ⊥
-unfolding header_fields if◌then◌else◌
+unfolding header_fields
 no_told n e (inl q) = let z : true ≡ false = rw q at e in absurd (not_true (sym z))
 no_told n e (inr q) = let z : true ≡ false = rw q at e in absurd (not_true (sym z))
 
@@ -53,7 +54,7 @@ unfolding one_if policed_by
 three_read fields two e n = rw (e, three_of (drop 9 fields) (rw length-drop (omega arith)), get_or-drop, get_or-drop, get_or-drop)
 
 pub none_behind : (fields : List ℕ) (two : Bool) (k : Policed) → two ≡ false → length fields ≡ 9 + 3 * extra two → one_if two k ≡ policed_by (drop 9 fields)
-unfolding one_if policed_by extra if◌then◌else◌
+unfolding one_if policed_by extra
 none_behind fields two k e n = let m : length fields ≤ 9 = omega (arith, rw e at n) in rw (e, drop_of_length-le fields m)
 
 -- a header with these buckets behind the first

@@ -1,4 +1,7 @@
 // A job that is written from lists of numbers, or drawn from a state: its header from nine fields, or twelve.
+
+#![tactic(auto)]
+
 ghost use Rattle.std.specs.Prelude.{◌≡◌, [], ◌∷◌, ◌+◌, ◌*◌, ◌≤◌, length, drop};
 ghost use Rattle.base.specs.If.{one_if};
 ghost use Rattle.format.specs.JobBytes.{policed_by, header_of};

@@ -1,0 +1,20 @@
+-- `enlarge::line_with` meets its contract: by what it computes to.
+use mathlib.Core.Path.{refl}
+use Rattle.interval.specs.Answers.{second_of, line_of}
+use Rattle.line.specs.Answers.{line_is}
+use Rattle.enlarging.specs.Larger.{with_bucket, with_size}
+use Rattle.enlarge.proofs.line_with.Goals as goal
+
+pub returns : goal.returns
+unfolding line_is line_of second_of with_size with_bucket
+returns c =
+    let f = c.requires.0 in
+    record {
+      is = refl;
+      fits = record {
+        buffers = record { decoder = f.buffers.decoder; bucket = c.requires.1; drain = f.buffers.drain; second = f.buffers.second };
+        rates = f.rates;
+        rate = f.rate;
+        size = f.size;
+      };
+    }

@@ -1,0 +1,11 @@
+-- `job::same_length` meets its contract: a limit whose two ends are one number.
+use mathlib.Core.Path.{refl}
+use native.Mathlib.Omega.{arith}
+use Rattle.header.proofs.Verdicts.{refuses, fits}
+use Rattle.job.proofs.same_length.Goals as goal
+
+pub returns-then-len-due : goal.returns-then-len-due
+returns-then-len-due c = fits _ (omega arith)
+
+pub returns-else-len-due : goal.returns-else-len-due
+returns-else-len-due c = refuses 2 _ (refl, tt) (λ o. omega (arith, o))

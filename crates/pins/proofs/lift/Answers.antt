@@ -1,0 +1,26 @@
+-- `pins::lift` meets its contract: what the check refuses is handed back, and the rest is `lift_line`.
+use Rattle.pinset.specs.Answers.{set_of}
+use Rattle.pinset.proofs.Answering.{ready, ready_took}
+use Rattle.pins.proofs.Answering.{call_refused, call_took}
+use Rattle.job.proofs.Answers.{answer_took, answer_refused}
+use mathlib.Core.Path.{◌∙◌}
+use Rattle.header.specs.Answers.{door_of}
+use Rattle.pins.proofs.lift.Goals as goal
+
+pub lift_line-requires : goal.lift_line-requires
+unfolding set_of door_of
+lift_line-requires c =
+    let check = c.check in
+    ready _ _ _ _ _ (answer_took _ check.result _ _ check.ensures.answer c.in-Read.is) check.ensures.sized
+
+pub returns-in-Refused : goal.returns-in-Refused
+unfolding door_of
+returns-in-Refused c =
+    let check = c.check in
+    c.refused.ensures ∙ call_refused _ _ _ _ (answer_refused _ check.result _ check.ensures.answer c.in-Refused.is)
+
+pub returns-in-Read : goal.returns-in-Read
+unfolding set_of door_of
+returns-in-Read c =
+    let check = c.check in
+    c.lift_line.ensures ∙ call_took _ _ _ _ _ (ready_took _ _ _ _ _ (answer_took _ check.result _ _ check.ensures.answer c.in-Read.is) check.ensures.sized)

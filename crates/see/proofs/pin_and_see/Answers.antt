@@ -1,0 +1,12 @@
+-- `see::pin_and_see` meets its contract.
+use mathlib.Core.Path.{refl}
+use Rattle.planning.specs.See.{unit_of}
+use Rattle.see.proofs.pin_and_see.Goals as goal
+
+pub see-requires : goal.see-requires
+unfolding unit_of
+see-requires c = record { made = _; unit = refl; is = c.pin-made.ensures }
+
+pub returns : goal.returns
+unfolding unit_of
+returns c = c.see.ensures _ refl c.pin-made.ensures

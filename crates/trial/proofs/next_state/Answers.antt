@@ -1,0 +1,8 @@
+-- `trial::next_state` meets its contract: what wraps in the product wraps in the sum.
+use Rattle.trials.specs.Draws.{next}
+use Rattle.std.proofs.Common.{arith}
+use Rattle.trial.proofs.next_state.Goals as goal
+
+pub returns : goal.returns
+unfolding next
+returns c = omega (arith, c.wrapping_add_u32.ensures, c.wrapping_mul.ensures)
