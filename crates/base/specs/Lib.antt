@@ -1,4 +1,4 @@
--- Lists and tests that are not of the planner: a choice by a test, lists that a loop builds, lists that are lent, and refusals in order.
+-- Lists and tests that are not of the planner: a value that is there by a test, lists that a loop builds, lists that are lent, and refusals in order.
 pub mod If
 pub mod All
 pub mod Lists
