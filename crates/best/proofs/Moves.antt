@@ -28,14 +28,16 @@ use Rattle.header.specs.Answers.{plain}
 use Rattle.pinning.specs.PinSet.{lines}
 use Rattle.interval.specs.declared.Levels.{Levels}
 use Rattle.interval.specs.declared.Interval.{Interval}
-use Rattle.interval.specs.Answers.{levels_of, line_of}
+use Rattle.interval.specs.Answers.{levels_of, outcome_is, line_of}
 use Rattle.planning.specs.Rule.{pair_offer, allowed_in}
 use Rattle.planning.proofs.Offers.{first_offer_cong}
 use Rattle.planning.proofs.Layers.{layers_table}
 use Rattle.planning.proofs.Reading.{FirstPair, first_pair, here_is}
 use Rattle.line.specs.declared.Line.{Line}
 use Rattle.table.specs.declared.Choices.{Choices}
-use Rattle.table.specs.declared.Limit.{Limit}
+use Rattle.std.specs.Prelude as std
+use Rattle.std.specs.Prelude.{Result, Ok, Err, IsOk}
+use Rattle.parts.specs.declared.Violation as code
 use Rattle.line.specs.declared.Candidate.{Candidate}
 use Rattle.decoder.specs.Answers.{coding_if}
 use Rattle.line.specs.Answers.{line_is, candidate_is, IntervalOf, step_of}
@@ -48,6 +50,12 @@ use Rattle.line.proofs.Offers.{line_steps}
 -- a violation reaches no levels
 pub not_reached : (v : Violation) (s : model.Levels) → violates v ≡ reaches s → ⊥
 not_reached v s e = let z : ◌≡◌ {A = ℕ} 0 1 = cc in omega arith
+
+-- an interval that leads to levels violates nothing
+pub reached_ok : (r : Result Levels code.Violation) (s : model.Levels) → outcome_is r ≡ reaches s → IsOk r
+unfolding outcome_is
+reached_ok (Ok l) s e = refl
+reached_ok (Err v) s e = absurd (not_reached _ _ e)
 
 -- a choice that is left open has its coding's size and distortion
 open_coding : (x : Candidate) (k : Coding) → candidate_is x ≡ some k → (x.size ≡ k.size) × (x.distortion ≡ k.distortion)
@@ -68,7 +76,7 @@ one_end : (s u : model.Levels) → reaches s ≡ reaches u → s ≡ u
 unfolding reached
 one_end s u e = some-injective s u (ap reached e)
 
-module _ (o : Order) (b : List ℕ) (h : Header) (l : Line) (pins : List ℕ) (limit : Limit) (table : List ℕ) (place : ℕ) (at : Levels) (asks : Moves b (plain h) l pins limit table place (levels_of at)) where
+module _ (o : Order) (b : List ℕ) (h : Header) (l : Line) (pins : List ℕ) (limit : std.Option ℕ) (table : List ℕ) (place : ℕ) (at : Levels) (asks : Moves b (plain h) l pins limit table place (levels_of at)) where
   abbrev J : model.Job
   J = job_on b l
 

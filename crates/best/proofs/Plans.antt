@@ -13,13 +13,16 @@ use Rattle.model.specs.Replay.{totals}
 use Rattle.model.specs.Best.{Order, Open, best_plan}
 use Rattle.format.proofs.Choices.{number_back}
 use Rattle.replaying.specs.Entries.{entry_size, one_entry, entry_bytes}
-use Rattle.base.specs.If.{one_if}
+use Rattle.std.specs.Prelude.{Some, None}
+use Rattle.std.specs.Prelude as std
+use Rattle.std.specs.Option.{option_map, option_to_list}
+use Rattle.interval.specs.declared.Policer.{Policer}
 use Rattle.base.specs.Lent.{over, over_at}
 use Rattle.replaying.proofs.Entries.{one_size, bytes_size, bytes_more}
 use Rattle.interval.specs.declared.Buffers.{Buffers}
 use Rattle.interval.specs.declared.Levels.{Levels}
 use Rattle.interval.specs.declared.Totals.{Totals}
-use Rattle.interval.specs.Answers.{levels_of, totals_of, second_of, line_of, no_totals, added}
+use Rattle.interval.specs.Answers.{levels_of, totals_of, bucket_is, line_of, no_totals, added}
 use Rattle.interval.proofs.Adding.{Added, added_start, added_on, added_end}
 use Rattle.base.proofs.Lent.{over_behind, over_at_length}
 use Rattle.entry.specs.Answers.{entry_numbers}
@@ -37,12 +40,12 @@ line_buckets b l = refl
 pub drains_most : (k : Buffers) → BuffersFit k → (i : ℕ) → i < length (line_of k []).buckets → (bucket_at (line_of k []).buckets i).drain ≤ 4095
 unfolding line_of
 drains_most k f zero h = f.drain
-drains_most k f (suc i) h = go k.two refl i h
+drains_most k f (suc i) h = go k.second refl i h
   where
-    go : (two : Bool) → k.two ≡ two → (i : ℕ) → suc i < length (record { size = k.bucket; drain = k.drain } ∷ one_if two (second_of k)) → (bucket_at (one_if two (second_of k)) i).drain ≤ 4095
-    go true e zero h = unfold one_if second_of in (f.second e).1
-    go true e (suc i) h = absurd (unfold one_if in (omega arith))
-    go false e i h = absurd (unfold one_if in (omega arith))
+    go : (o : std.Option Policer) → k.second ≡ o → (i : ℕ) → suc i < length (bucket_is k.first ∷ option_to_list (option_map bucket_is o)) → (bucket_at (option_to_list (option_map bucket_is o)) i).drain ≤ 4095
+    go (Some b) e zero h = (f.second b e).1
+    go (Some b) e (suc i) h = absurd (omega arith)
+    go None e i h = absurd (omega arith)
 
 module _ (j : Job) (m : Open) (o : Order) (first : ℕ) (start : model.Levels) (entries₀ : List ℕ) where
   -- the entries of the places before this one are written, and the rest of the plan is the best from the levels that they lead to

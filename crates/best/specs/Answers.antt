@@ -25,7 +25,7 @@ use Rattle.line.specs.declared.Line.{Line}
 use Rattle.best.specs.declared.Order.{Order}
 use Rattle.best.specs.declared.Order.TheVariants as o
 use Rattle.table.specs.declared.Choices.{Choices}
-use Rattle.table.specs.declared.Limit.{Limit}
+use Rattle.std.specs.Prelude as std
 use Rattle.best.specs.declared.Move.{Move}
 use Rattle.line.specs.Answers.{line_is, LineFits, step_of}
 use Rattle.table.specs.Answers.{job_on, open_of, allowed_is, ChoicesFit, Starts}
@@ -78,7 +78,7 @@ pub record Standing (j : model.Job) (k : Open) (t : ℕ) (s : model.Levels) : Ty
   pub least_is : least_total j k t s ≡ some value
 
 -- a place of a plan, its levels, and the table from there on
-pub record Moves (b : List ℕ) (h : format.Header) (l : Line) (pins : List ℕ) (limit : Limit) (table : List ℕ) (place : ℕ) (s : model.Levels) : Type 0 where
+pub record Moves (b : List ℕ) (h : format.Header) (l : Line) (pins : List ℕ) (limit : std.Option ℕ) (table : List ℕ) (place : ℕ) (s : model.Levels) : Type 0 where
   pub starts : Starts b h l pins
   pub before : place < h.units + h.delay
   pub table_is : Tabled (job_on b l) (open_of (lines h.units pins) limit) place table
@@ -95,7 +95,7 @@ pub record BestMove (j : model.Job) (k : Open) (o : model_best.Order) (place : �
   pub rest : best_plan j k place s o ≡ entry ∷ best_plan j k (suc place) (levels_of x.to) o
 
 -- a first place, its levels, the table from there on, and a list for the entries of the intervals after it
-pub record ReadsOff (b : List ℕ) (h : format.Header) (l : Line) (pins : List ℕ) (limit : Limit) (table : List ℕ) (first : ℕ) (s : model.Levels) (entries : List ℕ) : Type 0 where
+pub record ReadsOff (b : List ℕ) (h : format.Header) (l : Line) (pins : List ℕ) (limit : std.Option ℕ) (table : List ℕ) (first : ℕ) (s : model.Levels) (entries : List ℕ) : Type 0 where
   pub starts : Starts b h l pins
   pub few : first ≤ h.units + h.delay
   pub table_is : Tabled (job_on b l) (open_of (lines h.units pins) limit) first table

@@ -19,7 +19,7 @@ ghost use Rattle.table.specs.Answers.{job_on, open_of, allowed_is};
 ghost use Rattle.best.specs.Answers.{order_is, Offers, Attained, Layered, Reached, chosen, Moves, BestMove, ReadsOff, PlanRead};
 
 use header::{Choice, Header};
-use interval::{Buffers, Interval, Levels, Outcome, Totals};
+use interval::{Buffers, Interval, Levels, Totals};
 use line::Line;
 use table::{Choices, Limit};
 
@@ -123,10 +123,7 @@ fn levels_after(buffers: Buffers, at: Levels, x: Interval) -> Levels
     requires { Reached buffers at x }
     ensures { step_of buffers at x ≡ reaches (levels_of result) }
 {
-    match interval::step(buffers, at, x) {
-        Outcome::Violates(_) => at,
-        Outcome::Reaches(next) => next,
-    }
+    interval::step(buffers, at, x).unwrap()
 }
 
 // The choice that an entry in this place names.

@@ -2,7 +2,7 @@
 
 #![tactic(auto)]
 
-ghost use Rattle.std.specs.Prelude.{◌≡◌, ◌+◌, ◌-◌, ◌≤◌, min, length, get_or};
+ghost use Rattle.std.specs.Prelude.{◌≡◌, ◌+◌, ◌-◌, ◌≤◌, length, get_or};
 ghost use Rattle.block.specs.Blocks.{Made};
 
 // The word for "cannot be completed", and the largest that is read as a distortion.
@@ -13,33 +13,12 @@ pub const LARGEST: u32 = 512000000;
 // How many words of a layer are made at a time.
 pub const BLOCK: usize = 256;
 
-pub fn lesser(a: u32, b: u32) -> u32
-    ensures { result ≡ min a b }
-{
-    if a < b { a } else { b }
-}
-
-pub fn smaller(a: usize, b: usize) -> usize
-    ensures { result ≡ min a b }
-{
-    if a < b { a } else { b }
-}
-
-// By how much a number is larger than another: 0 where it is not.
-pub fn beyond(a: usize, b: usize) -> usize
-    ensures { result ≡ a - b }
-{
-    if a < b { 0 } else { a - b }
-}
-
 // Sets the first words of a block to one word.
 pub fn clear_words(block: &mut [u32; 256], count: usize, word: u32)
     requires { (length block.old ≡ 256) × (count ≤ 256) }
     ensures { Made 0 count (λ i. word) block.old block.new }
 {
-    for i in 0..count {
-        block[i] = word;
-    }
+    block[..count].fill(word);
 }
 
 // Writes the first words of a block.
@@ -47,8 +26,6 @@ pub fn put_words(part: &mut [u32], start: usize, block: &[u32; 256], count: usiz
     requires { (length block.now ≡ 256) × (count ≤ 256) × (start + count ≤ length part.old) }
     ensures { Made start (start + count) (λ i. get_or block.now (i - start) 0) part.old part.new }
 {
-    for i in 0..count {
-        let at = start + i;
-        part[at] = block[i];
-    }
+    let end = start + count;
+    part[start..end].copy_from_slice(&block[..count]);
 }

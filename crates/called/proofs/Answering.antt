@@ -13,13 +13,14 @@ use Rattle.header.specs.Answers.{plain}
 use Rattle.pinning.specs.PinSet.{PinSet, fresh}
 use Rattle.pinning.specs.Calls.{open_call}
 use Rattle.pins.specs.declared.Opened.{Opened}
-use Rattle.pins.specs.declared.Opening.TheVariants as opens
+use Rattle.std.specs.Prelude.{Result, Ok, Err}
+use Rattle.header.specs.declared.refusal.Refusal.{Refusal}
+use Rattle.header.specs.Refusals.{number}
+use Rattle.header.specs.Answers.{answer_by}
 use Rattle.pinset.specs.Answers.{set_of}
-use Rattle.pins.specs.Answers.{opening_answer, opening}
+use Rattle.pins.specs.Answers.{opening}
 use Rattle.pins.proofs.Opens.{Open, is_open, not_open, answer_is, state_is}
 use Rattle.calling.specs.Sessions.{calls_refusal, calls_call}
-use Rattle.calls.specs.declared.Called.{Called}
-use Rattle.calls.specs.declared.Called.TheVariants as calls
 use Rattle.calls.specs.declared.PinTotals.{PinTotals}
 use Rattle.calls.specs.Answers.{called_answer}
 use Rattle.calls.specs.Answers as numbers
@@ -29,14 +30,13 @@ use Rattle.exporting.proofs.Rooms.{before, few, behind}
 
 -- opening
 module _ (d : Door) (job values : List ℕ) (r : Opened) (i : opening r ≡ open_call d job) where
-  pub open_refused : (n : ℕ) → r.answer ≡ opens.Refused n → opened n values ≡ open_export d job values
-  unfolding open_export on_took opening_answer
-  open_refused n e = rw (not_open _ n (answer_is d job r i ∙ ap opening_answer e)).0
+  pub open_refused : (n : Refusal) → r.answer ≡ Err n → opened (number n) values ≡ open_export d job values
+  unfolding open_export on_took
+  open_refused n e = rw (not_open _ (number n) (answer_is d job r i ∙ ap (answer_by (λ k. k)) e)).0
 
-  module _ (k : ℕ) (e : r.answer ≡ opens.Took k) where
+  module _ (k : ℕ) (e : r.answer ≡ Ok k) where
     here : Open (parse d job) k
-    unfolding opening_answer
-    here = is_open (parse d job) k (answer_is d job r i ∙ ap opening_answer e)
+    here = is_open (parse d job) k (answer_is d job r i ∙ ap (answer_by (λ k. k)) e)
 
     -- the header that is handed back is the job's
     header_here : plain r.set.header ≡ header_in here.job
@@ -62,15 +62,15 @@ module _ (job ks answers values : List ℕ) where
     unfolding calls_export
     calls_12 = few (λ n. called n answers values) (calls_refusal job ks (length answers)) 3 values _ e
 
-    module _ (room : 3 ≤ length values) (x : Called) (a : List ℕ) (i : numbers.called x a ≡ calls_call job ks answers) where
+    module _ (room : 3 ≤ length values) (x : Result PinTotals Refusal) (a : List ℕ) (i : numbers.called x a ≡ calls_call job ks answers) where
       on_calls : calls_export job ks answers values ≡ after_calls (numbers.called x a) values
       unfolding calls_export
       on_calls = behind (λ n. called n answers values) (calls_refusal job ks (length answers)) 3 values _ e room ∙ rw (← i)
 
-      pub calls_refused : (n : ℕ) → x ≡ calls.Refused n → called n a values ≡ calls_export job ks answers values
-      unfolding after_calls numbers.called called_answer number_of put
+      pub calls_refused : (n : Refusal) → x ≡ Err n → called (number n) a values ≡ calls_export job ks answers values
+      unfolding after_calls numbers.called numbers.totals_are number_of put
       calls_refused n q = sym (on_calls ∙ rw q)
 
-      pub calls_done : (t : PinTotals) → x ≡ calls.Done t → (new : List ℕ) → new ≡ over (t.count ∷ t.size ∷ t.distortion ∷ []) values → called 0 a new ≡ calls_export job ks answers values
-      unfolding after_calls numbers.called called_answer number_of put pins_list
+      pub calls_done : (t : PinTotals) → x ≡ Ok t → (new : List ℕ) → new ≡ over (t.count ∷ t.size ∷ t.distortion ∷ []) values → called 0 a new ≡ calls_export job ks answers values
+      unfolding after_calls numbers.called numbers.totals_are number_of put pins_list
       calls_done t q new w = sym (on_calls ∙ rw (q, w))

@@ -1,4 +1,4 @@
--- Calls as numbers: their kinds, what refuses them and the call in a place.
+-- Calls as numbers: what refuses them and the call in a place.
 use Prim.Native.Nat.{ℕ, ◌+◌, ◌*◌, ◌/◌, ◌%◌, ◌<◌}
 use mathlib.Core.Path.{◌≡◌, sym, ◌∙◌}
 use mathlib.Core.Bool.{true, false}
@@ -11,20 +11,7 @@ use Rattle.base.specs.Refusals.{refusal}
 use Rattle.base.proofs.Refusals.{refusal_past, refusal_here, refusal_last}
 use Rattle.model.specs.Pins.{pin, lift}
 use Rattle.base.proofs.All.{all_stop}
-use Rattle.calling.specs.Commands.{pins_kind, lifts_kind, kind_of, call_at, kind_fits, calls_tests}
-
--- a kind, test by test
-pub kind_pins : (k : ℕ) → k ≡ pins_kind → true ≡ kind_fits k
-unfolding kind_fits
-kind_pins k e = rw (eq-eqb k pins_kind e)
-
-pub kind_lifts : (k : ℕ) → k ≡ lifts_kind → true ≡ kind_fits k
-unfolding kind_fits
-kind_lifts k e = rw e
-
-pub kind_other : (k : ℕ) → (k ≡ pins_kind → ⊥) → (k ≡ lifts_kind → ⊥) → false ≡ kind_fits k
-unfolding kind_fits
-kind_other k p q = rw (ne_eqb k pins_kind p, ne_eqb k lifts_kind q)
+use Rattle.calling.specs.Commands.{pins_kind, kind_of, call_at, kind_fits, calls_tests}
 
 module _ (l : List ℕ) where
   -- the kinds of the first n calls

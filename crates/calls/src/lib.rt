@@ -6,16 +6,15 @@ ghost use Rattle.std.specs.Prelude.{◌≡◌, ◌+◌, ◌*◌, ◌/◌, ◌<�
 ghost use Rattle.base.specs.Refusals.{refusal};
 ghost use Rattle.pinning.specs.Calls.{call};
 ghost use Rattle.pinset.specs.Answers.{set_of};
-ghost use Rattle.pins.specs.Answers.{number, handed};
+ghost use Rattle.pins.specs.Answers.{handed};
 ghost use Rattle.header.specs.Answers.{verdict, door_of};
 ghost use Rattle.calling.specs.Commands.{kind_fits, call_at, calls_tests};
 ghost use Rattle.calling.specs.Sessions.{made, answer_number, calls_refusal, calls_call};
 ghost use Rattle.calls.specs.Answers.{called, Made};
 
-use header::{Door, Verdict};
-use job::Reading;
+use header::{Door, Refusal};
+use pins::Handed;
 use pins::kind::{LIFT, PIN};
-use pins::{Answer, Handed};
 use pinset::PinSet;
 
 // Of the pins that calls leave: how many, their sizes, their distortions.
@@ -26,41 +25,30 @@ pub struct PinTotals {
     pub distortion: u32,
 }
 
-// The totals of the pins that calls leave, or the refusal's number.
-#[derive(Clone, Copy)]
-pub enum Called {
-    Done(PinTotals),
-    Refused(u8),
-}
-
 // How many numbers a call has.
 pub const NUMBERS: usize = 3;
 
 fn kind_fits(kind: u16) -> bool
     ensures { result ≡ kind_fits kind }
 {
-    match kind {
-        PIN => true,
-        LIFT => true,
-        _ => false,
-    }
+    kind == PIN || kind == LIFT
 }
 
 // Calls as numbers: another kind is 2; then a last call that is cut is 1.
-pub fn calls_verdict(calls: &[u16]) -> Verdict
+pub fn calls_verdict(calls: &[u16]) -> Result<(), Refusal>
     ensures { verdict result ≡ refusal (calls_tests calls.now) }
 {
     let count = calls.len() / NUMBERS;
     for place in 0..count {
         let at = NUMBERS * place;
         if !kind_fits(calls[at]) {
-            return Verdict::Refused(header::refusal::NOT_DUE);
+            return Err(Refusal::NotDue);
         }
     }
     if calls.len() % NUMBERS != 0 {
-        return Verdict::Refused(header::refusal::CUT);
+        return Err(Refusal::Cut);
     }
-    Verdict::Fits
+    Ok(())
 }
 
 // The call in a place, made.
@@ -79,12 +67,12 @@ fn make_call(job: &[u8], set: PinSet, calls: &[u16], place: usize) -> Handed
 }
 
 // 0 for a call that was taken, else the number that refused it.
-fn answer_number(answer: Answer) -> u8
-    ensures { result ≡ answer_number (number answer) }
+fn answer_number(answer: Result<(), Refusal>) -> u8
+    ensures { result ≡ answer_number (verdict answer) }
 {
     match answer {
-        Answer::Done => 0,
-        Answer::Refused(n) => n,
+        Ok(()) => 0,
+        Err(refusal) => u8::from(refusal),
     }
 }
 
@@ -120,35 +108,24 @@ pub fn set_after(job: &[u8], calls: &[u16], door: Door) -> PinSet
 }
 
 // What refuses calls alone, before one is made, where there is room for so many numbers: the job, 1 to 5 and 17, the calls, 2 or 1, then 12.
-pub fn calls_refusal(job: &[u8], calls: &[u16], answers: usize) -> Verdict
+pub fn calls_refusal(job: &[u8], calls: &[u16], answers: usize) -> Result<(), Refusal>
     ensures { verdict result ≡ calls_refusal job.now calls.now answers }
 {
-    match job::read(job, Door::Opening) {
-        Reading::Refused(n) => Verdict::Refused(n),
-        Reading::Read {
-            header: _,
-            taken: _,
-        } => {
-            if let Verdict::Refused(n) = calls_verdict(calls) {
-                return Verdict::Refused(n);
-            }
-            if answers < calls.len() / NUMBERS {
-                return Verdict::Refused(header::refusal::LIST);
-            }
-            Verdict::Fits
-        }
+    job::read(job, Door::Opening)?;
+    calls_verdict(calls)?;
+    if answers < calls.len() / NUMBERS {
+        return Err(Refusal::List);
     }
+    Ok(())
 }
 
 // Makes calls as numbers, three a call (kind 6 or 7 as in the command records, unit, choice), refused ones included. Each call's number goes to `answers`, 0 where it was taken.
-pub fn make_calls(job: &[u8], calls: &[u16], answers: &mut [u8]) -> Called
+pub fn make_calls(job: &[u8], calls: &[u16], answers: &mut [u8]) -> Result<PinTotals, Refusal>
     ensures { called result answers.new ≡ calls_call job.now calls.now answers.old }
 {
-    if let Verdict::Refused(n) = calls_refusal(job, calls, answers.len()) {
-        return Called::Refused(n);
-    }
+    calls_refusal(job, calls, answers.len())?;
     let set = put_numbers(job, calls, answers);
-    Called::Done(PinTotals {
+    Ok(PinTotals {
         count: set.count,
         size: set.size,
         distortion: set.distortion,

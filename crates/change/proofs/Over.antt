@@ -1,5 +1,5 @@
 -- A change over a line: what planning the rest asks, and what it comes to.
-use Prim.Native.Nat.{ℕ, ◌-◌, ◌*◌}
+use Prim.Native.Nat.{ℕ, ◌*◌}
 use mathlib.Core.Path.{◌≡◌, sym, ◌∙◌}
 use mathlib.Core.Bool.{true}
 use mathlib.Core.Option.{none, some}
@@ -19,8 +19,10 @@ use Rattle.base.proofs.Refusals.{refusal_none, unless_some, unless_none}
 use Rattle.format.specs.Limits.{each_kept}
 use Rattle.format.specs.Parser as P
 use Rattle.format.specs.Parser.{on_read}
-use Rattle.planner.specs.declared.Planned.TheVariants as pl
-use Rattle.planner.specs.Answers.{answered, planned}
+use Rattle.std.specs.Prelude.{Err}
+use Rattle.header.specs.declared.refusal.Refusal.{Refusal}
+use Rattle.header.specs.Refusals.{number}
+use Rattle.planner.specs.Answers.{planned}
 use Rattle.interval.specs.declared.Levels.{Levels}
 use Rattle.interval.specs.declared.Totals.{Totals}
 use Rattle.interval.specs.Answers.{levels_of, totals_of}
@@ -85,9 +87,9 @@ module _ (b : List ℕ) (h : Header) (p : PinSet) (ready : Ready b h p) (old : L
   unfolding changed_for
   on_call = rw (units_are b h ready.opens)
 
-  pub call_refused : (n : ℕ) → some n ≡ refusal tests → planned (pl.Refused n) table entries ≡ changed_for b p old s c o table entries
-  unfolding planned answered refuse guarded
-  call_refused n e = sym (on_call ∙ unless_some (refuse table entries) (refusal tests) n _ (sym e))
+  pub call_refused : (n : Refusal) → some (number n) ≡ refusal tests → planned (Err n) table entries ≡ changed_for b p old s c o table entries
+  unfolding planned refuse guarded
+  call_refused n e = sym (on_call ∙ unless_some (refuse table entries) (refusal tests) (number n) _ (sym e))
 
   pub call_done : none ≡ refusal tests → change_in (job_in b) (under (job_in b) c) own old s o table entries ≡ changed_for b p old s c o table entries
   unfolding guarded
@@ -95,8 +97,8 @@ module _ (b : List ℕ) (h : Header) (p : PinSet) (ready : Ready b h p) (old : L
 
 -- the whole call
 module _ (b : List ℕ) (p : PinSet) (old : List ℕ) (s : ℕ) (c : Contract) (o : Order) (table entries : List ℕ) where
-  pub change_refused : (n : ℕ) → checked opening b p ≡ P.refused n → planned (pl.Refused n) table entries ≡ change_call b p old s c o table entries
-  unfolding change_call on_read refuse planned answered
+  pub change_refused : (n : Refusal) → checked opening b p ≡ P.refused (number n) → planned (Err n) table entries ≡ change_call b p old s c o table entries
+  unfolding change_call on_read refuse planned
   change_refused n e = rw e
 
   pub change_took : (k : ℕ) → checked opening b p ≡ P.took (job_in b) k → changed_for b p old s c o table entries ≡ change_call b p old s c o table entries

@@ -1,5 +1,5 @@
 -- The rest of a plan behind the first entries: what the search found, and that the totals of both parts can be added.
-use Prim.Native.Nat.{ℕ, ◌+◌, ◌-◌, ◌*◌, ◌≤◌, ◌<◌}
+use Prim.Native.Nat.{ℕ, ◌+◌, ◌*◌, ◌≤◌, ◌<◌}
 use mathlib.Core.Path.{◌≡◌, refl, sym, ap, ◌∙◌}
 use mathlib.Core.Option.{Option, none, some}
 use mathlib.Core.List.{List, ◌++◌}
@@ -29,8 +29,10 @@ use Rattle.replaying.specs.Entries.{entry_size}
 use Rattle.planning.specs.Calls as calls
 use Rattle.planning.specs.Calls.{searched, search_in}
 use Rattle.planning.proofs.DemandThree.{search_claim}
-use Rattle.planner.specs.declared.Planned.TheVariants as p
-use Rattle.planner.specs.Answers.{answered, planned}
+use Rattle.std.specs.Prelude.{Ok, Err}
+use Rattle.header.specs.declared.refusal.Refusal.{Refusal}
+use Rattle.header.specs.Refusals.{number}
+use Rattle.planner.specs.Answers.{planned}
 use Rattle.changing.specs.Calls.{both_totals, all_entries, behind}
 use Rattle.changing.proofs.Small.{distortion_small, source_small, channel_small, unused_small}
 use Rattle.change.specs.Answers.{Adds, Continues}
@@ -49,16 +51,16 @@ module _ (j : Job) (m : PinMap) (o : Order) (s : ℕ) (at : model.Levels) (table
   unfolding search_in
   search_kept n e = kept j (open_for total j m s at) o s at (least_total j (open_for total j m s at) s at) table (drop a entries) n e
 
-  pub rest_refused : (n : ℕ) (t e : List ℕ) → planned (p.Refused n) t e ≡ found → planned (p.Refused n) t (take a entries ++ e) ≡ behind before first entries found
-  unfolding planned answered behind both_totals all_entries
+  pub rest_refused : (n : Refusal) (t e : List ℕ) → planned (Err n) t e ≡ found → planned (Err n) t (take a entries ++ e) ≡ behind before first entries found
+  unfolding planned behind both_totals all_entries
   rest_refused n t e q =
-      let x : refused n ≡ found.answer = ap (λ (r : calls.Planned). r.answer) q in
+      let x : refused (number n) ≡ found.answer = ap (λ (r : calls.Planned). r.answer) q in
       let y : t ≡ found.table = ap (λ (r : calls.Planned). r.table) q in
       let z : e ≡ found.entries = ap (λ (r : calls.Planned). r.entries) q in
-      rw (← x, ← y) (ap (λ (l : List ℕ). record { answer = refused n; table = t; entries = l }) (ap (λ (l : List ℕ). take a entries ++ l) (z ∙ search_kept n (sym x)) ∙ take-append-drop a entries))
+      rw (← x, ← y) (ap (λ (l : List ℕ). record { answer = refused (number n); table = t; entries = l }) (ap (λ (l : List ℕ). take a entries ++ l) (z ∙ search_kept (number n) (sym x)) ∙ take-append-drop a entries))
 
-  pub rest_best : (rest sum : Totals) (t e w : List ℕ) → planned (p.Best rest) t e ≡ found → totals_of sum ≡ plus before (totals_of rest) → w ≡ first ++ drop a (take a entries ++ e) → planned (p.Best sum) t w ≡ behind before first entries found
-  unfolding planned answered behind both_totals all_entries
+  pub rest_best : (rest sum : Totals) (t e w : List ℕ) → planned (Ok rest) t e ≡ found → totals_of sum ≡ plus before (totals_of rest) → w ≡ first ++ drop a (take a entries ++ e) → planned (Ok sum) t w ≡ behind before first entries found
+  unfolding planned behind both_totals all_entries
   rest_best rest sum t e w q add put =
       let x : gives (totals_of rest) ≡ found.answer = ap (λ (r : calls.Planned). r.answer) q in
       let y : t ≡ found.table = ap (λ (r : calls.Planned). r.table) q in
@@ -94,8 +96,8 @@ module _ (b : List ℕ) (h : Header) (l : Line) (pins : List ℕ) (s : ℕ) (at 
   counted : intervals J ≡ h.units + h.delay
   counted = intervals_on (job_in b) (line_is l) ∙ intervals_are b h opens
 
-  pub adds : (rest : Totals) (t e : List ℕ) → planned (p.Best rest) t e ≡ search_in J m total o s at table (drop (entry_size * s) entries) → Adds before rest
-  unfolding totals_of planned answered
+  pub adds : (rest : Totals) (t e : List ℕ) → planned (Ok rest) t e ≡ search_in J m total o s at table (drop (entry_size * s) entries) → Adds before rest
+  unfolding totals_of planned
   adds rest t e q =
       let k = few_intervals b h opens in
       let x : gives (totals_of rest) ≡ (search_in J m total o s at table (drop (entry_size * s) entries)).answer = ap (λ (r : calls.Planned). r.answer) q in

@@ -3,6 +3,7 @@ use Prim.Native.Nat.{ℕ, ◌+◌, ◌-◌, ◌*◌, ◌≤◌, ◌<◌}
 use mathlib.Core.Path.{◌≡◌, sym, ◌∙◌}
 use mathlib.Core.Bool.{true, false}
 use mathlib.Core.Option.{none, some}
+use Rattle.std.specs.Prelude.{Option, Some, None}
 use mathlib.Core.List.{List}
 use native.Mathlib.Omega.{arith}
 use borrow.Author.Tests.{lt-leb, le-leb, leb-true}
@@ -27,7 +28,6 @@ use Rattle.line.proofs.Sizes.{layer_size}
 use Rattle.table.specs.Answers.{job_on, words_over}
 use Rattle.replaying.specs.Entries.{entry_size}
 use Rattle.front.specs.declared.Front.{Front}
-use Rattle.front.specs.declared.Front.TheVariants as f
 use Rattle.front.specs.Answers.{SmallTotals, FrontOf, leads, breaks}
 use Rattle.changing.specs.Calls.{remaining, front, carried, is_clean, none_over, rest_tests}
 
@@ -38,18 +38,17 @@ pub record Led (j : Job) (m : PinMap) (n : ℕ) (old : List ℕ) (at : Levels) (
   pub totals_are : totals_of sum ≡ totals j 0 j.start (remaining j m n old)
   pub small : SmallTotals n sum
 
-different : {at : Levels} {sum : Totals} {A : Type 0} → f.Breaks ≡ f.Leads at sum → A
+different : {x : Front} {A : Type 0} → None ≡ Some x → A
 different e = let z : ◌≡◌ {A = ℕ} 0 1 = cc in absurd (omega arith)
 
 module _ {j : Job} {m : PinMap} {n : ℕ} {old : List ℕ} where
-  pub led : {r : Front} (at : Levels) (sum : Totals) → FrontOf j m n old r → r ≡ f.Leads at sum → Led j m n old at sum
-  led at sum (leads {at = at'} {sum = sum'} a b c d e) q =
-      let x : at' ≡ at = cc in
-      let y : sum' ≡ sum = cc in
-      rw (← x, ← y) (record { clean = a; levels = b; totals_are = d; small = e })
-  led at sum (breaks a) q = different q
+  pub led : {r : Option Front} (x : Front) → FrontOf j m n old r → r ≡ Some x → Led j m n old x.at x.sum
+  led x (leads {x = y} a b c d e) q =
+      let s : y ≡ x = cc in
+      rw (← s) (record { clean = a; levels = b; totals_are = d; small = e })
+  led x (breaks a) q = different q
 
-  pub broke : {r : Front} → FrontOf j m n old r → r ≡ f.Breaks → is_clean (front j m n old).result ≡ false
+  pub broke : {r : Option Front} → FrontOf j m n old r → r ≡ None → is_clean (front j m n old).result ≡ false
   broke (leads a b c d e) q = different (sym q)
   broke (breaks a) q = a
 

@@ -1,21 +1,19 @@
 -- What refuses a change for a job that the set matches: the old plan, the contract's three, then the rest.
-use Prim.Native.Nat.{ℕ, suc, ◌+◌}
+use Prim.Native.Nat.{ℕ, suc}
 use mathlib.Core.Path.{◌≡◌, refl, sym, ap, ◌∙◌}
-use mathlib.Core.Bool.{Bool, true, false}
+use mathlib.Core.Bool.{true, false}
 use mathlib.Core.Option.{Option, some}
 use mathlib.Core.List.{List, [], ◌∷◌, map, zip_with}
 use native.Mathlib.Omega.{arith}
 use lib.ListN.{length, length-map}
-use Rattle.base.specs.If.{one_if}
 use Rattle.base.specs.Refusals.{refusal}
 use Rattle.base.proofs.Refusals.{refusal_past, refusal_here}
-use Rattle.model.specs.Job.{Line, Job, on_line}
+use Rattle.model.specs.Job.{Job, on_line}
 use Rattle.model.specs.Pins.{PinMap}
 use Rattle.format.specs.Limits.{each_kept}
 use Rattle.format.proofs.Limits.{all_fit}
 use Rattle.format.specs.JobBytes.{Policed, Header, bucket_of, opening, drain_limits, rate_limits, job_in, Opens}
 use Rattle.format.proofs.Opened.{decoder_is}
-use Rattle.header.specs.Answers.{extra}
 use Rattle.line.specs.declared.Line as code
 use Rattle.table.specs.Answers.{job_on}
 use Rattle.replaying.specs.Entries.{shaped}
@@ -23,12 +21,6 @@ use Rattle.replay.proofs.Levels.{bucket_count}
 use Rattle.contract.specs.Answers.{contract, LineUnder}
 use Rattle.changing.specs.NewContract.{Contract, policed_under, contract_limits, line_under, under}
 use Rattle.changing.specs.Calls.{rest_tests, change_tests}
-
--- how many buckets a header has
-pub how_many : (k : Policed) (two : Bool) (l : Policed) → length (k ∷ one_if two l) ≡ 1 + extra two
-unfolding one_if extra
-how_many k true l = refl
-how_many k false l = refl
 
 -- a contract that is offered has a size and a drain for each bucket
 pub counts : (n : ℕ) (rates sizes drains : List ℕ) → each_kept (contract_limits n (contract rates sizes drains)) ≡ true → (length sizes ≡ n) × (length drains ≡ n)

@@ -2,10 +2,8 @@
 
 #![tactic(auto)]
 
-pub mod refusal;
-
-ghost use Rattle.std.specs.Prelude.{◌≡◌, ◌&&◌, [], ◌++◌, ◌*◌, ◌≤◌, length, take, drop};
-ghost use Rattle.base.specs.If.{one_if};
+ghost use Rattle.std.specs.Prelude.{◌≡◌, [], ◌*◌, length, take, drop};
+ghost use Rattle.std.specs.Option.{option_to_list};
 ghost use Rattle.model.specs.Step.{overfull};
 ghost use Rattle.model.specs.Replay.{plus_each, plus};
 ghost use Rattle.model.specs.Best.{total};
@@ -26,22 +24,18 @@ ghost use Rattle.change.specs.Answers.{Adds, Continues, Follows, Passes, changed
 
 use best::Order;
 use front::Front;
-use header::{Choice, Door, Header, Verdict};
+use header::{Choice, Door, Header, Refusal};
 use interval::{Buffers, Levels, Totals};
-use job::Reading;
 use line::Line;
 use pinset::PinSet;
-use planner::{Aim, Planned};
+use planner::Aim;
 
-// What both parts of a plan leave unused of the second bucket's drain; nothing where there is none.
-fn both_unused(before: Totals, rest: Totals) -> u32
+// What both parts of a plan leave unused of the second bucket's drain, where there is one.
+fn both_unused(before: Totals, rest: Totals) -> Option<u32>
     requires { Adds before rest }
-    ensures { one_if (before.two && rest.two) result ≡ plus_each (one_if before.two before.unused2) (one_if rest.two rest.unused2) }
+    ensures { option_to_list result ≡ plus_each (option_to_list before.unused2) (option_to_list rest.unused2) }
 {
-    if before.two & rest.two {
-        return before.unused2 + rest.unused2;
-    }
-    0
+    Some(before.unused2? + rest.unused2?)
 }
 
 // The totals of both parts of a plan.
@@ -54,7 +48,6 @@ fn both_totals(before: Totals, rest: Totals) -> Totals
         source: before.source + rest.source,
         channel: before.channel + rest.channel,
         unused: before.unused + rest.unused,
-        two: before.two & rest.two,
         unused2: both_unused(before, rest),
     }
 }
@@ -63,22 +56,12 @@ fn both_totals(before: Totals, rest: Totals) -> Totals
 fn carried_fits(buffers: Buffers, at: Levels) -> bool
     ensures { result ≡ none_over (overfull (line_of buffers []).buckets (levels_of at).buckets) }
 {
-    if buffers.bucket < at.bucket {
+    if buffers.first.size < at.bucket {
         return false;
     }
-    if buffers.two & at.two {
-        return at.bucket2 <= buffers.bucket2;
-    }
-    true
-}
-
-// The first bytes of the old entries, in front of the list's others.
-fn put_first(entries: &mut [u8], old: &[u8], count: usize)
-    requires { (count ≤ length old.now) × (count ≤ length entries.old) }
-    ensures { entries.new ≡ take count old.now ++ drop count entries.old }
-{
-    for i in 0..count {
-        entries[i] = old[i];
+    match (buffers.second, at.bucket2) {
+        (Some(bucket), Some(level)) => level <= bucket.size,
+        _ => true,
     }
 }
 
@@ -95,12 +78,12 @@ fn plan_rest(
     old: &[u8],
     table: &mut [u32],
     entries: &mut [u8],
-) -> Planned
+) -> Result<Totals, Refusal>
     requires { Continues job.now (plain header) line pins.now first (levels_of at) before old.now table.old entries.old }
     ensures { planned result table.new entries.new ≡ behind (totals_of before) (take (3 * first) old.now) entries.old (search_in (job_on job.now line) (lines header.units pins.now) total (order_is order) first (levels_of at) table.old (drop (3 * first) entries.old)) }
 {
     let start = entry::SIZE * first;
-    match planner::search(
+    let rest = planner::search(
         Aim::Total,
         order,
         job,
@@ -111,13 +94,9 @@ fn plan_rest(
         at,
         table,
         &mut entries[start..],
-    ) {
-        Planned::Refused(n) => Planned::Refused(n),
-        Planned::Best(rest) => {
-            put_first(entries, old, start);
-            Planned::Best(both_totals(before, rest))
-        }
-    }
+    )?;
+    entries[..start].copy_from_slice(&old[..start]);
+    Ok(both_totals(before, rest))
 }
 
 // Whether the rest can be planned over the line after `first` intervals, with lists of these lengths: 18, 19, 20, 11, then 12.
@@ -130,33 +109,31 @@ fn rest_verdict(
     first: usize,
     table: usize,
     entries: usize,
-) -> Verdict
+) -> Result<(), Refusal>
     requires { Follows job.now (plain header) line (set_of set) old.now }
     ensures { verdict result ≡ refusal (rest_tests (job_in job.now) (job_on job.now line) (lines header.units (set_of set).pins) old.now first table entries) }
 {
     let pins = set.pins;
     let total = entry::intervals(header);
     if first < 1 {
-        return Verdict::Refused(refusal::INTERVAL);
+        return Err(Refusal::Interval);
     }
     if total <= first {
-        return Verdict::Refused(refusal::INTERVAL);
+        return Err(Refusal::Interval);
     }
-    match front::follow(job, header, &pins, old, first) {
-        Front::Breaks => Verdict::Refused(refusal::VIOLATION),
-        Front::Leads { at, sum: _ } => {
-            if !carried_fits(line.buffers, at) {
-                return Verdict::Refused(planner::refusal::LEVELS);
-            }
-            if table < table::words_over(header, line.buffers) {
-                return Verdict::Refused(planner::refusal::TABLE);
-            }
-            if entries < entry::SIZE * total {
-                return Verdict::Refused(header::refusal::LIST);
-            }
-            Verdict::Fits
-        }
+    let Some(Front { at, .. }) = front::follow(job, header, &pins, old, first) else {
+        return Err(Refusal::Violation);
+    };
+    if !carried_fits(line.buffers, at) {
+        return Err(Refusal::Levels);
     }
+    if table < table::words_over(header, line.buffers) {
+        return Err(Refusal::Table);
+    }
+    if entries < entry::SIZE * total {
+        return Err(Refusal::List);
+    }
+    Ok(())
 }
 
 // What refuses a change for a job that the set matches, with lists of these lengths: the old plan, 14, the new contract, 3, 17 and 4, then the rest.
@@ -171,21 +148,22 @@ pub fn change_verdict(
     drains: &[u16],
     table: usize,
     entries: usize,
-) -> Verdict
+) -> Result<(), Refusal>
     requires { Ready job.now (plain header) (set_of set) }
     ensures { verdict result ≡ refusal (change_tests (job_in job.now) (lines header.units (set_of set).pins) old.now first (contract rates.now sizes.now drains.now) table entries) }
 {
     if !entry::shaped(header, old) {
-        return Verdict::Refused(entry::refusal::PLAN);
+        return Err(Refusal::Plan);
     }
-    if !contract::offered(header.two, rates, sizes, drains) {
-        return Verdict::Refused(header::refusal::HEADER);
+    let two = header.second.is_some();
+    if !contract::offered(two, rates, sizes, drains) {
+        return Err(Refusal::Header);
     }
-    if !contract::draining(header.two, sizes, drains) {
-        return Verdict::Refused(header::refusal::NEVER_DRAINS);
+    if !contract::draining(two, sizes, drains) {
+        return Err(Refusal::NeverDrains);
     }
     if !contract::rising(rates) {
-        return Verdict::Refused(header::refusal::RATES);
+        return Err(Refusal::Rates);
     }
     let line = contract::line_under(header, rates, sizes, drains);
     rest_verdict(job, header, line, set, old, first, table, entries)
@@ -202,17 +180,17 @@ fn change_over(
     first: usize,
     table: &mut [u32],
     entries: &mut [u8],
-) -> Planned
+) -> Result<Totals, Refusal>
     requires { Follows job.now (plain header) line (set_of set) old.now × Passes job.now line (set_of set) old.now first (length table.old) (length entries.old) }
     ensures { planned result table.new entries.new ≡ change_in (job_in job.now) (job_on job.now line) (lines header.units (set_of set).pins) old.now first (order_is order) table.old entries.old }
 {
     let pins = set.pins;
-    match front::follow(job, header, &pins, old, first) {
-        Front::Breaks => Planned::Refused(refusal::VIOLATION),
-        Front::Leads { at, sum } => plan_rest(
-            order, job, header, line, &pins, first, at, sum, old, table, entries,
-        ),
-    }
+    let Some(Front { at, sum }) = front::follow(job, header, &pins, old, first) else {
+        return Err(Refusal::Violation);
+    };
+    plan_rest(
+        order, job, header, line, &pins, first, at, sum, old, table, entries,
+    )
 }
 
 // A change for a job that the set matches.
@@ -228,11 +206,11 @@ fn change_checked(
     order: Order,
     table: &mut [u32],
     entries: &mut [u8],
-) -> Planned
+) -> Result<Totals, Refusal>
     requires { Ready job.now (plain header) (set_of set) }
     ensures { planned result table.new entries.new ≡ changed_for job.now (set_of set) old.now first (contract rates.now sizes.now drains.now) (order_is order) table.old entries.old }
 {
-    if let Verdict::Refused(n) = change_verdict(
+    change_verdict(
         job,
         header,
         set,
@@ -243,9 +221,7 @@ fn change_checked(
         drains,
         table.len(),
         entries.len(),
-    ) {
-        return Planned::Refused(n);
-    }
+    )?;
     let line = contract::line_under(header, rates, sizes, drains);
     change_over(order, job, header, line, set, old, first, table, entries)
 }
@@ -262,13 +238,11 @@ pub fn change(
     order: Order,
     table: &mut [u32],
     entries: &mut [u8],
-) -> Planned
+) -> Result<Totals, Refusal>
     ensures { planned result table.new entries.new ≡ change_call job.now (set_of set) old.now first (contract rates.now sizes.now drains.now) (order_is order) table.old entries.old }
 {
-    match pinset::check(job, set, Door::Opening) {
-        Reading::Refused(n) => Planned::Refused(n),
-        Reading::Read { header, taken: _ } => change_checked(
-            job, header, set, old, first, rates, sizes, drains, order, table, entries,
-        ),
-    }
+    let header = pinset::check(job, set, Door::Opening)?.header;
+    change_checked(
+        job, header, set, old, first, rates, sizes, drains, order, table, entries,
+    )
 }

@@ -17,7 +17,10 @@ use Rattle.pinning.specs.PinSet.{PinSet, lines}
 use Rattle.pinning.specs.Check.{checked}
 use Rattle.pinning.specs.Numbers.{set_in}
 use Rattle.pinset.proofs.Answering.{ready, ready_took}
-use Rattle.planner.specs.declared.Planned.{Planned}
+use Rattle.std.specs.Prelude.{Result}
+use Rattle.interval.specs.declared.Totals.{Totals}
+use Rattle.header.specs.declared.refusal.Refusal.{Refusal}
+use Rattle.header.specs.Refusals.{code}
 use Rattle.planner.specs.Answers as planner
 use Rattle.changing.specs.NewContract.{Contract}
 use Rattle.changing.specs.Calls.{change_tests, change_call}
@@ -46,11 +49,11 @@ module _ (job l : List ℕ) (own : PinSet) (named : own ≡ set_in l) (old : Lis
     pub change_12 : length values < 3 + buckets_in job → set_planned 12 table entries values ≡ change_export job l old s c order table entries values
     change_12 h = few (λ n. set_planned n table entries values) O (3 + buckets_in job) values _ e h ∙ sym export_is
 
-    pub change_told : 3 + buckets_in job ≤ length values → (o : Order) → o ≡ order_named order → (x : Planned) (t p : List ℕ) → planner.planned x t p ≡ change_call job own old s c o table entries → (r : ℕ) (new : List ℕ) → Told x values r new → set_planned r t p new ≡ change_export job l old s c order table entries values
+    pub change_told : 3 + buckets_in job ≤ length values → (o : Order) → o ≡ order_named order → (x : Result Totals Refusal) (t p : List ℕ) → planner.planned x t p ≡ change_call job own old s c o table entries → (r : Result (Unit {0}) Refusal) (new : List ℕ) → Told x values r new → set_planned (code r) t p new ≡ change_export job l old s c order table entries values
     change_told room o q x t p i r new h = found_told x t p _ i values r new h ∙ ap (λ (o : Order). after_plan (change_call job own old s c o table entries) values) q ∙ sym (export_is ∙ behind (λ n. set_planned n table entries values) O (3 + buckets_in job) values _ e room)
 
 -- there is room for the values that the code writes
-pub change_room : (b : List ℕ) (own : PinSet) (old : List ℕ) (s : ℕ) (c : Contract) (o : Order) (table entries : List ℕ) (x : Planned) (t p : List ℕ) → planner.planned x t p ≡ change_call b own old s c o table entries → (n : ℕ) → 3 + buckets_in b ≤ n → Room x n
+pub change_room : (b : List ℕ) (own : PinSet) (old : List ℕ) (s : ℕ) (c : Contract) (o : Order) (table entries : List ℕ) (x : Result Totals Refusal) (t p : List ℕ) → planner.planned x t p ≡ change_call b own old s c o table entries → (n : ℕ) → 3 + buckets_in b ≤ n → Room x n
 change_room b own old s c o table entries x t p i = found_room (buckets_in b) x t p _ i (change_counts b own old s c o table entries)
 
 -- what refuses it

@@ -3,17 +3,16 @@
 #![tactic(auto)]
 
 ghost use Rattle.std.specs.Prelude.{◌≡◌};
+ghost use Rattle.header.specs.Refusals.{code};
 ghost use Rattle.header.specs.Answers.{verdict};
 ghost use Rattle.pinset.specs.Answers.{set_of};
 ghost use Rattle.contract.specs.Answers.{contract};
 ghost use Rattle.exporting.specs.Sets.{set_planned};
 ghost use Rattle.exporting.specs.Changes.{set_change_refusal, change_export};
 
-use header::{Door, Verdict};
-use job::Reading;
+use header::{Door, Refusal};
 use pinset::PinSet;
 use planned::PLAN_VALUES;
-use values::SHORT_LIST;
 
 // No aim is named: 0 is the least total.
 const TOTAL: u32 = 0;
@@ -30,20 +29,14 @@ fn set_refusal(
     drains: &[u16],
     table: usize,
     entries: usize,
-) -> Verdict
+) -> Result<(), Refusal>
     ensures { verdict result ≡ set_change_refusal job.now (set_of set) order old.now first (contract rates.now sizes.now drains.now) table entries }
 {
-    match pinset::check(job, set, Door::Opening) {
-        Reading::Refused(n) => Verdict::Refused(n),
-        Reading::Read { header, taken: _ } => {
-            if let Verdict::Refused(n) = session::named_verdict(TOTAL, order) {
-                return Verdict::Refused(n);
-            }
-            change::change_verdict(
-                job, header, set, old, first, rates, sizes, drains, table, entries,
-            )
-        }
-    }
+    let header = pinset::check(job, set, Door::Opening)?.header;
+    session::named_verdict(TOTAL, order)?;
+    change::change_verdict(
+        job, header, set, old, first, rates, sizes, drains, table, entries,
+    )
 }
 
 // Plans the rest of a programme afresh, behind the first `first` entries of the old plan, under a contract of rates, sizes and drains and with the pins of a set as numbers, in the order that a number names; 13 writes the table alone. Values: distortion, source size and channel size of the whole plan, then the unused drain of each bucket.
@@ -59,12 +52,12 @@ pub fn change(
     table: &mut [u32],
     entries: &mut [u8],
     values: &mut [u64],
-) -> u32
-    ensures { set_planned result table.new entries.new values.new ≡ change_export job.now set.now old.now first (contract rates.now sizes.now drains.now) order table.old entries.old values.old }
+) -> Result<(), Refusal>
+    ensures { set_planned (code result) table.new entries.new values.new ≡ change_export job.now set.now old.now first (contract rates.now sizes.now drains.now) order table.old entries.old values.old }
 {
     let own = numbers::set_in(set);
     let kept = first as usize;
-    if let Verdict::Refused(n) = set_refusal(
+    set_refusal(
         job,
         own,
         order,
@@ -75,12 +68,10 @@ pub fn change(
         drains,
         table.len(),
         entries.len(),
-    ) {
-        return n as u32;
-    }
+    )?;
     let buckets = values::buckets_in(job);
     if values.len() < PLAN_VALUES + buckets {
-        return SHORT_LIST;
+        return Err(Refusal::List);
     }
     let order = session::order_named(order);
     let found = change::change(

@@ -17,30 +17,29 @@ use Rattle.pinning.specs.PinSet.{PinSet}
 use Rattle.pinning.specs.Calls.{Handed, refuse, take_in, call}
 use Rattle.pinset.specs.declared.PinSet as code_set
 use Rattle.pins.specs.declared.Handed as pins
-use Rattle.pins.specs.declared.Answer.TheVariants as answer
+use Rattle.std.specs.Prelude.{Result, Err}
+use Rattle.header.specs.declared.refusal.Refusal.{Refusal}
+use Rattle.header.specs.Refusals.{number}
 use Rattle.pinset.specs.Answers.{set_of}
-use Rattle.pins.specs.Answers.{number, handed}
+use Rattle.pins.specs.Answers.{handed}
 use Rattle.calling.proofs.Commands.{command_sized}
 use Rattle.calling.specs.Commands.{command, follow}
 use Rattle.commands.specs.declared.Command.{Command}
 use Rattle.commands.specs.Answers.{command_is, Step, step_is, on_command, carries_out}
 
 -- one command, as the code reads it from all that is left
-module _ (b : List ℕ) (s : code_set.PinSet) (at : ℕ) (x : Command) (e : command_is x ≡ command (take (length b - at) (drop at b))) where
+module _ (b : List ℕ) (s : code_set.PinSet) (at : ℕ) (x : Result Command Refusal) (e : command_is x ≡ command (take (length b - at) (drop at b))) where
   here : command (drop at b) ≡ command_is x
   here = ap command (sym (rest_of at b)) ∙ sym e
 
-  pub carry_refused : (n : ℕ) → command_is x ≡ P.refused n → step_is (record { answer = answer.Refused n; set = s; next = at }) ≡ carries_out b (set_of s) at
-  unfolding step_is carries_out on_command number
+  pub carry_refused : (n : Refusal) → command_is x ≡ P.refused (number n) → step_is (record { answer = Err n; set = s; next = at }) ≡ carries_out b (set_of s) at
+  unfolding step_is carries_out on_command
   carry_refused n q = rw (here, q)
 
   module _ (k : Call) (u : ℕ) (q : command_is x ≡ P.took k u) where
     pub carry_took : (h : pins.Handed) → handed h ≡ call b (set_of s) k → step_is (record { answer = h.answer; set = h.set; next = at + u }) ≡ carries_out b (set_of s) at
     unfolding step_is carries_out on_command handed
     carry_took h p = rw (here, q, ← p)
-
-    pub carry_room : at ≤ length b → at + u ≤ length b
-    carry_room h = omega (arith, command_sized (drop at b) k u (here ∙ q), length-drop at b)
 
 -- one command, and what is left after it
 module _ (b : List ℕ) (s : PinSet) (at : ℕ) where

@@ -11,12 +11,14 @@ use Rattle.format.specs.JobBytes.{opening, parse}
 use Rattle.format.proofs.Places.{read_within}
 use Rattle.pinning.specs.Calls.{open_call, refuse}
 use Rattle.pins.specs.declared.Opened.{Opened}
-use Rattle.pins.specs.declared.Opening.TheVariants as o
+use Rattle.std.specs.Prelude.{Ok, Err}
+use Rattle.header.specs.declared.refusal.Refusal.{Refusal}
+use Rattle.header.specs.Refusals.{number}
+use Rattle.header.specs.Answers.{answer_by, verdict}
 use Rattle.pins.specs.declared.Handed as pins
-use Rattle.pins.specs.declared.Answer.TheVariants as a
 use Rattle.pinset.specs.Answers.{set_of}
 use Rattle.pins.specs.Answers as told
-use Rattle.pins.specs.Answers.{opening_answer, number, handed}
+use Rattle.pins.specs.Answers.{handed}
 use Rattle.pins.proofs.Opens.{Open, is_open, not_open, answer_is, state_is}
 use Rattle.model.specs.Best.{early, total}
 use Rattle.planning.specs.Calls.{Planned, plan_call}
@@ -26,16 +28,15 @@ use Rattle.calling.specs.Sessions.{input_size, input_call}
 
 -- x is the answer of opening
 module _ (b : List ℕ) (x : Opened) (e : told.opening x ≡ open_call opening b) where
-  pub no_job : (n : ℕ) → x.answer ≡ o.Refused n → handed (record { answer = a.Refused n; set = x.set }) ≡ commands_call b
-  unfolding opening_answer handed number commands_call on_took refuse
+  pub no_job : (n : Refusal) → x.answer ≡ Err n → handed (record { answer = Err n; set = x.set }) ≡ commands_call b
+  unfolding handed commands_call on_took refuse
   no_job n q =
-      let r = not_open (parse opening b) n (answer_is opening b x e ∙ ap opening_answer q) in
+      let r = not_open (parse opening b) (number n) (answer_is opening b x e ∙ ap (answer_by (λ k. k)) q) in
       rw (state_is opening b x e ∙ r.1, r.0)
 
-  module _ (k : ℕ) (q : x.answer ≡ o.Took k) where
+  module _ (k : ℕ) (q : x.answer ≡ Ok k) where
     open_at : Open (parse opening b) k
-    unfolding opening_answer
-    open_at = is_open (parse opening b) k (answer_is opening b x e ∙ ap opening_answer q)
+    open_at = is_open (parse opening b) k (answer_is opening b x e ∙ ap (answer_by (λ k. k)) q)
 
     pub job_within : k ≤ length b
     job_within = read_within opening b open_at.job k open_at.is
@@ -54,14 +55,12 @@ module _ (b table entries : List ℕ) where
 
   -- x is what the commands came to
   module _ (h : length b ≤ input_size) (x : pins.Handed) (e : handed x ≡ commands_call b) where
-    short : input_call b table entries ≡ unless (plan.refuse table entries) (number x.answer) (plan_call b (set_of x.set) total early table entries)
+    short : input_call b table entries ≡ unless (plan.refuse table entries) (verdict x.answer) (plan_call b (set_of x.set) total early table entries)
     unfolding input_call handed
     short = guarded_last (plan.refuse table entries) _ work (le-leb (length b) input_size h) ∙ rw (← e)
 
-    pub input_refused : (n : ℕ) → x.answer ≡ a.Refused n → plan.refuse table entries n ≡ input_call b table entries
-    unfolding number
-    input_refused n q = sym (short ∙ unless_some (plan.refuse table entries) _ n _ (ap number q))
+    pub input_refused : (n : Refusal) → x.answer ≡ Err n → plan.refuse table entries (number n) ≡ input_call b table entries
+    input_refused n q = sym (short ∙ unless_some (plan.refuse table entries) _ (number n) _ (ap verdict q))
 
-    pub input_planned : x.answer ≡ a.Done → plan_call b (set_of x.set) total early table entries ≡ input_call b table entries
-    unfolding number
-    input_planned q = sym (short ∙ unless_none (plan.refuse table entries) _ _ (ap number q))
+    pub input_planned : x.answer ≡ Ok tt → plan_call b (set_of x.set) total early table entries ≡ input_call b table entries
+    input_planned q = sym (short ∙ unless_none (plan.refuse table entries) _ _ (ap verdict q))

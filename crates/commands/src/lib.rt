@@ -2,8 +2,6 @@
 
 #![tactic(auto)]
 
-pub mod refusal;
-
 ghost use Rattle.std.specs.Prelude.{◌≡◌, ◌<◌, ◌≤◌, length, drop};
 ghost use Rattle.pinset.specs.Answers.{set_of};
 ghost use Rattle.pins.specs.Answers.{handed};
@@ -13,24 +11,24 @@ ghost use Rattle.calling.specs.Sessions.{input_call};
 ghost use Rattle.commands.specs.Answers.{command_is, step_is, carries_out};
 
 use best::Order;
-use header::{Door, Verdict};
+use header::{Door, Refusal};
+use interval::Totals;
 use pins::kind::{LIFT, PIN};
-use pins::{Answer, Handed, Opening};
+use pins::{Handed, Opened};
 use pinset::PinSet;
-use planner::{Aim, Planned};
+use planner::Aim;
 
-// A command record, or the number that refuses it.
-#[derive(Clone, Copy)]
+// A command record.
+#[derive(Clone, Copy, Debug, PartialEq, Eq)]
 enum Command {
     Pin { unit: u16, choice: u16 },
     Lift { unit: u16 },
-    Refused(u8),
 }
 
 // What one command comes to: its answer, the set after it and where the next stands.
 #[derive(Clone, Copy)]
 struct Step {
-    answer: Answer,
+    answer: Result<(), Refusal>,
     set: PinSet,
     next: usize,
 }
@@ -49,26 +47,22 @@ const LIFT_SIZE: usize = 6;
 const MOST_INPUT: usize = 32768;
 
 // The command record at the front of these bytes: by its kind a lift, else a pin.
-fn read_command(rest: &[u8]) -> Command
+fn read_command(rest: &[u8]) -> Result<Command, Refusal>
     ensures { command_is result ≡ command rest.now }
 {
     match fields::field16(rest, 2) {
         LIFT => {
-            if let Verdict::Refused(n) = job::plain_verdict(rest, LIFT, LIFT_FIELDS) {
-                return Command::Refused(n);
-            }
-            Command::Lift {
+            job::plain_verdict(rest, LIFT, LIFT_FIELDS)?;
+            Ok(Command::Lift {
                 unit: fields::field16(rest, 4),
-            }
+            })
         }
         _ => {
-            if let Verdict::Refused(n) = job::plain_verdict(rest, PIN, PIN_FIELDS) {
-                return Command::Refused(n);
-            }
-            Command::Pin {
+            job::plain_verdict(rest, PIN, PIN_FIELDS)?;
+            Ok(Command::Pin {
                 unit: fields::field16(rest, 4),
                 choice: fields::field16(rest, 6),
-            }
+            })
         }
     }
 }
@@ -79,28 +73,24 @@ fn carry_out(job: &[u8], set: PinSet, at: usize) -> Step
     ensures { step_is result ≡ carries_out job.now (set_of set) at }
 {
     match read_command(&job[at..]) {
-        Command::Refused(n) => Step {
-            answer: Answer::Refused(n),
+        Err(refusal) => Step {
+            answer: Err(refusal),
             set,
             next: at,
         },
-        Command::Pin { unit, choice } => {
+        Ok(Command::Pin { unit, choice }) => {
             let made = pins::pin(job, set, unit, choice);
-            let answer = made.answer;
-            let held = made.set;
             Step {
-                answer,
-                set: held,
+                answer: made.answer,
+                set: made.set,
                 next: at + PIN_SIZE,
             }
         }
-        Command::Lift { unit } => {
+        Ok(Command::Lift { unit }) => {
             let made = pins::lift(job, set, unit);
-            let answer = made.answer;
-            let held = made.set;
             Step {
-                answer,
-                set: held,
+                answer: made.answer,
+                set: made.set,
                 next: at + LIFT_SIZE,
             }
         }
@@ -118,16 +108,16 @@ fn follow(job: &[u8], fresh: PinSet, from: usize) -> Handed
         let done = carry_out(job, set, at);
         let answer = done.answer;
         set = done.set;
-        if let Answer::Refused(n) = answer {
+        if let Err(refusal) = answer {
             return Handed {
-                answer: Answer::Refused(n),
+                answer: Err(refusal),
                 set,
             };
         }
         at = done.next;
     }
     Handed {
-        answer: Answer::Done,
+        answer: Ok(()),
         set,
     }
 }
@@ -136,30 +126,24 @@ fn follow(job: &[u8], fresh: PinSet, from: usize) -> Handed
 pub fn take_commands(input: &[u8]) -> Handed
     ensures { handed result ≡ commands_call input.now }
 {
-    let opened = pins::open(input, Door::Opening);
-    let answer = opened.answer;
-    let set = opened.set;
+    let Opened { answer, set } = pins::open(input, Door::Opening);
     match answer {
-        Opening::Refused(n) => Handed {
-            answer: Answer::Refused(n),
+        Err(refusal) => Handed {
+            answer: Err(refusal),
             set,
         },
-        Opening::Took(taken) => follow(input, set, taken),
+        Ok(taken) => follow(input, set, taken),
     }
 }
 
 // Plans what the program reads: a job, then command records to the end of the bytes. Input longer than the program takes is refused first.
-pub fn plan_input(input: &[u8], table: &mut [u32], entries: &mut [u8]) -> Planned
+pub fn plan_input(input: &[u8], table: &mut [u32], entries: &mut [u8]) -> Result<Totals, Refusal>
     ensures { planned result table.new entries.new ≡ input_call input.now table.old entries.old }
 {
     if MOST_INPUT < input.len() {
-        return Planned::Refused(refusal::INPUT);
+        return Err(Refusal::Input);
     }
-    let taken = take_commands(input);
-    let answer = taken.answer;
-    let set = taken.set;
-    match answer {
-        Answer::Refused(n) => Planned::Refused(n),
-        Answer::Done => planner::plan(input, set, Aim::Total, Order::Early, table, entries),
-    }
+    let Handed { answer, set } = take_commands(input);
+    answer?;
+    planner::plan(input, set, Aim::Total, Order::Early, table, entries)
 }

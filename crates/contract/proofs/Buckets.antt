@@ -9,10 +9,10 @@ use Rattle.std.specs.Prelude.{if◌then◌else◌}
 use Rattle.base.specs.If.{one_if}
 use Rattle.format.specs.Limits.{Limit, limit, kept, each_kept}
 use Rattle.format.specs.JobBytes.{Policed, opening, largest_sizes, bucket_limits, drain_limits}
-use Rattle.format.proofs.Limits.{is_kept}
+use Rattle.format.specs.Limits.{AllKept}
+use Rattle.format.proofs.Limits.{not_true, is_kept, all_fit, fit_all, not_all}
 use Rattle.header.specs.declared.Bucket.{Bucket}
 use Rattle.header.specs.Answers.{extra, policed_of}
-use Rattle.header.proofs.Verdicts.{first_not, one_fits, two_fit}
 use Rattle.changing.specs.NewContract.{policed_under, contract_limits}
 use Rattle.contract.specs.Answers.{contract, empty_bucket}
 
@@ -44,9 +44,28 @@ buckets_are false rates sizes drains m n = ap₂ (λ (s d : List ℕ). policed_u
 pub second_is : (two : Bool) (rates sizes drains : List ℕ) → length sizes ≡ 1 + extra two → length drains ≡ 1 + extra two → one_if two (bucket_in sizes drains 1) ≡ drop 1 (policed_under (contract rates sizes drains))
 second_is two rates sizes drains m n = ap (λ (ks : List Policed). drop 1 ks) (sym (buckets_are two rates sizes drains m n))
 
-pub no_second : (two : Bool) (rates sizes drains : List ℕ) → length sizes ≡ 1 + extra two → length drains ≡ 1 + extra two → two ≡ false → (k : Policed) → one_if two k ≡ drop 1 (policed_under (contract rates sizes drains))
+pub no_second : (two : Bool) (rates sizes drains : List ℕ) → length sizes ≡ 1 + extra two → length drains ≡ 1 + extra two → two ≡ false → [] ≡ drop 1 (policed_under (contract rates sizes drains))
 unfolding one_if
-no_second two rates sizes drains m n e k = rw (← second_is two rates sizes drains m n, e)
+no_second two rates sizes drains m n e = rw (← second_is two rates sizes drains m n, e)
+
+-- the limits of one bucket or two: the first's, then those of the second where there is one
+module _ (k l : Policed) (two : Bool) where
+  abbrev each : List Limit
+  each = bucket_limits largest_sizes (k ∷ one_if two l)
+
+  first_not : false ≡ each_kept (bucket_limits (255 ∷ []) (k ∷ [])) → false ≡ each_kept each
+  first_not e = not_all each (λ h. not_true (e ∙ sym (fit_all (bucket_limits (255 ∷ []) (k ∷ [])) (h.0, (h.1.0, (h.1.1.0, tt))))))
+
+  one_fits : true ≡ each_kept (bucket_limits (255 ∷ []) (k ∷ [])) → two ≡ false → true ≡ each_kept each
+  unfolding one_if
+  one_fits e q = rw q e
+
+  two_fit : true ≡ each_kept (bucket_limits (255 ∷ []) (k ∷ [])) → two ≡ true → (r : Bool) → r ≡ each_kept (bucket_limits (63 ∷ []) (l ∷ [])) → r ≡ each_kept each
+  unfolding one_if
+  two_fit e q r f = rw q (go (all_fit (bucket_limits (255 ∷ []) (k ∷ [])) (sym e)))
+    where
+      go : AllKept (bucket_limits (255 ∷ []) (k ∷ [])) → r ≡ each_kept (bucket_limits largest_sizes (k ∷ l ∷ []))
+      go h = unfold each_kept in (f ∙ rw (is_kept (limit 3 0 255 k.size) h.0, is_kept (limit 3 0 4095 k.drain) h.1.0, is_kept (limit 3 0 k.size k.fill) h.1.1.0))
 
 -- as many sizes and drains as buckets, and 1 to 16 rates
 pub record Counted (two : Bool) (rates sizes drains : List ℕ) : Type 0 where

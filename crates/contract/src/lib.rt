@@ -2,16 +2,17 @@
 
 #![tactic(auto)]
 
-ghost use Rattle.std.specs.Prelude.{◌≡◌, [], ◌+◌, ◌<◌, length, get_or, drop};
-ghost use Rattle.base.specs.If.{one_if};
+ghost use Rattle.std.specs.Prelude.{◌≡◌, [], ◌+◌, ◌<◌, map, length, get_or, drop};
+ghost use Rattle.std.specs.Option.{option_map, option_to_list};
+ghost use Rattle.interval.specs.Answers.{bucket_is};
 ghost use Rattle.format.specs.Limits.{each_kept};
-ghost use Rattle.format.specs.JobBytes.{opening, drain_limits, rate_limits};
+ghost use Rattle.format.specs.JobBytes.{opening, bucket_of, drain_limits, rate_limits};
 ghost use Rattle.header.specs.Answers.{extra, policed_of, plain};
 ghost use Rattle.changing.specs.NewContract.{policed_under, contract_limits};
 ghost use Rattle.contract.specs.Answers.{contract, empty_bucket, Offered, LineUnder};
 
-use header::{Bucket, Header, Verdict};
-use interval::Buffers;
+use header::{Bucket, Header};
+use interval::{Buffers, Policer};
 use line::Line;
 
 // How many buckets there are: one, or two.
@@ -81,25 +82,18 @@ pub fn draining(two: bool, sizes: &[u16], drains: &[u16]) -> bool
 pub fn rising(rates: &[u16]) -> bool
     ensures { result ≡ each_kept (rate_limits 0 rates.now) }
 {
-    match draft::rates_verdict(rates) {
-        Verdict::Refused(_) => false,
-        Verdict::Fits => true,
-    }
+    draft::rates_verdict(rates).is_ok()
 }
 
 // The second bucket, where there is one.
-fn second_of(two: bool, sizes: &[u16], drains: &[u16]) -> Bucket
+fn second_of(two: bool, sizes: &[u16], drains: &[u16]) -> Option<Policer>
     requires { (length sizes.now ≡ 1 + extra two) × (length drains.now ≡ 1 + extra two) }
-    ensures { one_if two (policed_of result) ≡ drop 1 (policed_under (contract [] sizes.now drains.now)) }
+    ensures { option_to_list (option_map bucket_is result) ≡ map bucket_of (drop 1 (policed_under (contract [] sizes.now drains.now))) }
 {
     if two {
-        return bucket_at(sizes, drains, 1);
+        return Some(Policer::of(bucket_at(sizes, drains, 1)));
     }
-    Bucket {
-        size: 0,
-        drain: 0,
-        fill: 0,
-    }
+    None
 }
 
 // The line of a job with this header under such a contract: its decoder, the new buckets and rates.
@@ -109,19 +103,12 @@ pub fn line_under(header: Header, rates: &[u16], sizes: &[u16], drains: &[u16]) 
 {
     let count = rates.len();
     let mut list = [0u16; 16];
-    for rate in 0..count {
-        list[rate] = rates[rate];
-    }
-    let first = bucket_at(sizes, drains, 0);
-    let second = second_of(header.two, sizes, drains);
+    list[..count].copy_from_slice(rates);
     Line {
         buffers: Buffers {
             decoder: header.decoder,
-            bucket: first.size,
-            drain: first.drain,
-            two: header.two,
-            bucket2: second.size,
-            drain2: second.drain,
+            first: Policer::of(bucket_at(sizes, drains, 0)),
+            second: second_of(header.second.is_some(), sizes, drains),
         },
         count: count as u16,
         rates: list,

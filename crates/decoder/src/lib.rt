@@ -14,7 +14,7 @@ ghost use Rattle.decoder.specs.Near.{far, near, closed, Upto, Numbers, NearWords
 use block::{BLOCK, LARGEST, NONE};
 
 // What is to be least: the sum of the distortions, or the greatest of them.
-#[derive(Clone, Copy)]
+#[derive(Clone, Copy, Debug, PartialEq, Eq)]
 pub enum Measure {
     Sum,
     Greatest,
@@ -42,18 +42,10 @@ pub fn with_choice(prices: &mut [u32; 256], free: bool, size: u16, distortion: u
     if BLOCK <= at {
         return;
     }
-    prices[at] = block::lesser(distortion, prices[at]);
+    prices[at] = distortion.min(prices[at]);
 }
 
 // The next layer is copied to the place of this one, with FAR for "cannot be completed", so that the inner loop adds and compares and looks at nothing else. A word is made from words before it: so the blocks are gone through downwards, each in the place of what it was made from.
-
-// The lesser of two numbers, compared as signed ones: that the machine does for several at a time.
-fn nearer(a: u32, b: u32) -> u32
-    requires { (a ≤ 2147483647) × (b ≤ 2147483647) }
-    ensures { result ≡ min a b }
-{
-    if (a as i32) < (b as i32) { a } else { b }
-}
 
 // A word of the next layer as a number of this pass.
 fn near_word(word: u32) -> u32
@@ -74,6 +66,7 @@ fn near_words(part: &mut [u32], size: usize)
     requires { size + size ≤ length part.old }
     ensures { Made 0 size (λ i. near (get_or part.old (size + i) 0)) part.old part.new }
 {
+    // kept as an index loop: nothing is proved of what is written through a zip with iter_mut, and copying first goes over the words twice
     for i in 0..size {
         let from = size + i;
         part[i] = near_word(part[from]);
@@ -85,26 +78,19 @@ fn close_words(block: &mut [u32; 256], count: usize)
     requires { (length block.old ≡ 256) × (count ≤ 256) }
     ensures { Made 0 count (λ i. closed (get_or block.old i 0)) block.old block.new }
 {
-    for i in 0..count {
-        block[i] = closed_word(block[i]);
+    for number in block[..count].iter_mut() {
+        *number = closed_word(*number);
     }
-}
-
-// The larger of the two.
-fn larger(a: u32, b: u32) -> u32
-    ensures { result ≡ max a b }
-{
-    if a < b { b } else { a }
 }
 
 // A distortion and what follows it.
 fn combined(distortion: u32, number: u32, measure: Measure) -> u32
     requires { (distortion ≤ bound) × (number ≤ far) }
-    ensures { (result ≡ combine measure distortion number) × (result ≤ 2147483647) }
+    ensures { result ≡ combine measure distortion number }
 {
     match measure {
         Measure::Sum => distortion + number,
-        Measure::Greatest => larger(distortion, number),
+        Measure::Greatest => distortion.max(number),
     }
 }
 
@@ -116,13 +102,14 @@ fn lessen_combined(
     distortion: u32,
     measure: Measure,
 )
-    requires { (length block.old ≡ 256) × (length words.now ≤ 256 - from) × (distortion ≤ bound) × Upto (length words.now) far words.now × Upto (length words.now) far (drop from block.old) }
+    requires { (length block.old ≡ 256) × (length words.now ≤ 256 - from) × (distortion ≤ bound) × Upto (length words.now) far words.now }
     ensures { Lessened from (length words.now) (λ i. combine measure distortion (get_or words.now i 0)) block.old block.new }
 {
+    // kept as an index loop: nothing is proved of what is written through a zip with iter_mut
     let count = words.len();
     for i in 0..count {
         let at = from + i;
-        block[at] = nearer(combined(distortion, words[i], measure), block[at]);
+        block[at] = combined(distortion, words[i], measure).min(block[at]);
     }
 }
 
@@ -141,9 +128,9 @@ fn with_size(
     ensures { Neared count (λ i. row_offer (combine measure) width words.now (start + i) (price_open size distortion)) block.old block.new }
 {
     let back = size * width;
-    let skip = block::beyond(back, start);
-    let from = block::beyond(start, back);
-    let end = from + block::beyond(count, skip);
+    let skip = back.saturating_sub(start);
+    let from = start.saturating_sub(back);
+    let end = from + count.saturating_sub(skip);
     lessen_combined(block, skip, &words[from..end], distortion, measure);
 }
 
@@ -162,9 +149,8 @@ fn decoded_block(
     ensures { LeastOf count (length sizes.now) (λ i j. row_offer (combine measure) width words.now (start + i) (priced prices.now (get_or sizes.now j 0))) block.new }
 {
     block::clear_words(block, count, FAR);
-    let offers = sizes.len();
-    for i in 0..offers {
-        let size = sizes[i] as usize;
+    for offer in sizes {
+        let size = *offer as usize;
         let distortion = prices[size];
         with_size(block, count, words, width, start, size, distortion, measure);
     }
@@ -185,8 +171,9 @@ fn decode_blocks(
 {
     let mut block = [FAR; 256];
     let mut left = size;
+    // the first block alone may be shorter, so no range counts them
     while 0 < left {
-        let count = block::smaller(BLOCK, left);
+        let count = BLOCK.min(left);
         let start = left - count;
         decoded_block(
             &mut block,
@@ -208,11 +195,8 @@ fn sizes_within(end: usize, width: usize) -> usize
     requires { 0 < width }
     ensures { SizesWithin end width result }
 {
-    let rows = block::beyond(end, 1) / width;
-    if BLOCK <= rows {
-        return BLOCK;
-    }
-    rows + 1
+    let rows = end.saturating_sub(1) / width;
+    BLOCK.min(rows + 1)
 }
 
 // One size more in a list of those that have a price: how many these are then.

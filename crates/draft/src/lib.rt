@@ -2,8 +2,6 @@
 
 #![tactic(auto)]
 
-pub mod refusal;
-
 ghost use Rattle.std.specs.Prelude.{◌≡◌, length};
 ghost use Rattle.format.specs.Limits.{broken};
 ghost use Rattle.format.specs.JobBytes.{rate_limits, coding_limits};
@@ -12,69 +10,70 @@ ghost use Rattle.header.specs.Answers.{plain, verdict};
 ghost use Rattle.writing.specs.Lists.{codings_from};
 ghost use Rattle.writing.specs.Calls.{length_limits, write_limits, write_refusal};
 
-use header::{Door, Header, Verdict};
+use header::{Door, Header, Refusal};
 
 // 16 where a list has not as many numbers as the header calls for.
-fn lengths_verdict(header: Header, rates: &[u16], sizes: &[u16], distortions: &[u32]) -> Verdict
+fn lengths_verdict(
+    header: Header,
+    rates: &[u16],
+    sizes: &[u16],
+    distortions: &[u32],
+) -> Result<(), Refusal>
     ensures { verdict result ≡ broken (length_limits (plain header) rates.now sizes.now distortions.now) }
 {
     let count = header.units as usize * (header.choices as usize);
     if rates.len() != header.rates as usize {
-        return Verdict::Refused(refusal::LENGTHS);
+        return Err(Refusal::Lengths);
     }
     if sizes.len() != count {
-        return Verdict::Refused(refusal::LENGTHS);
+        return Err(Refusal::Lengths);
     }
     if distortions.len() != count {
-        return Verdict::Refused(refusal::LENGTHS);
+        return Err(Refusal::Lengths);
     }
-    Verdict::Fits
+    Ok(())
 }
 
 // 4 where a rate is over its limit or does not rise.
-pub fn rates_verdict(rates: &[u16]) -> Verdict
+pub fn rates_verdict(rates: &[u16]) -> Result<(), Refusal>
     ensures { verdict result ≡ broken (rate_limits 0 rates.now) }
 {
     let mut low = 0;
-    for i in 0..rates.len() {
-        let rate = rates[i];
-        if !header::rate_fits(low, rate) {
-            return Verdict::Refused(header::refusal::RATES);
+    for rate in rates {
+        if !header::rate_fits(low, *rate) {
+            return Err(Refusal::Rates);
         }
-        low = rate + 1;
+        low = *rate + 1;
     }
-    Verdict::Fits
+    Ok(())
 }
 
 // 5 where a size or a distortion is over its limit.
-fn codings_verdict(sizes: &[u16], distortions: &[u32]) -> Verdict
+fn codings_verdict(sizes: &[u16], distortions: &[u32]) -> Result<(), Refusal>
     requires { length sizes.now ≡ length distortions.now }
     ensures { verdict result ≡ broken (coding_limits (codings_from sizes.now distortions.now)) }
 {
     for x in 0..sizes.len() {
         if !header::coding_fits(sizes[x], distortions[x]) {
-            return Verdict::Refused(header::refusal::CODINGS);
+            return Err(Refusal::Codings);
         }
     }
-    Verdict::Fits
+    Ok(())
 }
 
 // All limits in document 02's order: 3, 17, 16, 4, 5.
-fn lists_verdict(header: Header, rates: &[u16], sizes: &[u16], distortions: &[u32]) -> Verdict
+fn lists_verdict(
+    header: Header,
+    rates: &[u16],
+    sizes: &[u16],
+    distortions: &[u32],
+) -> Result<(), Refusal>
     ensures { verdict result ≡ broken (write_limits (plain header) rates.now sizes.now distortions.now) }
 {
-    if let Verdict::Refused(n) = header.verdict() {
-        return Verdict::Refused(n);
-    }
-    if let Verdict::Refused(n) = header.drains_verdict(Door::Opening) {
-        return Verdict::Refused(n);
-    }
-    if let Verdict::Refused(n) = lengths_verdict(header, rates, sizes, distortions) {
-        return Verdict::Refused(n);
-    }
-    if let Verdict::Refused(n) = rates_verdict(rates) {
-        return Verdict::Refused(n);
-    }
+    header.verdict()?;
+    header.drains_verdict(Door::Opening)?;
+    lengths_verdict(header, rates, sizes, distortions)?;
+    rates_verdict(rates)?;
     codings_verdict(sizes, distortions)
 }
 
@@ -95,14 +94,12 @@ pub fn write_refusal(
     sizes: &[u16],
     distortions: &[u32],
     out: usize,
-) -> Verdict
+) -> Result<(), Refusal>
     ensures { verdict result ≡ write_refusal (plain header) rates.now sizes.now distortions.now out }
 {
-    if let Verdict::Refused(n) = lists_verdict(header, rates, sizes, distortions) {
-        return Verdict::Refused(n);
-    }
+    lists_verdict(header, rates, sizes, distortions)?;
     if out < job_size(header) {
-        return Verdict::Refused(header::refusal::LIST);
+        return Err(Refusal::List);
     }
-    Verdict::Fits
+    Ok(())
 }

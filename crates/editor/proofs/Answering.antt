@@ -14,9 +14,12 @@ use Rattle.pinning.specs.PinSet.{PinSet}
 use Rattle.pinning.specs.Calls.{Handed, open_call, call}
 use Rattle.pinning.specs.Numbers.{set_numbers, set_in}
 use Rattle.pins.specs.declared.Opened.{Opened}
-use Rattle.pins.specs.declared.Opening.TheVariants as opens
+use Rattle.std.specs.Prelude.{Ok, Err}
+use Rattle.header.specs.declared.refusal.Refusal.{Refusal}
+use Rattle.header.specs.Refusals.{number}
+use Rattle.header.specs.Answers.{answer_by}
 use Rattle.pinset.specs.Answers.{set_of}
-use Rattle.pins.specs.Answers.{opening_answer, opening}
+use Rattle.pins.specs.Answers.{opening}
 use Rattle.pins.proofs.Opens.{Open, is_open, not_open, answer_is, state_is}
 use Rattle.exporting.specs.Exports.{Filled, filled}
 use Rattle.exporting.specs.Sets.{set_export, after_call, call_export}
@@ -24,14 +27,13 @@ use Rattle.exporting.proofs.SetRooms.{taken_long}
 
 -- opening
 module _ (d : Door) (job set : List ℕ) (r : Opened) (i : opening r ≡ open_call d job) where
-  pub open_refused : (n : ℕ) → r.answer ≡ opens.Refused n → filled n set ≡ set_export d job set
-  unfolding set_export on_took opening_answer
-  open_refused n e = rw (not_open _ n (answer_is d job r i ∙ ap opening_answer e)).0
+  pub open_refused : (n : Refusal) → r.answer ≡ Err n → filled (number n) set ≡ set_export d job set
+  unfolding set_export on_took
+  open_refused n e = rw (not_open _ (number n) (answer_is d job r i ∙ ap (answer_by (λ k. k)) e)).0
 
-  module _ (k : ℕ) (e : r.answer ≡ opens.Took k) where
+  module _ (k : ℕ) (e : r.answer ≡ Ok k) where
     here : Open (parse d job) k
-    unfolding opening_answer
-    here = is_open (parse d job) k (answer_is d job r i ∙ ap opening_answer e)
+    here = is_open (parse d job) k (answer_is d job r i ∙ ap (answer_by (λ k. k)) e)
 
     pub open_12 : length set < 528 → filled 12 set ≡ set_export d job set
     unfolding set_export on_took

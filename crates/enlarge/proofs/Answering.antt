@@ -57,7 +57,7 @@ module _ (b : List ℕ) (h : Header) (s : PinSet) (a : Ready b h s) (l : Line) (
   words_largest = ap words (sym (over_larger b l is.is 255 r w)) ∙ words_on
 
   -- and this many sizes there are
-  sizes_are : sizes J ≡ 255 - l.buffers.bucket + 1
+  sizes_are : sizes J ≡ 255 - l.buffers.first.size + 1
   unfolding sizes
   sizes_are = omega (arith, own_bucket b l is.is, is.fits.buffers.bucket)
 
@@ -75,11 +75,11 @@ module _ (b : List ℕ) (h : Header) (s : PinSet) (a : Ready b h s) (l : Line) (
       unfolding list_all size_tests
       past_11 = guarded_past (refuse table totals) _ _ work (le-leb (words (sized J 255)) (length table) (omega (arith, words_largest)))
 
-      pub all_12 : length totals < 255 - l.buffers.bucket + 1 → record { answer = refused 12; table = table; totals = totals } ≡ list_all J s table totals
+      pub all_12 : length totals < 255 - l.buffers.first.size + 1 → record { answer = refused 12; table = table; totals = totals } ≡ list_all J s table totals
       unfolding refuse
       all_12 g = sym (past_11 ∙ guarded_here (refuse table totals) _ _ work (lt-leb (sizes J) (length totals) (omega (arith, sizes_are))))
 
-      module _ (g : 255 - l.buffers.bucket + 1 ≤ length totals) where
+      module _ (g : 255 - l.buffers.first.size + 1 ≤ length totals) where
         -- with room for both, what the list asks
         pub lists : (start : Levels) → start ≡ start_of h → (pins : List ℕ) → length pins ≡ 512 → Lists b h l pins start table totals
         unfolding start_of

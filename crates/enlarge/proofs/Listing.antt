@@ -107,7 +107,7 @@ pub record Going (j : Job) (m : PinMap) (table totals : List ℕ) (i : ℕ) (new
 -- the line of a job: its own size, and the job over it with another
 module _ (b : List ℕ) (l : Line) (own : line_is l ≡ (job_in b).line) where
   -- its size is the job's
-  pub own_bucket : own_size (job_in b) ≡ l.buffers.bucket
+  pub own_bucket : own_size (job_in b) ≡ l.buffers.first.size
   unfolding line_is line_of
   own_bucket = ap (λ (x : model.Line). (bucket_at x.buckets 0).size) (sym own)
 
@@ -124,18 +124,18 @@ module _ (b : List ℕ) (h : Header) (l : Line) (pins : List ℕ) (s : Levels) (
   small : Bounded J
   small = bounded J (job_formed b h a.starts.opens)
 
-  own_is : own_size J ≡ l.buffers.bucket
+  own_is : own_size J ≡ l.buffers.first.size
   own_is = own_bucket b l a.own
 
   -- the sizes are at most 255, and each has its place among the totals
-  pub own_most : l.buffers.bucket ≤ 255
+  pub own_most : l.buffers.first.size ≤ 255
   own_most = a.starts.line.buffers.bucket
 
-  pub places : 256 ≤ l.buffers.bucket + length totals
+  pub places : 256 ≤ l.buffers.first.size + length totals
   places = omega (arith, own_is, a.space)
 
   -- over the line with a first bucket of some size, which is no smaller than the job's own
-  module _ (m : PinMap) (size : ℕ) (r : Line) (w : LineWith l size r) (no_less : l.buffers.bucket ≤ size) (most : size ≤ 255) where
+  module _ (m : PinMap) (size : ℕ) (r : Line) (w : LineWith l size r) (no_less : l.buffers.first.size ≤ size) (most : size ≤ 255) where
     over_it : job_on b r ≡ sized J size
     over_it = over_larger b l a.own size r w
 
@@ -165,13 +165,13 @@ module _ (b : List ℕ) (h : Header) (l : Line) (pins : List ℕ) (s : Levels) (
     going_none = record { totals_are = refl; long = refl; size = refl; rest = refl; no_more = least_most J m (own_size J + 0) small }
 
     -- one total more
-    module _ (i : ℕ) (t u : List ℕ) (before : ℕ) (g : Going J m table totals i t u before) (more : i < 255 - l.buffers.bucket) (r : Line) (w : LineWith l (l.buffers.bucket + i) r) where
+    module _ (i : ℕ) (t u : List ℕ) (before : ℕ) (g : Going J m table totals i t u before) (more : i < 255 - l.buffers.first.size) (r : Line) (w : LineWith l (l.buffers.first.size + i) r) where
       -- the total that is next
       at_it : encode mark (least_total (job_on b r) (unlimited m) 0 s) ≡ least_at J m (own_size J + i)
-      at_it = its_least m (l.buffers.bucket + i) r w (omega arith) (omega arith) ∙ ap (λ (n : ℕ). least_at J m (n + i)) (sym own_is)
+      at_it = its_least m (l.buffers.first.size + i) r w (omega arith) (omega arith) ∙ ap (λ (n : ℕ). least_at J m (n + i)) (sym own_is)
 
       pub going_limits : Limits b h r pins 0 s t
-      going_limits = limits m (l.buffers.bucket + i) r w (omega arith) (omega arith) t g.size
+      going_limits = limits m (l.buffers.first.size + i) r w (omega arith) (omega arith) t g.size
 
       -- it lies between the number at hand and that of the largest
       pub going_between : (last : ℕ) → last ≡ least_at J m 255 → Between (job_on b r) m s before last
@@ -186,12 +186,12 @@ module _ (b : List ℕ) (h : Header) (l : Line) (pins : List ℕ) (s : Levels) (
         totals_are = ap (λ (v : List ℕ). set v i x) g.totals_are ∙ build_more _ totals i x (omega (arith, places)) (d.total ∙ at_it);
         long = length-set u i x ∙ g.long;
         size = d.size ∙ g.size;
-        rest = d.rest (words (sized J 255)) (fewer m (l.buffers.bucket + i) r w (omega arith) (omega arith)) ∙ g.rest;
+        rest = d.rest (words (sized J 255)) (fewer m (l.buffers.first.size + i) r w (omega arith) (omega arith)) ∙ g.rest;
         no_more = rw (d.total ∙ at_it) (least_falls J m (own_size J + i) (own_size J + (i + 1)) small (omega arith));
       }
 
     -- all below the largest
-    pub going_all : (i : ℕ) (t u : List ℕ) (before : ℕ) → Going J m table totals i t u before → i ≡ 255 - l.buffers.bucket → Smaller J m table totals t u
+    pub going_all : (i : ℕ) (t u : List ℕ) (before : ℕ) → Going J m table totals i t u before → i ≡ 255 - l.buffers.first.size → Smaller J m table totals t u
     going_all i t u before g e =
         let n : i ≡ 255 - own_size J = omega (arith, own_is) in
         record {
@@ -224,10 +224,10 @@ module _ (b : List ℕ) (h : Header) (l : Line) (pins : List ℕ) (s : Levels) (
           totals_long = ap length g.totals_are ∙ over_length (build (255 - own_size J) (λ i. least_at J m (own_size J + i))) totals (omega (arith, build_length (255 - own_size J) (λ i. least_at J m (own_size J + i)), a.space, own_is, own_most))
 
           -- the last total stands behind the others, and the table is that of the largest over the list that was lent
-          pub all_listed : (x : ℕ) (new : List ℕ) → Found (job_on b r) m s t x new → AllListed J m table totals new (set u (255 - l.buffers.bucket) x)
+          pub all_listed : (x : ℕ) (new : List ℕ) → Found (job_on b r) m s t x new → AllListed J m table totals new (set u (255 - l.buffers.first.size) x)
           unfolding least_totals sizes
           all_listed x new d =
-              let i : 255 - l.buffers.bucket ≡ 255 - own_size J = omega (arith, own_is) in
+              let i : 255 - l.buffers.first.size ≡ 255 - own_size J = omega (arith, own_is) in
               let n : 255 - own_size J + 1 ≡ 256 - own_size J = omega (arith, own_is, own_most) in
               let top : 255 ≡ own_size J + (255 - own_size J) = omega (arith, own_is, own_most) in
               record {

@@ -1,7 +1,6 @@
 -- What the answers of this crate mean in the terms of `enlarging`, case by case, and what its private functions say and ask.
-use Rattle.std.specs.Prelude.{ℕ, ◌+◌, ◌-◌, ◌≤◌, ◌≡◌, List, length, drop}
+use Rattle.std.specs.Prelude.{ℕ, ◌+◌, ◌-◌, ◌≤◌, ◌≡◌, List, length, drop, Result}
 use Rattle.trellis.specs.Table.{encode}
-use Rattle.base.specs.Answer.{Answer, refused, gives}
 use Rattle.base.specs.Lists.{build}
 use Rattle.base.specs.Lent.{over}
 use Rattle.model.specs.Job as model
@@ -17,16 +16,12 @@ use Rattle.table.specs.Answers.{Starts}
 use Rattle.enlarging.specs.Larger.{with_size}
 use Rattle.enlarging.specs.Calls as calls
 use Rattle.enlarging.specs.Calls.{own_size, sized, least_at, least_totals}
-use Rattle.enlarge.specs.declared.Listed.{Listed}
-use Rattle.enlarge.specs.declared.Listed.TheVariants as p
+use Rattle.header.specs.declared.refusal.Refusal.{Refusal}
+use Rattle.header.specs.Answers.{done}
 
 -- the answer of the list, and the lists that were lent
-unfoldable pub answered : Listed → Answer (Unit {0})
-answered p.Done = gives tt
-answered (p.Refused n) = refused n
-
-unfoldable pub listed : Listed → List ℕ → List ℕ → calls.Listed
-listed x table totals = record { answer = answered x; table = table; totals = totals }
+unfoldable pub listed : Result (Unit {0}) Refusal → List ℕ → List ℕ → calls.Listed
+listed x table totals = record { answer = done x; table = table; totals = totals }
 
 -- What the private functions say and ask.
 

@@ -17,19 +17,10 @@ ghost use Rattle.enlarging.specs.Calls.{least_at, list_all, sizes_call};
 ghost use Rattle.enlarge.specs.Answers.{listed, LineWith, Found, Between, Told, Lists, Smaller, AllListed};
 
 use decoder::Measure;
-use header::{Choice, Door, Header};
-use interval::{Buffers, Levels};
-use job::Reading;
+use header::{Choice, Door, Header, Refusal};
+use interval::{Buffers, Levels, Policer};
 use line::Line;
 use pinset::PinSet;
-use table::Limit;
-
-// Whether the totals are listed, or the refusal's number.
-#[derive(Clone, Copy)]
-pub enum Listed {
-    Done,
-    Refused(u8),
-}
 
 // The line with a first bucket of this size, all else equal.
 fn line_with(line: Line, size: u16) -> Line
@@ -37,18 +28,12 @@ fn line_with(line: Line, size: u16) -> Line
     ensures { LineWith line size result }
 {
     let own = line.buffers;
-    let rates = line.rates;
     Line {
         buffers: Buffers {
-            decoder: own.decoder,
-            bucket: size,
-            drain: own.drain,
-            two: own.two,
-            bucket2: own.bucket2,
-            drain2: own.drain2,
+            first: Policer { size, ..own.first },
+            ..own
         },
-        count: line.count,
-        rates,
+        ..line
     }
 }
 
@@ -65,16 +50,7 @@ fn least_total(
     ensures { Found (job_on job.now line) (lines header.units pins.now) (levels_of start) table.old result table.new }
 {
     let first = 0;
-    table::fill_table(
-        job,
-        header,
-        line,
-        pins,
-        Limit::Free,
-        Measure::Sum,
-        first,
-        table,
-    );
+    table::fill_table(job, header, line, pins, None, Measure::Sum, first, table);
     line::word_at(table, line, first, start)
 }
 
@@ -112,7 +88,7 @@ fn list_smaller(
     requires { Lists job.now (plain header) line pins.now (levels_of start) table.old totals.old × (last ≡ least_at (job_in job.now) (lines header.units pins.now) 255) }
     ensures { Smaller (job_in job.now) (lines header.units pins.now) table.old totals.old table.new totals.new }
 {
-    let own = line.buffers.bucket;
+    let own = line.buffers.first.size;
     let count = Header::MAX_BUCKET - own;
     let mut before = line::NONE;
     for i in 0..count {
@@ -139,7 +115,7 @@ fn list_totals(
     let widest = line_with(line, Header::MAX_BUCKET);
     let last = least_total(job, header, widest, pins, start, table);
     list_smaller(job, header, line, pins, start, last, table, totals);
-    let place = (Header::MAX_BUCKET - line.buffers.bucket) as usize;
+    let place = (Header::MAX_BUCKET - line.buffers.first.size) as usize;
     totals[place] = least_total(job, header, widest, pins, start, table);
 }
 
@@ -150,7 +126,7 @@ fn list_checked(
     set: PinSet,
     table: &mut [u32],
     totals: &mut [u32],
-) -> Listed
+) -> Result<(), Refusal>
     requires { Ready job.now (plain header) (set_of set) }
     ensures { listed result table.new totals.new ≡ list_all (job_in job.now) (set_of set) table.old totals.old }
 {
@@ -159,22 +135,25 @@ fn list_checked(
     let start = Levels::start(header);
     let widest = line_with(line, Header::MAX_BUCKET).buffers;
     if table.len() < table::words_over(header, widest) {
-        return Listed::Refused(planner::refusal::TABLE);
+        return Err(Refusal::Table);
     }
-    let sizes = (Header::MAX_BUCKET - line.buffers.bucket) as usize + 1;
+    let sizes = (Header::MAX_BUCKET - line.buffers.first.size) as usize + 1;
     if totals.len() < sizes {
-        return Listed::Refused(header::refusal::LIST);
+        return Err(Refusal::List);
     }
     list_totals(job, header, line, &pins, start, table, totals);
-    Listed::Done
+    Ok(())
 }
 
 // Lists the least total for each size of the first bucket from the job's own to the largest, with the pins of a set; the mark stands where there is no plan. The table ends as that of the largest size.
-pub fn least_totals(job: &[u8], set: PinSet, table: &mut [u32], totals: &mut [u32]) -> Listed
+pub fn least_totals(
+    job: &[u8],
+    set: PinSet,
+    table: &mut [u32],
+    totals: &mut [u32],
+) -> Result<(), Refusal>
     ensures { listed result table.new totals.new ≡ sizes_call job.now (set_of set) table.old totals.old }
 {
-    match pinset::check(job, set, Door::Opening) {
-        Reading::Refused(n) => Listed::Refused(n),
-        Reading::Read { header, taken: _ } => list_checked(job, header, set, table, totals),
-    }
+    let header = pinset::check(job, set, Door::Opening)?.header;
+    list_checked(job, header, set, table, totals)
 }

@@ -2,8 +2,6 @@
 
 #![tactic(auto)]
 
-pub mod refusal;
-
 ghost use Rattle.std.specs.Prelude.{◌≡◌, ◌+◌, ◌*◌, ◌<◌, ◌≤◌, length};
 ghost use Rattle.header.specs.Answers.{plain};
 ghost use Rattle.replaying.specs.Entries.{entry_size, fits_under, shaped};

@@ -1,21 +1,31 @@
 -- Bytes written one after another from a place on, numbers of two and four bytes among them; and a field past the end.
-use Prim.Native.Nat.{ℕ, suc, ◌+◌, ◌*◌, ◌/◌, ◌%◌, ◌<◌}
+use Prim.Native.Nat.{ℕ, zero, suc, ◌+◌, ◌-◌, ◌/◌, ◌<◌, ◌≤◌}
 use mathlib.Core.Path.{◌≡◌, refl, sym, ap, ◌∙◌}
-use mathlib.Core.List.{List, [], ◌∷◌, ◌++◌}
+use mathlib.Core.List.{List, [], ◌∷◌, ◌++◌, append_assoc}
 use native.Mathlib.Omega.{arith}
 use native.Mathlib.Nat.{add-zero}
 use borrow.Author.Tests.{lt-leb}
-use lib.ListN.{length}
-use lib.Seq.{sets, length-sets}
-use Rattle.format.specs.Fields.{bytes}
+use lib.ListN.{length, take, drop, replicate, length-drop}
+use lib.Seq.{take_all, sets, length-sets, sets-eq}
+use borrow.Rule.Slice.PartMut.{put_mid, Post-is}
+use Rattle.std.specs.Int.{w16, w32, from_le_bytes, to_le_bytes}
+use Rattle.format.specs.Fields.{number, bytes}
 use Rattle.format.specs.Places.{field_at}
-use Rattle.format.proofs.Spelling.{bytes_length}
+use Rattle.format.proofs.Places.{field_there}
+use Rattle.std.specs.List.{slice_range}
 use Rattle.fields.specs.Written.{put_at}
 
 -- a field that is not wholly there is 0
 pub field_past : (w : ℕ) (b : List ℕ) (at : ℕ) → length b < at + w → field_at w b at ≡ 0
 unfolding field_at
 field_past w b at h = rw (lt-leb (at + w) (length b) h)
+
+-- one that is there stands at the front of what is left from its place on
+pub field_front : (w : ℕ) (b rest : List ℕ) (at : ℕ) → at ≤ length b → rest ≡ slice_range b at (length b) → w ≤ length rest → number (take w rest) ≡ field_at w b at
+field_front w b rest at h e f =
+    let d : rest ≡ drop at b = e ∙ take_all (length b - at) (drop at b) (rw length-drop (omega arith)) in
+    let n : length rest ≡ length b - at = ap length d ∙ length-drop at b in
+    ap (λ l. number (take w l)) d ∙ sym (field_there w b at (omega arith))
 
 -- what is written behind what is written
 put_more : (l : List ℕ) (at : ℕ) (vs ws : List ℕ) → sets l at (vs ++ ws) ≡ sets (sets l at vs) (at + length vs) ws
@@ -35,22 +45,44 @@ pub put_size : (l m : List ℕ) (at : ℕ) (vs : List ℕ) → m ≡ put_at l at
 unfolding put_at
 put_size l m at vs e = ap length e ∙ length-sets l at vs
 
--- a number of two bytes, and one of four as two of two
-pub two_bytes : (n : ℕ) → n < 65536 → bytes 2 n ≡ n % 256 ∷ n / 256 ∷ []
+-- the bytes put in the place of as many are those bytes written
+pub put_part : (l vs : List ℕ) (at : ℕ) → at + length vs ≤ length l → put_mid at (at + length vs - at) l vs ≡ put_at l at vs
+unfolding put_at
+put_part l vs at h = rw (Post-is at (at + length vs) l (omega arith)) (sym (sets-eq vs l at h ∙ append_assoc (take at l) vs (drop (at + length vs) l)))
+
+-- zeros stand for 0
+number_zeros : (w : ℕ) → number (replicate w 0) ≡ 0
+unfolding number
+number_zeros zero = refl
+number_zeros (suc w) = rw (number_zeros w)
+
+pub zeros_past : (w : ℕ) (b : List ℕ) (at : ℕ) → length b < at + w → number (replicate w 0) ≡ field_at w b at
+zeros_past w b at h = number_zeros w ∙ sym (field_past w b at h)
+
+-- what the library reads and writes as two and four bytes
+pub two_read : (l : List ℕ) → length l ≡ 2 → from_le_bytes w16 l ≡ number l
+unfolding number
+two_read [] h = absurd (omega arith)
+two_read (a ∷ []) h = absurd (omega arith)
+two_read (a ∷ b ∷ []) h = omega arith
+two_read (a ∷ b ∷ c ∷ l) h = absurd (omega arith)
+
+pub four_read : (l : List ℕ) → length l ≡ 4 → from_le_bytes w32 l ≡ number l
+unfolding number
+four_read [] h = absurd (omega arith)
+four_read (a ∷ []) h = absurd (omega arith)
+four_read (a ∷ b ∷ []) h = absurd (omega arith)
+four_read (a ∷ b ∷ c ∷ []) h = absurd (omega arith)
+four_read (a ∷ b ∷ c ∷ d ∷ []) h = omega arith
+four_read (a ∷ b ∷ c ∷ d ∷ e ∷ l) h = absurd (omega arith)
+
+pub two_written : (n : ℕ) → to_le_bytes w16 n ≡ bytes 2 n
 unfolding bytes
-two_bytes n h = let e : n / 256 % 256 ≡ n / 256 = omega arith in rw e
+two_written n = refl
 
-four_of : (r q : ℕ) → r < 65536 → bytes 4 (r + 65536 * q) ≡ bytes 2 r ++ bytes 2 q
+pub four_written : (n : ℕ) → to_le_bytes w32 n ≡ bytes 4 n
 unfolding bytes
-four_of r q h =
-    let a : (r + 65536 * q) % 256 ≡ r % 256 = omega arith in
-    let d : (r + 65536 * q) / 256 ≡ r / 256 + 256 * q = omega arith in
-    let b : (r / 256 + 256 * q) % 256 ≡ r / 256 % 256 = omega arith in
-    let c : (r / 256 + 256 * q) / 256 ≡ q = omega arith in
-    rw (a, d, b, c)
-
-pub four_bytes : (n : ℕ) → bytes 4 n ≡ bytes 2 (n % 65536) ++ bytes 2 (n / 65536)
-four_bytes n = let e : n ≡ n % 65536 + 65536 * (n / 65536) = omega arith in ap (bytes 4) e ∙ four_of (n % 65536) (n / 65536) (omega arith)
-
-pub put_four : (n : ℕ) (l a b : List ℕ) (at : ℕ) → a ≡ put_at l at (bytes 2 (n % 65536)) → b ≡ put_at a (at + 2) (bytes 2 (n / 65536)) → b ≡ put_at l at (bytes 4 n)
-put_four n l a b at e f = f ∙ rw (e, four_bytes n) (sym (put_next l at 2 (at + 2) (bytes 2 (n % 65536)) (bytes 2 (n / 65536)) (bytes_length 2 (n % 65536)) refl))
+four_written n =
+    let a : n / 256 / 256 ≡ n / 65536 = omega arith in
+    let b : n / 65536 / 256 ≡ n / 16777216 = omega arith in
+    rw (a, b)

@@ -7,25 +7,12 @@ ghost use Rattle.format.specs.Fields.{number, bytes};
 ghost use Rattle.format.specs.Places.{field_at};
 ghost use Rattle.fields.specs.Written.{put_at};
 
-// The number that two bytes stand for, the lower byte first.
-fn pair16(a: u8, b: u8) -> u16
-    ensures { result ≡ a + 256 * b }
-{
-    a as u16 + 256 * (b as u16)
-}
-
-fn pair32(a: u16, b: u16) -> u32
-    ensures { result ≡ a + 65536 * b }
-{
-    a as u32 + 65536 * (b as u32)
-}
-
 // The number that two bytes at a place are.
 pub fn u16_at(s: &[u8], at: usize) -> u16
     requires { at + 2 ≤ length s.now }
     ensures { result ≡ number (take 2 (drop at s.now)) }
 {
-    pair16(s[at], s[at + 1])
+    u16::from_le_bytes([s[at], s[at + 1]])
 }
 
 // The same of four bytes.
@@ -33,33 +20,42 @@ pub fn u32_at(s: &[u8], at: usize) -> u32
     requires { at + 4 ≤ length s.now }
     ensures { result ≡ number (take 4 (drop at s.now)) }
 {
-    pair32(u16_at(s, at), u16_at(s, at + 2))
+    u32::from_le_bytes([s[at], s[at + 1], s[at + 2], s[at + 3]])
+}
+
+// The bytes of a field at a place, all 0 where the bytes end before it does.
+fn field<const N: usize>(s: &[u8], at: usize) -> [u8; N]
+    ensures { number result ≡ field_at N s.now at }
+{
+    let Some(rest) = s.get(at..) else {
+        return [0; N];
+    };
+    match rest.first_chunk() {
+        Some(field) => *field,
+        None => [0; N],
+    }
 }
 
 // The field of two bytes at a place, 0 where the bytes end before it does.
 pub fn field16(s: &[u8], at: usize) -> u16
     ensures { result ≡ field_at 2 s.now at }
 {
-    if s.len() < 2 {
-        return 0;
-    }
-    if s.len() - 2 < at {
-        return 0;
-    }
-    u16_at(s, at)
+    u16::from_le_bytes(field(s, at))
 }
 
 // The same of four bytes.
 pub fn field32(s: &[u8], at: usize) -> u32
     ensures { result ≡ field_at 4 s.now at }
 {
-    if s.len() < 4 {
-        return 0;
-    }
-    if s.len() - 4 < at {
-        return 0;
-    }
-    u32_at(s, at)
+    u32::from_le_bytes(field(s, at))
+}
+
+// These bytes from a place on.
+fn put(out: &mut [u8], at: usize, new: &[u8])
+    requires { at + length new.now ≤ length out.old }
+    ensures { out.new ≡ put_at out.old at new.now }
+{
+    out[at..at + new.len()].copy_from_slice(new);
 }
 
 // A number as two bytes, the lower first.
@@ -67,9 +63,7 @@ pub fn put16(out: &mut [u8], at: usize, value: u16)
     requires { at + 2 ≤ length out.old }
     ensures { out.new ≡ put_at out.old at (bytes 2 value) }
 {
-    let next = at + 1;
-    out[at] = (value % 256) as u8;
-    out[next] = (value / 256) as u8;
+    put(out, at, &value.to_le_bytes());
 }
 
 // As four bytes.
@@ -77,7 +71,5 @@ pub fn put32(out: &mut [u8], at: usize, value: u32)
     requires { at + 4 ≤ length out.old }
     ensures { out.new ≡ put_at out.old at (bytes 4 value) }
 {
-    let next = at + 2;
-    put16(out, at, (value % 65536) as u16);
-    put16(out, next, (value / 65536) as u16);
+    put(out, at, &value.to_le_bytes());
 }

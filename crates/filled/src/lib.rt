@@ -3,28 +3,21 @@
 #![tactic(auto)]
 
 ghost use Rattle.std.specs.Prelude.{◌≡◌};
+ghost use Rattle.header.specs.Refusals.{code};
 ghost use Rattle.exporting.specs.Exports.{filled, report_export, turn_export};
 
-use former::Turned;
-use report::Reported;
-use values::DONE;
+use header::Refusal;
 
 // The effective buffer sizes of a plan: N + 1 sums.
-pub fn report(job: &[u8], entries: &[u8], sums: &mut [u32]) -> u32
-    ensures { filled result sums.new ≡ report_export job.now entries.now sums.old }
+pub fn report(job: &[u8], entries: &[u8], sums: &mut [u32]) -> Result<(), Refusal>
+    ensures { filled (code result) sums.new ≡ report_export job.now entries.now sums.old }
 {
-    match report::effective_buffers(job, entries, sums) {
-        Reported::Refused(n) => n as u32,
-        Reported::Done => DONE,
-    }
+    report::effective_buffers(job, entries, sums)
 }
 
 // Turns a stored plan of two bytes an interval into the entries of today: 3 × T bytes.
-pub fn turn(job: &[u8], old: &[u8], entries: &mut [u8]) -> u32
-    ensures { filled result entries.new ≡ turn_export job.now old.now entries.old }
+pub fn turn(job: &[u8], old: &[u8], entries: &mut [u8]) -> Result<(), Refusal>
+    ensures { filled (code result) entries.new ≡ turn_export job.now old.now entries.old }
 {
-    match former::turn(job, old, entries) {
-        Turned::Refused(n) => n as u32,
-        Turned::Done => DONE,
-    }
+    former::turn(job, old, entries)
 }

@@ -1,19 +1,14 @@
 -- What the answers of this crate mean in the terms of `replaying`.
-use Rattle.std.specs.Prelude.{ℕ, ◌≡◌, List}
-use Rattle.base.specs.Answer.{Answer, refused, gives}
+use Rattle.std.specs.Prelude.{ℕ, ◌≡◌, List, Result}
 use Rattle.base.specs.Lent.{Ended}
 use Rattle.replaying.specs.Former.{former_rate, former_choice}
 use Rattle.former.specs.declared.Entry.{Entry}
-use Rattle.former.specs.declared.Turned.{Turned}
-use Rattle.former.specs.declared.Turned.TheVariants as t
+use Rattle.header.specs.declared.refusal.Refusal.{Refusal}
+use Rattle.header.specs.Answers.{done}
 
 -- nothing more than that it was turned, or the refusal's number
-unfoldable pub turn_answer : Turned → Answer (Unit {0})
-turn_answer t.Done = gives tt
-turn_answer (t.Refused n) = refused n
-
-unfoldable pub turned : Turned → List ℕ → Ended (Unit {0})
-turned r list = record { answer = turn_answer r; list = list }
+unfoldable pub turned : Result (Unit {0}) Refusal → List ℕ → Ended (Unit {0})
+turned r list = record { answer = done r; list = list }
 
 -- the entry in a place
 pub record FormerRead (b : List ℕ) (place : ℕ) (e : Entry) : Type 0 where

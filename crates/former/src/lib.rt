@@ -11,21 +11,13 @@ ghost use Rattle.replaying.specs.Former.{former_mark, former_size, former_entry,
 ghost use Rattle.header.specs.Answers.{plain};
 ghost use Rattle.former.specs.Answers.{turned, FormerRead};
 
-use header::{Choice, Door, Header};
-use job::Reading;
+use header::{Choice, Door, Header, Refusal};
 
 // An entry of such a plan.
 #[derive(Clone, Copy)]
 struct Entry {
     rate: u8,
     choice: u8,
-}
-
-// Whether an old plan was turned, or the refusal's number.
-#[derive(Clone, Copy)]
-pub enum Turned {
-    Done,
-    Refused(u8),
 }
 
 // The mark of such a plan, how many bytes an entry took, and how many choices a job had at most.
@@ -92,26 +84,24 @@ fn put_entries(header: Header, old: &[u8], entries: &mut [u8])
 }
 
 // Turning for a job that was read: 14, then 12.
-fn turn_read(job: &[u8], header: Header, old: &[u8], entries: &mut [u8]) -> Turned
+fn turn_read(job: &[u8], header: Header, old: &[u8], entries: &mut [u8]) -> Result<(), Refusal>
     requires { Opens job.now (plain header) }
     ensures { turned result entries.new ≡ turn_call job.now old.now entries.old }
 {
     if !shaped(header, old) {
-        return Turned::Refused(entry::refusal::PLAN);
+        return Err(Refusal::Plan);
     }
     if entries.len() < entry::SIZE * entry::intervals(header) {
-        return Turned::Refused(header::refusal::LIST);
+        return Err(Refusal::List);
     }
     put_entries(header, old, entries);
-    Turned::Done
+    Ok(())
 }
 
 // Turns a stored plan of two bytes an interval, of a job with at most 31 choices, into the entries of today: rates and choices are kept, and 255 is read as the mark.
-pub fn turn(job: &[u8], old: &[u8], entries: &mut [u8]) -> Turned
+pub fn turn(job: &[u8], old: &[u8], entries: &mut [u8]) -> Result<(), Refusal>
     ensures { turned result entries.new ≡ turn_call job.now old.now entries.old }
 {
-    match job::read(job, Door::Archive) {
-        Reading::Refused(n) => Turned::Refused(n),
-        Reading::Read { header, taken: _ } => turn_read(job, header, old, entries),
-    }
+    let header = job::read(job, Door::Archive)?.header;
+    turn_read(job, header, old, entries)
 }

@@ -8,23 +8,23 @@ ghost use Rattle.pinning.specs.PinSet.{lines};
 ghost use Rattle.front.specs.Answers.{Remains, FrontOf};
 
 use header::{Choice, Header};
-use interval::{Buffers, Levels, Outcome, Totals};
+use interval::{Buffers, Levels, Totals};
 
-// Where they lead, and their totals; or that one of them has a violation.
-#[derive(Clone, Copy)]
-pub enum Front {
-    Leads { at: Levels, sum: Totals },
-    Breaks,
+// Where they lead, and their totals.
+#[derive(Clone, Copy, Debug, PartialEq, Eq)]
+pub struct Front {
+    pub at: Levels,
+    pub sum: Totals,
 }
 
-// The first `count` entries of a plan in shape, interval after interval.
+// The first `count` entries of a plan in shape, interval after interval; nothing where one of them has a violation.
 pub fn follow(
     job: &[u8],
     header: Header,
     pins: &[Choice; 512],
     entries: &[u8],
     count: usize,
-) -> Front
+) -> Option<Front>
     requires { Remains job.now (plain header) pins.now entries.now count }
     ensures { FrontOf (job_in job.now) (lines header.units pins.now) count entries.now result }
 {
@@ -33,13 +33,9 @@ pub fn follow(
     let mut sum = Totals::none(buffers);
     for place in 0..count {
         let x = course::interval_at(job, header, pins, entries, place);
-        match interval::step(buffers, at, x) {
-            Outcome::Violates(_) => return Front::Breaks,
-            Outcome::Reaches(next) => {
-                sum = interval::with_interval(sum, buffers, at, x);
-                at = next;
-            }
-        }
+        let next = interval::step(buffers, at, x).ok()?;
+        sum = interval::with_interval(sum, buffers, at, x);
+        at = next;
     }
-    Front::Leads { at, sum }
+    Some(Front { at, sum })
 }

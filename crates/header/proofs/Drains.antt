@@ -1,36 +1,25 @@
 -- What a door says of a header's drains, bucket by bucket.
-use mathlib.Core.Path.{◌≡◌, sym, ◌∙◌}
-use mathlib.Core.Bool.{true, false}
-use mathlib.Core.Option.{none, some}
-use mathlib.Core.List.{[], ◌∷◌}
-use Rattle.base.specs.If.{one_if}
-use Rattle.format.specs.Limits.{limit, kept, broken}
-use Rattle.format.specs.JobBytes.{drain_limits}
+use mathlib.Core.Path.{◌≡◌, refl, sym, ◌∙◌}
+use mathlib.Core.Bool.{Bool, true, false}
+use mathlib.Core.Option.{Option, none, some}
+use mathlib.Core.List.{List, [], ◌∷◌}
+use Prim.Native.Nat.{ℕ}
+use Rattle.base.specs.Refusals.{unless, first}
+use Rattle.format.specs.Limits.{Limit, limit, kept, broken}
 use Rattle.format.proofs.Limits.{broken_step, broken_here}
-use Rattle.header.specs.declared.Header as code
-use Rattle.header.specs.declared.Door.{Door}
-use Rattle.header.specs.declared.Door.TheVariants as d
-use Rattle.header.specs.Answers.{policed_of, plain, door_of}
 
-module _ (h : code.Header) (door : Door) where
-  pub archive_takes : door ≡ d.Archive → none ≡ broken (drain_limits (door_of door) (plain h).buckets)
-  unfolding door_of broken
-  archive_takes e = rw e
+-- one bucket's drain
+pub drain_kept : (d : ℕ) → kept (limit 17 1 4095 d) ≡ true → none ≡ broken (limit 17 1 4095 d ∷ [])
+drain_kept d k = sym (broken_step (limit 17 1 4095 d) [] k ∙ unfold broken in refl)
 
-  module _ (e : door ≡ d.Opening) where
-    pub first_idle : kept (limit 17 1 4095 h.first.drain) ≡ false → some 17 ≡ broken (drain_limits (door_of door) (plain h).buckets)
-    unfolding door_of plain policed_of
-    first_idle k = rw e (sym (broken_here (limit 17 1 4095 h.first.drain) _ k))
+pub drain_broken : (d : ℕ) → kept (limit 17 1 4095 d) ≡ false → some 17 ≡ broken (limit 17 1 4095 d ∷ [])
+drain_broken d k = sym (broken_here (limit 17 1 4095 d) [] k)
 
-    module _ (k : kept (limit 17 1 4095 h.first.drain) ≡ true) where
-      pub one_drains : h.two ≡ false → none ≡ broken (drain_limits (door_of door) (plain h).buckets)
-      unfolding door_of plain policed_of one_if broken
-      one_drains t = rw (e, t) (sym (broken_step (limit 17 1 4095 h.first.drain) [] k))
-
-      pub second_idle : h.two ≡ true → kept (limit 17 1 4095 h.second.drain) ≡ false → some 17 ≡ broken (drain_limits (door_of door) (plain h).buckets)
-      unfolding door_of plain policed_of one_if
-      second_idle t l = rw (e, t) (sym (broken_step (limit 17 1 4095 h.first.drain) _ k ∙ broken_here (limit 17 1 4095 h.second.drain) _ l))
-
-      pub both_drain : h.two ≡ true → kept (limit 17 1 4095 h.second.drain) ≡ true → none ≡ broken (drain_limits (door_of door) (plain h).buckets)
-      unfolding door_of plain policed_of one_if broken
-      both_drain t l = rw (e, t) (sym (broken_step (limit 17 1 4095 h.first.drain) (limit 17 1 4095 h.second.drain ∷ []) k ∙ broken_step (limit 17 1 4095 h.second.drain) [] l))
+-- one limit, and then others
+pub then_more : (l : Limit) (ls : List Limit) {o : Option ℕ} → o ≡ broken (l ∷ []) → first o (broken ls) ≡ broken (l ∷ ls)
+unfolding unless
+then_more l ls {o} e = go (kept l) refl
+  where
+    go : (t : Bool) → kept l ≡ t → first o (broken ls) ≡ broken (l ∷ ls)
+    go true k = rw (e, broken_step l [] k, broken_step l ls k) (unfold broken in refl)
+    go false k = rw (e, broken_here l [] k, broken_here l ls k) refl

@@ -1,24 +1,23 @@
 -- Fields as the code reads them: one that may lie past the end, the two of a coding, those of a header and its buckets; and headers compared.
 use Prim.Native.Nat.{ℕ, ◌+◌, ◌*◌, ◌-◌, ◌≤◌}
-use mathlib.Core.Path.{◌≡◌, refl, sym, ap, ◌∙◌}
-use mathlib.Core.Bool.{Bool, true, false, not, ◌&&◌}
+use mathlib.Core.Path.{◌≡◌, refl, sym, ◌∙◌}
+use mathlib.Core.Bool.{Bool, true, false, ◌&&◌}
 use mathlib.Core.List.{List, [], ◌∷◌}
 use native.Mathlib.Omega.{arith}
 use lib.ListN.{length, take, drop}
 use lib.Seq.{drop-drop}
+use Rattle.std.specs.Prelude.{Some, None}
 use lib.Dec.{eqb}
-use Rattle.base.specs.If.{one_if}
+use Rattle.std.specs.Option.{option_eq}
+use Rattle.std.specs.Prelude as std
+use Rattle.header.specs.declared.Bucket.{Bucket}
 use Rattle.model.specs.Job.{Coding}
 use Rattle.format.specs.Fields.{number, fields}
-use Rattle.format.specs.JobBytes.{Policed, Header, policed_by, header_of, bucket_widths, header_form, same_buckets}
+use Rattle.format.specs.JobBytes.{Policed, Header, policed_by, header_of, bucket_widths, header_form, same_buckets, same_header}
 use Rattle.format.specs.Places.{header_size, field_at, coding_place, coding_at}
 use Rattle.format.proofs.Header.{header_from, header_fields}
 use Rattle.header.specs.declared.Header as code
-use Rattle.header.specs.Answers.{extra, policed_of, plain}
-
-pub and_true : (t : Bool) → t && true ≡ t
-and_true true = refl
-and_true false = refl
+use Rattle.header.specs.Answers.{extra, policed_of, further, plain}
 
 -- the coding that stands at a place, from what its two fields were read as
 pub coding_made : (b : List ℕ) (h : Header) (u x at : ℕ) {s d : ℕ} → at ≡ coding_place h u x → s ≡ field_at 2 b at → d ≡ field_at 4 b (at + 2) → ◌≡◌ {A = Coding} (record { size = s; distortion = d }) (coding_at b h u x)
@@ -44,51 +43,67 @@ header_made b n more e₀ e₁ e₂ e₃ e₄ e₅ e₆ e₇ e₈ m =
     ∙ sym (header_fields n b)
 
 -- the second bucket, where there is one, from what its fields were read as
-pub no_second : (b : List ℕ) (k : Policed) (two : Bool) → two ≡ false → one_if two k ≡ policed_by (fields (bucket_widths (extra two)) (drop 18 b))
-unfolding one_if extra policed_by bucket_widths fields
-no_second b k two e = rw e
+pub no_second : (b : List ℕ) (two : Bool) → two ≡ false → [] ≡ policed_by (fields (bucket_widths (extra two)) (drop 18 b))
+unfolding extra policed_by bucket_widths fields
+no_second b two e = rw e
 
-pub second_made : (b : List ℕ) (two : Bool) {s d l : ℕ} → two ≡ true → s ≡ number (take 2 (drop 18 b)) → d ≡ number (take 2 (drop 20 b)) → l ≡ number (take 2 (drop 22 b)) → one_if two (record { size = s; drain = d; fill = l }) ≡ policed_by (fields (bucket_widths (extra two)) (drop 18 b))
-unfolding one_if extra policed_by bucket_widths fields
+pub second_made : (b : List ℕ) (two : Bool) {s d l : ℕ} → two ≡ true → s ≡ number (take 2 (drop 18 b)) → d ≡ number (take 2 (drop 20 b)) → l ≡ number (take 2 (drop 22 b)) → record { size = s; drain = d; fill = l } ∷ [] ≡ policed_by (fields (bucket_widths (extra two)) (drop 18 b))
+unfolding extra policed_by bucket_widths fields
 second_made b two e p q r = rw (e, p, q, r, drop-drop, drop-drop)
 
--- a header's further buckets compared, and its first
-module _ (k l : Policed) where
-  pub both_two : (s t : Bool) → s ≡ true → t ≡ true → same_buckets (k ∷ []) (l ∷ []) ≡ same_buckets (one_if s k) (one_if t l)
-  unfolding one_if
-  both_two s t p q = rw (p, q)
-
-  pub one_two : (s t : Bool) → s ≡ true → t ≡ false → false ≡ same_buckets (one_if s k) (one_if t l)
-  unfolding one_if same_buckets
-  one_two s t p q = rw (p, q)
-
-  pub not_two : (s t : Bool) → s ≡ false → not t ≡ same_buckets (one_if s k) (one_if t l)
-  unfolding one_if same_buckets
-  not_two s true p = rw p
-  not_two s false p = rw p
-
-  pub first_of_all : (ks ls : List Policed) → same_buckets (k ∷ []) (l ∷ []) && same_buckets ks ls ≡ same_buckets (k ∷ ks) (l ∷ ls)
-  unfolding same_buckets
-  first_of_all ks ls = ap (λ (t : Bool). t && same_buckets ks ls) (and_true (eqb k.size l.size && eqb k.drain l.drain && eqb k.fill l.fill))
-
 -- how many bytes a header's record takes
-pub two_size : (h : code.Header) → h.two ≡ true → 28 ≡ header_size (plain h)
-unfolding plain one_if
-two_size h e = rw e
-
-pub one_size : (h : code.Header) → h.two ≡ false → 22 ≡ header_size (plain h)
-unfolding plain one_if
-one_size h e = rw e
-
 pub small_size : (h : code.Header) (w : ℕ) → w ≡ header_size (plain h) → w ≤ 28
-unfolding plain one_if
-small_size h w e = go h.two e
+unfolding plain
+small_size h w e = go h.second e
   where
-    go : (two : Bool) → w ≡ 22 + 6 * (length (policed_of h.first ∷ one_if two (policed_of h.second)) - 1) → w ≤ 28
-    go true e = omega arith
-    go false e = omega arith
+    go : (o : std.Option Bucket) → w ≡ 22 + 6 * (length (policed_of h.first ∷ further o) - 1) → w ≤ 28
+    go None e = omega arith
+    go (Some k) e = omega arith
 
 -- the bytes of a second bucket that is there
 pub two_room : (two : Bool) (n : ℕ) → two ≡ true → 18 + 6 * extra two ≤ n → 24 ≤ n
 unfolding extra
 two_room two n e h = rw e at h
+
+-- the fields compared in the order of the struct, and in that of the definition
+abbrev pub bucket_eq : Bucket → Bucket → Bool
+bucket_eq k l = eqb k.size l.size && (eqb k.drain l.drain && eqb k.fill l.fill)
+
+first_same : (k l : Bucket) (ks ls : List Policed) → same_buckets (policed_of k ∷ ks) (policed_of l ∷ ls) ≡ bucket_eq k l && same_buckets ks ls
+unfolding same_buckets policed_of
+first_same k l ks ls = go (eqb k.size l.size) (eqb k.drain l.drain) (eqb k.fill l.fill) (same_buckets ks ls)
+  where
+    go : (a b c s : Bool) → ((a && b) && c) && s ≡ (a && (b && c)) && s
+    go false b c s = refl
+    go true b c s = refl
+
+further_same : (s t : std.Option Bucket) → option_eq bucket_eq s t ≡ same_buckets (further s) (further t)
+unfolding same_buckets
+further_same None None = refl
+further_same None (Some l) = refl
+further_same (Some k) None = refl
+further_same (Some k) (Some l) = sym (first_same k l [] [] ∙ and_true (bucket_eq k l))
+  where
+    and_true : (t : Bool) → t && true ≡ t
+    and_true true = refl
+    and_true false = refl
+
+out : (u d k l : Bool) → u && (d && (k && (l && false))) ≡ false
+out false d k l = refl
+out true false k l = refl
+out true true false l = refl
+out true true true false = refl
+out true true true true = refl
+
+reordered : (u d k l f s r c : Bool) → u && (d && (k && (l && (f && (s && (r && c)))))) ≡ (((((f && s) && u) && d) && k) && l) && r && c
+reordered u d k l false s r c = out u d k l
+reordered u d k l true false r c = out u d k l
+reordered false d k l true true r c = refl
+reordered true false k l true true r c = refl
+reordered true true false l true true r c = refl
+reordered true true true false true true r c = refl
+reordered true true true true true true r c = refl
+
+pub all_same : (g h : code.Header) → eqb g.units h.units && (eqb g.delay h.delay && (eqb g.decoder h.decoder && (eqb g.level h.level && (bucket_eq g.first h.first && (option_eq bucket_eq g.second h.second && (eqb g.rates h.rates && eqb g.choices h.choices)))))) ≡ same_header (plain g) (plain h)
+unfolding same_header plain
+all_same g h = rw (first_same g.first h.first (further g.second) (further h.second), ← further_same g.second h.second) (reordered (eqb g.units h.units) (eqb g.delay h.delay) (eqb g.decoder h.decoder) (eqb g.level h.level) (bucket_eq g.first h.first) (option_eq bucket_eq g.second h.second) (eqb g.rates h.rates) (eqb g.choices h.choices))

@@ -2,3 +2,4 @@
 pub mod Verdicts
 pub mod Fields
 pub mod Drains
+pub mod Told

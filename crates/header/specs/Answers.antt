@@ -1,7 +1,7 @@
 -- What the structs of a header and a verdict mean in the terms of the crates below.
-use Rattle.std.specs.Prelude.{ℕ, Bool, ◌∷◌, if◌then◌else◌}
+use Rattle.std.specs.Prelude.{ℕ, Bool, List, [], ◌∷◌, if◌then◌else◌, Some, None, Ok, Err}
+use Rattle.std.specs.Prelude as std
 use Rattle.std.proofs.Math.Option.{Option, none, some}
-use Rattle.base.specs.If.{one_if}
 use Rattle.model.specs.Job as model
 use Rattle.format.specs.JobBytes as format
 use Rattle.header.specs.declared.Bucket.{Bucket}
@@ -9,8 +9,9 @@ use Rattle.header.specs.declared.Header.{Header}
 use Rattle.header.specs.declared.Coding.{Coding}
 use Rattle.header.specs.declared.Door.{Door}
 use Rattle.header.specs.declared.Door.TheVariants as d
-use Rattle.header.specs.declared.Verdict.{Verdict}
-use Rattle.header.specs.declared.Verdict.TheVariants as v
+use Rattle.header.specs.declared.refusal.Refusal.{Refusal}
+use Rattle.header.specs.Refusals.{number}
+use Rattle.base.specs.Answer.{Answer, gives, refused}
 
 -- how many buckets a header has beside the first
 unfoldable pub extra : Bool → ℕ
@@ -20,13 +21,17 @@ extra two = if two then 1 else 0
 unfoldable pub policed_of : Bucket → format.Policed
 policed_of k = record { size = k.size; drain = k.drain; fill = k.fill }
 
+abbrev pub further : std.Option Bucket → List format.Policed
+further None = []
+further (Some k) = policed_of k ∷ []
+
 unfoldable pub plain : Header → format.Header
 plain h = record {
   units = h.units;
   delay = h.delay;
   decoder = h.decoder;
   level = h.level;
-  buckets = policed_of h.first ∷ one_if h.two (policed_of h.second);
+  buckets = policed_of h.first ∷ further h.second;
   rates = h.rates;
   choices = h.choices;
 }
@@ -38,7 +43,16 @@ unfoldable pub door_of : Door → format.Door
 door_of d.Opening = format.opening
 door_of d.Archive = format.archive
 
+-- what a call answers: what it gives, or the refusal's number
+abbrev pub answer_by : {A B : Type 0} → (A → B) → std.Result A Refusal → Answer B
+answer_by f (Ok a) = gives (f a)
+answer_by f (Err r) = refused (number r)
+
+-- the same of a call that gives nothing
+abbrev pub done : std.Result (Unit {0}) Refusal → Answer (Unit {0})
+done = answer_by (λ u. u)
+
 -- the refusal's number, if there is one
-unfoldable pub verdict : Verdict → Option ℕ
-verdict v.Fits = none
-verdict (v.Refused n) = some n
+abbrev pub verdict : {A : Type 0} → std.Result A Refusal → Option ℕ
+verdict (Ok a) = none
+verdict (Err r) = some (number r)

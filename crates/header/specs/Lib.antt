@@ -1,2 +1,3 @@
 -- What a header and a verdict mean.
 pub mod Answers
+pub mod Refusals

@@ -2,26 +2,27 @@
 
 #![tactic(auto)]
 
-pub mod refusal;
+mod refusal;
 
 ghost use Rattle.std.specs.Prelude.{◌≡◌, [], ◌∷◌, ◌+◌, ◌*◌, ◌-◌, ◌≤◌, length, drop};
 ghost use Rattle.format.specs.Fields.{fields};
-ghost use Rattle.base.specs.If.{one_if};
 ghost use Rattle.format.specs.Limits.{limit, kept, both_kept, each_kept, broken};
-ghost use Rattle.format.specs.JobBytes.{policed_by, header_of, no_bucket, bucket_widths, header_form, same_buckets, same_header, largest_sizes, bucket_limits, header_limits, drain_limits, rate_limit, size_limit, distortion_limit};
+ghost use Rattle.format.specs.JobBytes.{policed_by, header_of, bucket_widths, header_form, same_header, largest_sizes, bucket_limits, header_limits, drain_limits, rate_limit, size_limit, distortion_limit};
 ghost use Rattle.format.specs.Places.{header_size, unit_size, rate_at, coding_at};
-ghost use Rattle.header.specs.Answers.{extra, policed_of, plain, door_of, verdict, coding_of};
+ghost use Rattle.header.specs.Answers.{extra, policed_of, plain, further, door_of, verdict, coding_of};
+
+pub use refusal::Refusal;
 
 // A leaky bucket as a header tells it: its size, what it drains in an interval, its level at the start. Sizes and levels are counted in grains, document 01's fixed count of bits.
-#[derive(Clone, Copy)]
+#[derive(Clone, Copy, Debug, PartialEq, Eq)]
 pub struct Bucket {
     pub size: u16,
     pub drain: u16,
     pub fill: u16,
 }
 
-// What kind 1 says of a job, or kind 8, which has two buckets (document 02, E5). A kind 1 header has a second bucket of zeros, which is not looked at.
-#[derive(Clone, Copy)]
+// What kind 1 says of a job, or kind 8, which has two buckets (document 02, E5).
+#[derive(Clone, Copy, Debug, PartialEq, Eq)]
 pub struct Header {
     pub units: u16,
     pub delay: u16,
@@ -29,14 +30,13 @@ pub struct Header {
     // the decoder's level at the start
     pub level: u16,
     pub first: Bucket,
-    pub two: bool,
-    pub second: Bucket,
+    pub second: Option<Bucket>,
     pub rates: u16,
     pub choices: u16,
 }
 
 // A unit as one choice codes it.
-#[derive(Clone, Copy)]
+#[derive(Clone, Copy, Debug, PartialEq, Eq)]
 pub struct Coding {
     pub size: u16,
     pub distortion: u32,
@@ -48,17 +48,10 @@ pub type Choice = u16;
 pub const NO_CHOICE: Choice = 65535;
 
 // Which jobs a reader takes (document 02, E8): opening none that has a bucket which never drains, the archive these too.
-#[derive(Clone, Copy)]
+#[derive(Clone, Copy, Debug, PartialEq, Eq)]
 pub enum Door {
     Opening,
     Archive,
-}
-
-// Whether a record is taken, or the refusal's number.
-#[derive(Clone, Copy)]
-pub enum Verdict {
-    Fits,
-    Refused(u8),
 }
 
 impl Header {
@@ -120,7 +113,6 @@ impl Header {
                 drain: fields::u16_at(body, 8),
                 fill: fields::u16_at(body, 12),
             },
-            two,
             second: Bucket::second_in(body, two),
             rates: fields::u16_at(body, 14),
             choices: fields::u16_at(body, 16),
@@ -131,10 +123,9 @@ impl Header {
     pub fn record_size(self) -> usize
         ensures { result ≡ header_size (plain self) }
     {
-        if self.two {
-            Header::TWO_SIZE
-        } else {
-            Header::SIZE
+        match self.second {
+            None => Header::SIZE,
+            Some(_) => Header::TWO_SIZE,
         }
     }
 
@@ -142,17 +133,15 @@ impl Header {
     fn buckets_fit(self) -> bool
         ensures { result ≡ each_kept (bucket_limits largest_sizes (plain self).buckets) }
     {
-        if !self.first.fits(Header::MAX_BUCKET) {
-            return false;
+        let first = self.first.fits(Header::MAX_BUCKET);
+        match self.second {
+            None => first,
+            Some(second) => first & second.fits(Header::MAX_SECOND),
         }
-        if !self.two {
-            return true;
-        }
-        self.second.fits(Header::MAX_SECOND)
     }
 
     // 3 where a field is out of range.
-    pub fn verdict(self) -> Verdict
+    pub fn verdict(self) -> Result<(), Refusal>
         ensures { verdict result ≡ broken (header_limits (plain self)) }
     {
         let units = self.units;
@@ -162,107 +151,71 @@ impl Header {
         let choices = self.choices;
         match units {
             1..=Header::MAX_UNITS => {}
-            _ => return Verdict::Refused(refusal::HEADER),
+            _ => return Err(Refusal::Header),
         }
         match delay {
             0..=Header::MAX_DELAY => {}
-            _ => return Verdict::Refused(refusal::HEADER),
+            _ => return Err(Refusal::Header),
         }
         match decoder {
             0..=Header::MAX_DECODER => {}
-            _ => return Verdict::Refused(refusal::HEADER),
+            _ => return Err(Refusal::Header),
         }
         if decoder < self.level {
-            return Verdict::Refused(refusal::HEADER);
+            return Err(Refusal::Header);
         }
         match rates {
             1..=Header::MAX_RATES => {}
-            _ => return Verdict::Refused(refusal::HEADER),
+            _ => return Err(Refusal::Header),
         }
         match choices {
             1..=Header::MAX_CHOICES => {}
-            _ => return Verdict::Refused(refusal::HEADER),
+            _ => return Err(Refusal::Header),
         }
         if !self.buckets_fit() {
-            return Verdict::Refused(refusal::HEADER);
+            return Err(Refusal::Header);
         }
-        Verdict::Fits
+        Ok(())
     }
 
     // 17 where a bucket never drains, and the door asks for one that does.
-    pub fn drains_verdict(self, door: Door) -> Verdict
+    pub fn drains_verdict(self, door: Door) -> Result<(), Refusal>
         ensures { verdict result ≡ broken (drain_limits (door_of door) (plain self).buckets) }
     {
-        if let Door::Archive = door {
-            return Verdict::Fits;
-        }
-        if !self.first.drains() {
-            return Verdict::Refused(refusal::NEVER_DRAINS);
-        }
-        if !self.two {
-            return Verdict::Fits;
-        }
-        if !self.second.drains() {
-            return Verdict::Refused(refusal::NEVER_DRAINS);
-        }
-        Verdict::Fits
-    }
-
-    // Whether the two headers have the same further buckets.
-    fn same_second(self, other: Header) -> bool
-        ensures { result ≡ same_buckets (one_if self.two (policed_of self.second)) (one_if other.two (policed_of other.second)) }
-    {
-        if self.two {
-            if other.two {
-                return self.second.same(other.second);
+        match door {
+            Door::Archive => Ok(()),
+            Door::Opening => {
+                self.first.drains_verdict()?;
+                match self.second {
+                    None => Ok(()),
+                    Some(second) => second.drains_verdict(),
+                }
             }
-            return false;
         }
-        !other.two
     }
 
     // Whether the two headers agree in every field and bucket.
     pub fn same(self, other: Header) -> bool
         ensures { result ≡ same_header (plain self) (plain other) }
     {
-        let first = self.first.same(other.first);
-        let second = self.same_second(other);
-        first
-            & second
-            & (self.units == other.units)
-            & (self.delay == other.delay)
-            & (self.decoder == other.decoder)
-            & (self.level == other.level)
-            & (self.rates == other.rates)
-            & (self.choices == other.choices)
+        self == other
     }
 }
 
 impl Bucket {
-    // Of a header with one bucket.
-    fn none() -> Bucket
-        ensures { policed_of result ≡ no_bucket }
-    {
-        Bucket {
-            size: 0,
-            drain: 0,
-            fill: 0,
-        }
-    }
-
     // The second bucket in a header's body, where there is one.
-    fn second_in(body: &[u8], two: bool) -> Bucket
+    fn second_in(body: &[u8], two: bool) -> Option<Bucket>
         requires { 18 + 6 * extra two ≤ length body.now }
-        ensures { one_if two (policed_of result) ≡ policed_by (fields (bucket_widths (extra two)) (drop 18 body.now)) }
+        ensures { further result ≡ policed_by (fields (bucket_widths (extra two)) (drop 18 body.now)) }
     {
         if !two {
-            return Bucket::none();
+            return None;
         }
-        Bucket {
+        Some(Bucket {
             size: fields::u16_at(body, 18),
             drain: fields::u16_at(body, 20),
             fill: fields::u16_at(body, 22),
-        }
+        })
     }
 
     // Whether its size is at most the largest, its drain at most 4,095 and its level at the start at most its size.
@@ -270,10 +223,8 @@ impl Bucket {
         ensures { result ≡ each_kept (bucket_limits (largest ∷ []) (policed_of self ∷ [])) }
     {
         let size = self.size;
-        let fill = self.fill;
-        let drain = self.drain;
-        match drain {
-            0..=Header::MAX_DRAIN => (size <= largest) & (fill <= size),
+        match self.drain {
+            0..=Header::MAX_DRAIN => (size <= largest) & (self.fill <= size),
             _ => false,
         }
     }
@@ -282,17 +233,18 @@ impl Bucket {
     pub fn drains(self) -> bool
         ensures { result ≡ kept (limit 17 1 4095 self.drain) }
     {
-        let drain = self.drain;
-        match drain {
-            1..=Header::MAX_DRAIN => true,
-            _ => false,
-        }
+        matches!(self.drain, 1..=Header::MAX_DRAIN)
     }
 
-    fn same(self, other: Bucket) -> bool
-        ensures { result ≡ same_buckets (policed_of self ∷ []) (policed_of other ∷ []) }
+    // 17 where it does not.
+    fn drains_verdict(self) -> Result<(), Refusal>
+        ensures { verdict result ≡ broken (limit 17 1 4095 self.drain ∷ []) }
     {
-        (self.size == other.size) & (self.drain == other.drain) & (self.fill == other.fill)
+        if self.drains() {
+            Ok(())
+        } else {
+            Err(Refusal::NeverDrains)
+        }
     }
 }
 

@@ -1,7 +1,8 @@
 -- What the structs and answers of this crate mean in the terms of `model`, case by case.
-use Rattle.std.specs.Prelude.{ℕ, ◌+◌, ◌<◌, ◌≤◌, ◌≡◌, true, false, ◌&&◌, get_or}
+use Rattle.std.specs.Prelude.{ℕ, ◌+◌, ◌<◌, ◌≤◌, ◌≡◌, Bool, false, ltb, get_or}
 use mathlib.Core.List.{List, [], ◌∷◌, map, zip_with}
-use Rattle.base.specs.If.{one_if}
+use Rattle.std.specs.Prelude.{Option, None, Some, Result, Ok, Err}
+use Rattle.std.specs.Option.{option_map, option_to_list}
 use Rattle.model.specs.Job as model
 use Rattle.model.specs.Step as model_step
 use Rattle.model.specs.Replay as model_replay
@@ -9,29 +10,29 @@ use Rattle.format.specs.JobBytes as format
 use Rattle.interval.specs.declared.Totals.{Totals}
 use Rattle.parts.specs.declared.Drained.{Drained}
 use Rattle.parts.specs.Answers.{violation, drained}
-use Rattle.interval.specs.declared.Outcome.{Outcome}
-use Rattle.interval.specs.declared.Outcome.TheVariants as o
+use Rattle.parts.specs.declared.Violation.{Violation}
+use Rattle.interval.specs.declared.Policer.{Policer}
 use Rattle.interval.specs.declared.Levels.{Levels}
 use Rattle.interval.specs.declared.Buffers.{Buffers}
 use Rattle.interval.specs.declared.Interval.{Interval}
 
 unfoldable pub levels_of : Levels → model.Levels
-levels_of l = record { decoder = l.decoder; buckets = l.bucket ∷ one_if l.two l.bucket2 }
+levels_of l = record { decoder = l.decoder; buckets = l.bucket ∷ option_to_list l.bucket2 }
 
-unfoldable pub outcome_is : Outcome → model_step.Outcome
-outcome_is (o.Reaches l) = model_step.reaches (levels_of l)
-outcome_is (o.Violates x) = model_step.violates (violation x)
+unfoldable pub outcome_is : Result Levels Violation → model_step.Outcome
+outcome_is (Ok l) = model_step.reaches (levels_of l)
+outcome_is (Err x) = model_step.violates (violation x)
 
 unfoldable pub totals_of : Totals → model_replay.Totals
-totals_of t = record { distortion = t.distortion; source = t.source; channel = t.channel; unused = t.unused ∷ one_if t.two t.unused2 }
+totals_of t = record { distortion = t.distortion; source = t.source; channel = t.channel; unused = t.unused ∷ option_to_list t.unused2 }
 
--- the second of these buckets
-unfoldable pub second_of : Buffers → model.Bucket
-second_of k = record { size = k.bucket2; drain = k.drain2 }
+-- a bucket as a step reads it
+abbrev pub bucket_is : Policer → model.Bucket
+bucket_is k = record { size = k.size; drain = k.drain }
 
 -- the line that has these buffers and rates
 unfoldable pub line_of : Buffers → List ℕ → model.Line
-line_of k rates = record { decoder = k.decoder; buckets = record { size = k.bucket; drain = k.drain } ∷ one_if k.two (second_of k); rates = rates }
+line_of k rates = record { decoder = k.decoder; buckets = bucket_is k.first ∷ option_to_list (option_map bucket_is k.second); rates = rates }
 
 -- the buffers that a header tells
 pub record OfHeader (k : Buffers) (h : format.Header) : Type 0 where
@@ -46,10 +47,27 @@ start_of h = record { decoder = h.level; buckets = map (λ k. k.fill) h.buckets 
 unfoldable pub no_totals : List model.Bucket → model_replay.Totals
 no_totals ks = record { distortion = 0; source = 0; channel = 0; unused = map (λ k. 0) ks }
 
--- what the second bucket does, where the line and the levels have one; else nothing
-pub data SecondStep (k : Buffers) (before : Levels) (sent : ℕ) (r : Drained) : Type 0 where
-  both : k.two ≡ true → before.two ≡ true → drained r ≡ model_step.bucket_step k.drain2 before.bucket2 sent → SecondStep k before sent r
-  not_both : (k.two && before.two) ≡ false → drained r ≡ record { level = 0; unused = 0 } → SecondStep k before sent r
+-- what the second bucket does, where the line and the levels have one
+abbrev pub second_drained : Option Policer → Option ℕ → ℕ → List model_step.Drained
+second_drained (Some k) (Some l) sent = model_step.bucket_step k.drain l sent ∷ []
+second_drained (Some k) None sent = []
+second_drained None l sent = []
+
+abbrev pub SecondStep : Buffers → Levels → ℕ → Option Drained → Type 0
+SecondStep k before sent r = option_to_list (option_map drained r) ≡ second_drained k.second before.bucket2 sent
+
+-- whether it holds more than its size
+abbrev pub second_over : Option Policer → Option Drained → Bool
+second_over (Some b) (Some d) = ltb b.size d.level
+second_over (Some b) None = false
+second_over None d = false
+
+-- the drain that it left unused, with one interval more
+pub record SecondRoom (sum : Option ℕ) (second : Option Drained) : Type 0 where
+  pub fits : (a : ℕ) (d : Drained) → sum ≡ Some a → second ≡ Some d → a + d.unused < 4294967296
+
+abbrev pub MoreUnused : Option ℕ → Option Drained → Option ℕ → Type 0
+MoreUnused sum second r = option_to_list r ≡ zip_with ◌+◌ (option_to_list sum) (option_to_list (option_map (λ d. d.unused) second))
 
 -- the totals with one interval more, from the levels before it
 unfoldable pub added : model_replay.Totals → List model.Bucket → List ℕ → Interval → model_replay.Totals

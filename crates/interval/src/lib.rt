@@ -2,55 +2,51 @@
 
 #![tactic(auto)]
 
-ghost use Rattle.std.specs.Prelude.{◌≡◌, true, [], ◌+◌, ◌<◌, if◌then◌else◌};
+ghost use Rattle.std.specs.Prelude.{◌≡◌, [], ◌+◌, ◌<◌};
 ghost use Rattle.model.specs.Step.{outcome_of};
 ghost use Rattle.format.specs.Choices.{choice_of};
-ghost use Rattle.header.specs.Answers.{plain};
-ghost use Rattle.interval.specs.Answers.{levels_of, start_of, outcome_is, line_of, totals_of, no_totals, added, OfHeader, SecondStep, Room};
+ghost use Rattle.format.specs.JobBytes.{bucket_of};
+ghost use Rattle.header.specs.Answers.{plain, policed_of};
+ghost use Rattle.interval.specs.Answers.{levels_of, start_of, outcome_is, line_of, bucket_is, totals_of, no_totals, added, OfHeader, SecondStep, second_over, SecondRoom, MoreUnused, Room};
 
-use header::{Choice, Header};
-use parts::{Decoded, Drained, Violation};
+use header::{Bucket, Choice, Header};
+use parts::{Drained, Violation};
 
 // Distortion, source size (the sum of R), channel size (the sum of C) and the drain that each bucket left unused: of two, where the line has a second bucket (document 02, E5).
-#[derive(Clone, Copy)]
+#[derive(Clone, Copy, Debug, PartialEq, Eq)]
 pub struct Totals {
     pub distortion: u32,
     pub source: u32,
     pub channel: u32,
     pub unused: u32,
-    pub two: bool,
-    pub unused2: u32,
+    pub unused2: Option<u32>,
 }
 
 // The levels at an interval's end: the decoder's, and one for each bucket.
-#[derive(Clone, Copy)]
+#[derive(Clone, Copy, Debug, PartialEq, Eq)]
 pub struct Levels {
     pub decoder: u16,
     pub bucket: u16,
-    pub two: bool,
-    pub bucket2: u16,
+    pub bucket2: Option<u16>,
 }
 
-// What a step reads of a line: the decoder's size, and each bucket's size and drain.
-#[derive(Clone, Copy)]
+// A bucket's size, and what it drains in an interval.
+#[derive(Clone, Copy, Debug, PartialEq, Eq)]
+pub struct Policer {
+    pub size: u16,
+    pub drain: u16,
+}
+
+// What a step reads of a line: the decoder's size and the buckets, one or two.
+#[derive(Clone, Copy, Debug, PartialEq, Eq)]
 pub struct Buffers {
     pub decoder: u16,
-    pub bucket: u16,
-    pub drain: u16,
-    pub two: bool,
-    pub bucket2: u16,
-    pub drain2: u16,
-}
-
-// What an interval leads to.
-#[derive(Clone, Copy)]
-pub enum Outcome {
-    Reaches(Levels),
-    Violates(Violation),
+    pub first: Policer,
+    pub second: Option<Policer>,
 }
 
 // What a plan does in one interval: C, R and the distortion of the unit that is decoded, its pin and the choice made, the mark where there is none.
-#[derive(Clone, Copy)]
+#[derive(Clone, Copy, Debug, PartialEq, Eq)]
 pub struct Interval {
     pub sent: u16,
     pub size: u16,
@@ -69,8 +65,7 @@ impl Totals {
             source: 0,
             channel: 0,
             unused: 0,
-            two: buffers.two,
-            unused2: 0,
+            unused2: buffers.second.map(|_| 0),
         }
     }
 }
@@ -83,8 +78,19 @@ impl Levels {
         Levels {
             decoder: header.level,
             bucket: header.first.fill,
-            two: header.two,
-            bucket2: header.second.fill,
+            bucket2: header.second.map(|bucket| bucket.fill),
+        }
+    }
+}
+
+impl Policer {
+    // That of a bucket.
+    pub fn of(bucket: Bucket) -> Policer
+        ensures { bucket_is result ≡ bucket_of (policed_of bucket) }
+    {
+        Policer {
+            size: bucket.size,
+            drain: bucket.drain,
         }
     }
 }
@@ -96,67 +102,60 @@ impl Buffers {
     {
         Buffers {
             decoder: header.decoder,
-            bucket: header.first.size,
-            drain: header.first.drain,
-            two: header.two,
-            bucket2: header.second.size,
-            drain2: header.second.drain,
+            first: Policer::of(header.first),
+            second: header.second.map(|bucket| Policer::of(bucket)),
         }
     }
 }
 
-// The second bucket's part; nothing where there is none.
-fn second_step(buffers: Buffers, before: Levels, sent: u16) -> Drained
+// The second bucket's part, where there is one.
+fn second_step(buffers: Buffers, before: Levels, sent: u16) -> Option<Drained>
     ensures { SecondStep buffers before sent result }
 {
-    if buffers.two & before.two {
-        return parts::bucket_step(buffers.drain2, before.bucket2, sent);
-    }
-    Drained {
-        level: 0,
-        unused: 0,
+    let bucket = buffers.second?;
+    let level = before.bucket2?;
+    Some(parts::bucket_step(bucket.drain, level, sent))
+}
+
+// Whether the second bucket holds more than its size.
+fn second_over(buffers: Buffers, second: Option<Drained>) -> bool
+    ensures { result ≡ second_over buffers.second second }
+{
+    match (buffers.second, second) {
+        (Some(bucket), Some(drained)) => (bucket.size as u32) < drained.level,
+        _ => false,
     }
 }
 
 // One interval from the levels before it: the decoder, the buckets in turn, the pin, in this order.
-pub fn step(buffers: Buffers, before: Levels, x: Interval) -> Outcome
+pub fn step(buffers: Buffers, before: Levels, x: Interval) -> Result<Levels, Violation>
     ensures { outcome_is result ≡ outcome_of (line_of buffers []) (choice_of x.pin) (choice_of x.choice) before.decoder (levels_of before).buckets x.sent x.size }
 {
-    match parts::decoder_step(buffers.decoder, before.decoder, x.sent, x.size) {
-        Decoded::Violated(v) => Outcome::Violates(v),
-        Decoded::Level(decoder) => {
-            let bucket = parts::bucket_step(buffers.drain, before.bucket, x.sent);
-            let other = second_step(buffers, before, x.sent);
-            let level = bucket.level;
-            let second = other.level;
-            if (buffers.bucket as u32) < level {
-                return Outcome::Violates(Violation::BucketOverflow);
-            }
-            if (buffers.bucket2 as u32) < second {
-                return Outcome::Violates(Violation::SecondOverflow);
-            }
-            if !parts::pin_holds(x.pin, x.choice) {
-                return Outcome::Violates(Violation::PinNotHeld);
-            }
-            Outcome::Reaches(Levels {
-                decoder,
-                bucket: level as u16,
-                two: buffers.two & before.two,
-                bucket2: second as u16,
-            })
-        }
+    let decoder = parts::decoder_step(buffers.decoder, before.decoder, x.sent, x.size)?;
+    let first = parts::bucket_step(buffers.first.drain, before.bucket, x.sent);
+    let second = second_step(buffers, before, x.sent);
+    if (buffers.first.size as u32) < first.level {
+        return Err(Violation::BucketOverflow);
     }
+    if second_over(buffers, second) {
+        return Err(Violation::SecondOverflow);
+    }
+    if !parts::pin_holds(x.pin, x.choice) {
+        return Err(Violation::PinNotHeld);
+    }
+    Ok(Levels {
+        decoder,
+        bucket: first.level as u16,
+        bucket2: second.map(|drained| drained.level as u16),
+    })
 }
 
-// What goes unused of the second bucket's drain with one interval more; nothing where there is none.
-fn more_unused(two: bool, sum: u32, unused: u32) -> u32
-    requires { two ≡ true → sum + unused < 4294967296 }
-    ensures { result ≡ (if two then sum + unused else 0) }
+// What goes unused of the second bucket's drain with one interval more, where there is one.
+fn more_unused(sum: Option<u32>, second: Option<Drained>) -> Option<u32>
+    requires { SecondRoom sum second }
+    ensures { MoreUnused sum second result }
 {
-    if two {
-        return sum + unused;
-    }
-    0
+    Some(sum? + second?.unused)
 }
 
 // The totals with one interval more, from the levels before it.
@@ -164,15 +163,13 @@ pub fn with_interval(sum: Totals, buffers: Buffers, before: Levels, x: Interval)
     requires { Room sum x }
     ensures { totals_of result ≡ added (totals_of sum) (line_of buffers []).buckets (levels_of before).buckets x }
 {
-    let bucket = parts::bucket_step(buffers.drain, before.bucket, x.sent);
+    let bucket = parts::bucket_step(buffers.first.drain, before.bucket, x.sent);
     let second = second_step(buffers, before, x.sent);
-    let two = sum.two & (buffers.two & before.two);
     Totals {
         distortion: sum.distortion + x.distortion,
         source: sum.source + x.size as u32,
         channel: sum.channel + x.sent as u32,
         unused: sum.unused + bucket.unused,
-        two,
-        unused2: more_unused(two, sum.unused2, second.unused),
+        unused2: more_unused(sum.unused2, second),
     }
 }

@@ -7,11 +7,8 @@ use Rattle.format.specs.Parser.{Result, refused, took, with_value}
 use mathlib.Core.List.{List}
 use Rattle.format.specs.JobBytes.{Header, header_in, Door, parse, job_in, Opens}
 use Rattle.format.proofs.Opened.{held_job, opens_by}
-use Rattle.header.specs.declared.Header as code
 use Rattle.job.specs.declared.Reading.{Reading}
-use Rattle.job.specs.declared.Reading.TheVariants as r
 use Rattle.header.specs.Answers.{plain}
-use Rattle.job.specs.Answers.{reading}
 
 -- a job with this header
 pub record Held (p : Result Job) (h : Header) (k : ℕ) : Type 0 where
@@ -37,15 +34,13 @@ unfolding with_value
 held p (refused n) h k e w = let z : ◌≡◌ {A = ℕ} 0 1 = cc in absurd (omega arith)
 held p (took j m) h k e w = let i : m ≡ k = cc in record { job = j; is = e ∙ ap (took j) i; header_is = cc }
 
-pub answer_took : (p : Result Job) (x : Reading) (h : code.Header) (k : ℕ) → reading x ≡ with_value header_in p → x ≡ r.Read h k → Held p (plain h) k
-unfolding reading
-answer_took p x h k e q = held p p (plain h) k refl (sym e ∙ rw q)
+pub answer_took : (p : Result Job) (x : Reading) → took (plain x.header) x.taken ≡ with_value header_in p → Held p (plain x.header) x.taken
+answer_took p x e = held p p (plain x.header) x.taken refl (sym e)
 
 not_read : (p q : Result Job) (n : ℕ) → p ≡ q → with_value header_in q ≡ refused n → p ≡ refused n
 unfolding with_value
 not_read p (refused m) n e w = e ∙ cc
 not_read p (took j m) n e w = let z : ◌≡◌ {A = ℕ} 0 1 = cc in absurd (omega arith)
 
-pub answer_refused : (p : Result Job) (x : Reading) (n : ℕ) → reading x ≡ with_value header_in p → x ≡ r.Refused n → p ≡ refused n
-unfolding reading
-answer_refused p x n e q = not_read p p n refl (sym e ∙ rw q)
+pub answer_refused : (p : Result Job) (n : ℕ) → refused n ≡ with_value header_in p → p ≡ refused n
+answer_refused p n e = not_read p p n refl (sym e)

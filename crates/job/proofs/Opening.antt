@@ -26,11 +26,13 @@ use Rattle.format.proofs.Places.{header_count}
 use Rattle.format.proofs.Records.{total_same, total_entries}
 use Rattle.format.proofs.Parsing.{RecordTook, has_refused, bind_refused, bind_on, record_is, record_took, fields_length, many_refused, many_length, bind_later}
 use Rattle.format.proofs.Header.{header_back}
-use Rattle.header.specs.declared.Verdict.{Verdict}
-use Rattle.header.specs.declared.Verdict.TheVariants as v
+use Rattle.std.specs.Prelude.{Ok, Err}
+use Rattle.header.specs.declared.refusal.Refusal.{Refusal}
+use Rattle.header.proofs.Told.{Verdict}
+use Rattle.header.specs.declared.refusal.Refusal.TheVariants as refusals
+use Rattle.header.specs.Refusals.{number}
 use Rattle.job.specs.declared.Due.{Due}
 use Rattle.job.specs.declared.Due.TheVariants as d
-use Rattle.job.specs.declared.Reading.TheVariants as r
 use Rattle.header.specs.Answers.{extra, verdict}
 use Rattle.job.specs.Answers.{form_of, reading, answering, header_refusal}
 use Rattle.job.proofs.Records.{rest_of}
@@ -39,17 +41,15 @@ use Rattle.job.proofs.Told.{told_refused, told_took}
 -- the verdict r on a record at `at`, as the code has it
 module _ (due : Due) (b : List ℕ) (at : ℕ) (r : Verdict) (e : verdict r ≡ refusal_of (record_due (form_of due) (take (length b - at) (drop at b)))) where
   -- a refusal is the record's
-  stage_refused : (n : ℕ) → r ≡ v.Refused n → record_due (form_of due) (drop at b) ≡ refused n
-  unfolding verdict
-  stage_refused n q = has_refused (record_due (form_of due) (drop at b)) n (rw (rest_of at b) at (sym e) ∙ rw q)
+  stage_refused : (n : Refusal) → r ≡ Err n → record_due (form_of due) (drop at b) ≡ refused (number n)
+  stage_refused n q = has_refused (record_due (form_of due) (drop at b)) (number n) (rw (rest_of at b) at (sym e) ∙ rw q)
 
   -- without one the record is read
-  stage_took : r ≡ v.Fits → record_due (form_of due) (drop at b) ≡ took (fields (form_of due).widths (drop 4 (drop at b))) (4 + total (form_of due).widths)
-  unfolding verdict
+  stage_took : r ≡ Ok tt → record_due (form_of due) (drop at b) ≡ took (fields (form_of due).widths (drop 4 (drop at b))) (4 + total (form_of due).widths)
   stage_took q = record_took (form_of due) (drop at b) (rw (rest_of at b) at (sym e) ∙ rw q)
 
   -- and lies within the bytes
-  stage_room : r ≡ v.Fits → at ≤ length b → at + (4 + total (form_of due).widths) ≤ length b
+  stage_room : r ≡ Ok tt → at ≤ length b → at + (4 + total (form_of due).widths) ≤ length b
   stage_room q h = let l : length (drop at b) ≡ length b - at = length-drop at b in omega (arith, (record_is (form_of due) (drop at b) _ _ (stage_took q)).there)
 
 -- a unit whose record is refused
@@ -97,21 +97,21 @@ module _ (b : List ℕ) (h : Header) where
     left = omega arith
 
     -- it is refused
-    pub units_refused : (n : ℕ) → r ≡ v.Refused n → units_left at u ≡ refused n
+    pub units_refused : (n : Refusal) → r ≡ Err n → units_left at u ≡ refused (number n)
     unfolding units_left form_of answering further
     units_refused n q =
-        let g = unit_refused h.choices (drop at b) n (stage_refused (d.Unit h.choices) b at r e n q) in
-        rw (left, many_refused (unit_parser h.choices) (h.units - (u + 1)) (drop at b) n g)
+        let g = unit_refused h.choices (drop at b) (number n) (stage_refused (d.Unit h.choices) b at r e n q) in
+        rw (left, many_refused (unit_parser h.choices) (h.units - (u + 1)) (drop at b) (number n) g)
 
     -- it is passed
-    pub units_step : r ≡ v.Fits → units_left at u ≡ units_left (at + (4 + 6 * h.choices)) (u + 1)
+    pub units_step : r ≡ Ok tt → units_left at u ≡ units_left (at + (4 + 6 * h.choices)) (u + 1)
     unfolding units_left form_of unit_form
     units_step q =
         let g = unit_took h.choices (drop at b) _ _ (stage_took (d.Unit h.choices) b at r e q) in
         rw (left) (many_on h (unit_parser h.choices) (h.units - (u + 1)) at _ _ (drop at b) g ∙ rw (drop-drop, total_entries))
 
     -- and the next starts within the bytes
-    pub units_room : r ≡ v.Fits → at ≤ length b → at + (4 + 6 * h.choices) ≤ length b
+    pub units_room : r ≡ Ok tt → at ≤ length b → at + (4 + 6 * h.choices) ≤ length b
     unfolding form_of unit_form
     units_room q k = rw total_entries at (stage_room (d.Unit h.choices) b at r e q k)
 
@@ -141,8 +141,8 @@ module _ (w : ℕ) (h : Header) (rs : List ℕ) (k : ℕ) (l : length rs ≡ h.r
 -- by a door
 module _ (door : Door) (b : List ℕ) where
   -- a refusal of the header is that of the reading
-  open_refused : (n : ℕ) → header_parser door b ≡ refused n → reading (r.Refused n) ≡ with_value header_in (parse door b)
-  unfolding parse reading with_value
+  open_refused : (n : ℕ) → header_parser door b ≡ refused n → refused n ≡ with_value header_in (parse door b)
+  unfolding parse with_value
   open_refused n e = sym (ap (with_value header_in) (bind_refused (header_parser door) _ b n e))
 
   module _ (w : ℕ) (h : Header) (e : header_parser door b ≡ took h w) where
@@ -152,8 +152,8 @@ module _ (door : Door) (b : List ℕ) where
     parse_on = bind_on (header_parser door) _ b h w e
 
     -- a refusal of the rates' record is that of opening
-    rates_refused : (n : ℕ) → record_due (rates_form h.rates) (drop w b) ≡ refused n → reading (r.Refused n) ≡ with_value header_in (parse door b)
-    unfolding after_header reading with_value further
+    rates_refused : (n : ℕ) → record_due (rates_form h.rates) (drop w b) ≡ refused n → refused n ≡ with_value header_in (parse door b)
+    unfolding after_header with_value further
     rates_refused n g = sym (ap (with_value header_in) (parse_on ∙ ap (further w) (bind_refused (record_due (rates_form h.rates)) _ (drop w b) n g)))
 
     -- after the rates the units decide
@@ -166,15 +166,14 @@ module _ (door : Door) (b : List ℕ) where
 
 -- the verdict on a header's record, and then on its drains
 module _ (door : Door) (b : List ℕ) (two : Bool) (r₀ : Verdict) (e₀ : verdict r₀ ≡ refusal_of (record_due (header_form (extra two)) b)) where
-  pub record_refused : (n : ℕ) → r₀ ≡ v.Refused n → some n ≡ header_refusal door two b
-  unfolding verdict header_refusal unless
+  pub record_refused : (n : Refusal) → r₀ ≡ Err n → some (number n) ≡ header_refusal door two b
+  unfolding header_refusal unless
   record_refused n q =
-      let k : refusal_of (record_due (header_form (extra two)) b) ≡ some n = sym e₀ ∙ rw q in
+      let k : refusal_of (record_due (header_form (extra two)) b) ≡ some (number n) = sym e₀ ∙ rw q in
       rw k refl
 
-  module _ (q₀ : r₀ ≡ v.Fits) where
+  module _ (q₀ : r₀ ≡ Ok tt) where
     fits_none : refusal_of (record_due (header_form (extra two)) b) ≡ none
-    unfolding verdict
     fits_none = sym e₀ ∙ rw q₀
 
     pub body_room : 22 + 6 * extra two ≤ length b
@@ -205,18 +204,17 @@ module _ (door : Door) (b : List ℕ) (two : Bool) (t : two ≡ eqb (field_at 2 
   -- r₁ is the verdict on it, as the code has it
   module _ (r₁ : Verdict) (e₁ : verdict r₁ ≡ header_refusal door two b) where
     -- its refusal is that of opening
-    pub first_refused : (n : ℕ) → r₁ ≡ v.Refused n → reading (r.Refused n) ≡ with_value header_in (parse door b)
-    unfolding verdict
-    first_refused n q = open_refused door b n (by_either (refusal_of (record_due (header_form (extra two)) b)) refl (sym e₁ ∙ rw q))
+    pub first_refused : (n : Refusal) → r₁ ≡ Err n → refused (number n) ≡ with_value header_in (parse door b)
+    first_refused n q = open_refused door b (number n) (by_either (refusal_of (record_due (header_form (extra two)) b)) refl (sym e₁ ∙ rw q))
       where
-        by_either : (o : Option ℕ) → refusal_of (record_due (header_form (extra two)) b) ≡ o → header_refusal door two b ≡ some n → header_parser door b ≡ refused n
-        by_either (some m) k g = unfold header_refusal unless header_parser in bind_refused header_read _ b n (header_refused n (k ∙ (rw k at g)))
-        by_either none k g = unfold header_refusal unless header_parser in bind_later header_read _ b _ _ n (header_taken k) (unfold draining unless_refused in rw (rw k at g))
+        by_either : (o : Option ℕ) → refusal_of (record_due (header_form (extra two)) b) ≡ o → header_refusal door two b ≡ some (number n) → header_parser door b ≡ refused (number n)
+        by_either (some m) k g = unfold header_refusal unless header_parser in bind_refused header_read _ b (number n) (header_refused (number n) (k ∙ (rw k at g)))
+        by_either none k g = unfold header_refusal unless header_parser in bind_later header_read _ b _ _ (number n) (header_taken k) (unfold draining unless_refused in rw (rw k at g))
 
-    module _ (q₁ : r₁ ≡ v.Fits) where
+    module _ (q₁ : r₁ ≡ Ok tt) where
       -- without one the header's fields are read
       no_refusals : (refusal_of (record_due (header_form (extra two)) b) ≡ none) × (broken (drain_limits door (header_of (fields (header_form (extra two)).widths (drop 4 b))).buckets) ≡ none)
-      unfolding verdict header_refusal
+      unfolding header_refusal
       no_refusals = first_none (refusal_of (record_due (header_form (extra two)) b)) _ (sym e₁ ∙ rw q₁)
 
       no_refusal : refusal_of (record_due (header_form (extra two)) b) ≡ none
@@ -260,17 +258,17 @@ module _ (door : Door) (b : List ℕ) (two : Bool) (t : two ≡ eqb (field_at 2 
         -- r₂ is the verdict on the rates' record
         module _ (r₂ : Verdict) (e₂ : verdict r₂ ≡ refusal_of (record_due (form_of (d.Rates h.rates)) (take (length b - w) (drop w b)))) where
           -- its refusal is that of opening
-          pub second_refused : (n : ℕ) → r₂ ≡ v.Refused n → reading (r.Refused n) ≡ with_value header_in (parse door b)
+          pub second_refused : (n : Refusal) → r₂ ≡ Err n → refused (number n) ≡ with_value header_in (parse door b)
           unfolding form_of
-          second_refused n q = rates_refused door b w h header_there n (stage_refused (d.Rates h.rates) b w r₂ e₂ n q)
+          second_refused n q = rates_refused door b w h header_there (number n) (stage_refused (d.Rates h.rates) b w r₂ e₂ n q)
 
           -- without one the rates lie within the bytes
-          pub rates_room : r₂ ≡ v.Fits → w + 4 + 2 * h.rates ≤ length b
+          pub rates_room : r₂ ≡ Ok tt → w + 4 + 2 * h.rates ≤ length b
           unfolding form_of rates_form
           rates_room q = omega (arith, rw total_same at (stage_room (d.Rates h.rates) b w r₂ e₂ q front_room))
 
           -- and the units decide
-          pub then_units : r₂ ≡ v.Fits → with_value header_in (parse door b) ≡ answering h (further (w + 4 + 2 * h.rates) (many h.units (unit_parser h.choices) (drop (w + 4 + 2 * h.rates) b)))
+          pub then_units : r₂ ≡ Ok tt → with_value header_in (parse door b) ≡ answering h (further (w + 4 + 2 * h.rates) (many h.units (unit_parser h.choices) (drop (w + 4 + 2 * h.rates) b)))
           unfolding form_of rates_form
           then_units q =
               let k : w + (4 + total (replicate h.rates 2)) ≡ w + 4 + 2 * h.rates = omega (arith, total_same h.rates 2) in

@@ -12,14 +12,18 @@ use lib.Seq.{take_all}
 use Rattle.std.specs.Prelude.{if◌then◌else◌}
 use Rattle.base.specs.Refusals.{unless, first}
 use Rattle.base.proofs.Refusals.{first_none}
-use Rattle.format.specs.Fields.{number, total, fields}
+use Rattle.format.specs.Fields.{total, fields}
+use Rattle.format.specs.Fields as bytes
 use Rattle.format.specs.Limits.{Limit, limit, broken}
 use Rattle.format.specs.Parser.{Result, refused, took, further, onward, ◌>>=◌, unless_refused, refusal_of}
 use Rattle.format.specs.Records.{Form, block, head_widths, head_limits, record_due}
 use Rattle.format.proofs.Limits.{not_some, is_kept, all_kept}
 use Rattle.format.proofs.Parsing.{has_taken, block_is}
-use Rattle.header.specs.declared.Verdict.{Verdict}
-use Rattle.header.specs.declared.Verdict.TheVariants.{Fits, Refused}
+use Rattle.std.specs.Prelude.{Ok, Err}
+use Rattle.header.specs.declared.refusal.Refusal.{Refusal}
+use Rattle.header.proofs.Told.{Verdict}
+use Rattle.header.specs.declared.refusal.Refusal.TheVariants as refusals
+use Rattle.header.specs.Refusals.{number}
 use Rattle.header.specs.Answers.{verdict}
 use Rattle.job.specs.Answers.{shape}
 use Rattle.header.proofs.Verdicts.{refuses}
@@ -67,9 +71,9 @@ module _ (f : Form) (len kind : ℕ) where
   head_by n e k r h = h ∙ rw (e, k, is_kept (limit 2 f.kind f.kind f.kind) (omega arith))
 
   -- a kind that is not the one due is refused
-  pub head_not : (kind ≡ f.kind → ⊥) → verdict (Refused 2) ≡ broken (head_limits f (len ∷ kind ∷ []))
+  pub head_not : (kind ≡ f.kind → ⊥) → some 2 ≡ broken (head_limits f (len ∷ kind ∷ []))
   unfolding head_limits
-  head_not g = refuses 2 _ (refl, (refl, tt)) (λ o. g (omega (arith, o)))
+  head_not g = refuses refusals.NotDue _ (refl, (refl, tt)) (λ o. g (omega (arith, o)))
 
   -- a head without refusal has the length that is due
   head_length : broken (head_limits f (len ∷ kind ∷ [])) ≡ none → len ≡ 2 + total f.widths
@@ -78,39 +82,38 @@ module _ (f : Form) (len kind : ℕ) where
 
 module _ (f : Form) (b : List ℕ) where
   -- a record whose head is not wholly there
-  pub shape_short : length b < 4 → verdict (Refused 1) ≡ shape f b
-  unfolding shape verdict unless total
+  pub shape_short : length b < 4 → some 1 ≡ shape f b
+  unfolding shape unless total
   shape_short h = rw (block_first head_widths (head_limits f) b, lt-ltb (length b) 4 h)
 
   -- where the head is there, its limits and then the body's presence
-  shape_there : 4 ≤ length b → shape f b ≡ first (broken (head_limits f (number (take 2 b) ∷ number (take 2 (drop 2 b)) ∷ []))) (if ltb (length (drop 4 b)) (total f.widths) then some 1 else none)
+  shape_there : 4 ≤ length b → shape f b ≡ first (broken (head_limits f (bytes.number (take 2 b) ∷ bytes.number (take 2 (drop 2 b)) ∷ []))) (if ltb (length (drop 4 b)) (total f.widths) then some 1 else none)
   unfolding shape unless total fields
   shape_there h = rw (block_first head_widths (head_limits f) b, le-ltb (length b) 4 h)
 
   -- the length and the kind are there, and r is the verdict on them
-  module _ (len kind : ℕ) (r : Verdict) (h : 4 ≤ length b) (l : len ≡ number (take 2 b)) (k : kind ≡ number (take 2 (drop 2 b))) (v : verdict r ≡ broken (head_limits f (len ∷ kind ∷ []))) where
+  module _ (len kind : ℕ) (r : Verdict) (h : 4 ≤ length b) (l : len ≡ bytes.number (take 2 b)) (k : kind ≡ bytes.number (take 2 (drop 2 b))) (v : verdict r ≡ broken (head_limits f (len ∷ kind ∷ []))) where
     -- the same with the verdict on the head
     shape_by : shape f b ≡ first (verdict r) (if ltb (length (drop 4 b)) (total f.widths) then some 1 else none)
     shape_by = shape_there h ∙ rw (← l, ← k, ← v)
 
     -- what the head is refused for comes first
-    pub shape_refused : (n : ℕ) → r ≡ Refused n → verdict (Refused n) ≡ shape f b
-    unfolding verdict unless
+    pub shape_refused : (n : Refusal) → r ≡ Err n → some (number n) ≡ shape f b
+    unfolding unless
     shape_refused n e = rw (shape_by, e)
 
     -- a head that fits has the length that is due
-    due : r ≡ Fits → len ≡ 2 + total f.widths
-    unfolding verdict
+    due : r ≡ Ok tt → len ≡ 2 + total f.widths
     due e = head_length f len kind (sym v ∙ rw e)
 
     -- then a body that is not wholly there
-    pub body_absent : r ≡ Fits → length b < len + 2 → verdict (Refused 1) ≡ shape f b
-    unfolding verdict unless
+    pub body_absent : r ≡ Ok tt → length b < len + 2 → some 1 ≡ shape f b
+    unfolding unless
     body_absent e a = rw (shape_by, e, lt-ltb (length (drop 4 b)) (total f.widths) (rw length-drop (omega (arith, due e))))
 
     -- and nothing where it is there
-    pub body_there : r ≡ Fits → len + 2 ≤ length b → verdict Fits ≡ shape f b
-    unfolding verdict unless
+    pub body_there : r ≡ Ok tt → len + 2 ≤ length b → none ≡ shape f b
+    unfolding unless
     body_there e a = rw (shape_by, e, le-ltb (length (drop 4 b)) (total f.widths) (rw length-drop (omega (arith, due e))))
 
   -- the refusal of a head and a body: the head's, then the body's
@@ -140,14 +143,13 @@ module _ (f : Form) (b : List ℕ) where
   -- r is the verdict on its shape
   module _ (r : Verdict) (v : verdict r ≡ shape f b) where
     -- its refusal is the record's
-    pub record_refused : (n : ℕ) → r ≡ Refused n → verdict (Refused n) ≡ refusal_of (record_due f b)
-    unfolding verdict unless
-    record_refused n e = let s : shape f b ≡ some n = sym v ∙ rw e in sym (record_refusal ∙ rw s)
+    pub record_refused : (n : Refusal) → r ≡ Err n → some (number n) ≡ refusal_of (record_due f b)
+    unfolding unless
+    record_refused n e = let s : shape f b ≡ some (number n) = sym v ∙ rw e in sym (record_refusal ∙ rw s)
 
-    module _ (e : r ≡ Fits) where
+    module _ (e : r ≡ Ok tt) where
       -- no refusal
       fitting : shape f b ≡ none
-      unfolding verdict
       fitting = sym v ∙ rw e
 
       -- its fields decide

@@ -1,5 +1,7 @@
 -- What the reader's structs and answers mean in the terms of the crates below, case by case.
 use Rattle.std.specs.Prelude.{ℕ, ◌≤◌, Bool, List, ltb, length, drop, if◌then◌else◌}
+use Rattle.std.specs.Prelude.{Ok, Err}
+use Rattle.std.specs.Prelude as std
 use Rattle.std.proofs.Math.Option.{Option, none, some}
 use Rattle.base.specs.Refusals.{first}
 use Rattle.format.specs.Fields.{total, fields}
@@ -12,12 +14,13 @@ use Rattle.header.specs.Answers.{plain, extra}
 use Rattle.job.specs.declared.Due.{Due}
 use Rattle.job.specs.declared.Due.TheVariants as d
 use Rattle.job.specs.declared.Reading.{Reading}
-use Rattle.job.specs.declared.Reading.TheVariants as r
+use Rattle.header.specs.declared.refusal.Refusal.{Refusal}
+use Rattle.header.specs.Refusals.{number}
 
 -- the answer of opening, in document 01's terms: the refusal's number, or the header and how many bytes the job took
-unfoldable pub reading : Reading → Result format.Header
-reading (r.Refused n) = refused n
-reading (r.Read h k) = took (plain h) k
+abbrev pub reading : std.Result Reading Refusal → Result format.Header
+reading (Err r) = refused (number r)
+reading (Ok k) = took (plain k.header) k.taken
 
 -- the record that is due
 unfoldable pub form_of : Due → Form

@@ -1,12 +1,12 @@
 -- The sizes of a line's layer, its places and its rates, as the code computes them.
 use Prim.Native.Nat.{ℕ, ◌+◌, ◌*◌, ◌≤◌}
 use mathlib.Core.Path.{◌≡◌, refl, sym}
-use mathlib.Core.Bool.{Bool, true, false, ◌&&◌}
 use mathlib.Core.List.{[], ◌∷◌, map}
-use Rattle.base.specs.If.{one_if}
-use Rattle.format.proofs.Limits.{not_true}
+use Rattle.std.specs.Prelude.{Some, None}
+use Rattle.std.specs.Prelude as std
+use Rattle.std.specs.Option.{option_map, option_to_list}
 use Rattle.interval.specs.declared.Buffers.{Buffers}
-use Rattle.interval.proofs.Steps.{true_both}
+use Rattle.interval.specs.declared.Policer.{Policer}
 use native.Mathlib.Nat.{mul-one, mul-le-mul}
 use native.Mathlib.Omega.{arith}
 use mir.Syntax.{w64}
@@ -16,7 +16,7 @@ use lib.Seq.{length-take-le}
 use Rattle.model.specs.Job.{Bucket}
 use Rattle.model.specs.Table.{layer_words, tops, flat, span, place}
 use Rattle.interval.specs.declared.Levels.{Levels}
-use Rattle.interval.specs.Answers.{levels_of, second_of, line_of}
+use Rattle.interval.specs.Answers.{levels_of, bucket_is, line_of}
 use Rattle.line.specs.declared.Line.{Line}
 use Rattle.line.specs.Answers.{line_is, second_sizes, BuffersFit, LineFits}
 
@@ -42,54 +42,49 @@ three_small a b c h k l =
 
 -- how many levels the second bucket has
 module _ (k : Buffers) where
-  pub two_levels : k.two ≡ true → k.bucket2 + 1 ≡ span (second_sizes k)
-  unfolding second_sizes one_if span
-  two_levels e = rw e (sym (mul-one (k.bucket2 + 1)))
+  pub two_levels : (b : Policer) → k.second ≡ Some b → b.size + 1 ≡ span (second_sizes k)
+  unfolding second_sizes span
+  two_levels b e = rw e (sym (mul-one (b.size + 1)))
 
-  pub one_level : k.two ≡ false → 1 ≡ span (second_sizes k)
-  unfolding second_sizes one_if span
+  pub one_level : k.second ≡ None → 1 ≡ span (second_sizes k)
+  unfolding second_sizes span
   one_level e = rw e
 
-  pub levels_most : span (second_sizes k) ≤ k.bucket2 + 1
-  levels_most = go k.two refl
+  pub each_size : (k.decoder + 1) * ((k.first.size + 1) * span (second_sizes k)) ≡ layer_words (line_of k [])
+  unfolding line_of tops span second_sizes
+  each_size = go k.second
     where
-      go : (t : Bool) → k.two ≡ t → span (second_sizes k) ≤ k.bucket2 + 1
-      go true e = omega (arith, two_levels e)
-      go false e = omega (arith, one_level e)
-
-  pub each_size : (k.decoder + 1) * ((k.bucket + 1) * span (second_sizes k)) ≡ layer_words (line_of k [])
-  unfolding line_of tops span second_sizes second_of
-  each_size = go k.two
-    where
-      go : (t : Bool) → (k.decoder + 1) * ((k.bucket + 1) * span (one_if t k.bucket2)) ≡ span (k.decoder ∷ k.bucket ∷ map (λ (b : Bucket). b.size) (one_if t (record { size = k.bucket2; drain = k.drain2 })))
-      go true = unfold span one_if in refl
-      go false = unfold span one_if in refl
+      go : (o : std.Option Policer) → (k.decoder + 1) * ((k.first.size + 1) * span (option_to_list (option_map (λ b. b.size) o))) ≡ span (k.decoder ∷ k.first.size ∷ map (λ (b : Bucket). b.size) (option_to_list (option_map bucket_is o)))
+      go None = refl
+      go (Some b) = refl
 
   pub each_small : BuffersFit k → layer_words (line_of k []) ≤ 4194304
   each_small f =
-      let s : span (second_sizes k) ≤ 64 = go k.two refl in
-      let r : (k.bucket + 1) * span (second_sizes k) ≤ 16384 = mul-le-mul {n₂ = 256} {m₂ = 64} (omega (arith, f.bucket)) s in
+      let s : span (second_sizes k) ≤ 64 = go k.second refl in
+      let r : (k.first.size + 1) * span (second_sizes k) ≤ 16384 = mul-le-mul {n₂ = 256} {m₂ = 64} (omega (arith, f.bucket)) s in
       rw (← each_size) (mul-le-mul {n₂ = 256} {m₂ = 16384} (omega (arith, f.decoder)) r)
     where
-      go : (t : Bool) → k.two ≡ t → span (second_sizes k) ≤ 64
-      go true e = omega (arith, two_levels e, f.second e)
-      go false e = omega (arith, one_level e)
+      go : (o : std.Option Policer) → k.second ≡ o → span (second_sizes k) ≤ 64
+      go (Some b) e = omega (arith, two_levels b e, f.second b e)
+      go None e = omega (arith, one_level e)
 
   -- the place of the second bucket's level
-  module _ (at : Levels) where
-    pub both_place : (k.two && at.two) ≡ true → at.bucket2 ≡ place (second_sizes k) (one_if at.two at.bucket2)
-    unfolding second_sizes one_if place span
-    both_place e = let t = true_both k.two at.two e in rw (t.0, t.1) (omega arith)
+  module _ (p : std.Option ℕ) where
+    pub both_place : (b : Policer) (x : ℕ) → k.second ≡ Some b → p ≡ Some x → x ≡ place (second_sizes k) (option_to_list p)
+    unfolding second_sizes place span
+    both_place b x e f = rw (e, f) (omega arith)
 
-    pub no_place : (k.two && at.two) ≡ false → 0 ≡ place (second_sizes k) (one_if at.two at.bucket2)
-    unfolding second_sizes one_if place
-    no_place e = go k.two at.two e
+    pub no_level : (b : Policer) → k.second ≡ Some b → p ≡ None → 0 ≡ place (second_sizes k) (option_to_list p)
+    unfolding second_sizes place
+    no_level b e f = rw (e, f) refl
+
+    pub no_bucket : k.second ≡ None → 0 ≡ place (second_sizes k) (option_to_list p)
+    unfolding second_sizes place
+    no_bucket e = rw e (go p)
       where
-        go : (s t : Bool) → (s && t) ≡ false → 0 ≡ place (one_if s k.bucket2) (one_if t at.bucket2)
-        go true true e = absurd (not_true (sym e))
-        go true false e = refl
-        go false true e = refl
-        go false false e = refl
+        go : (o : std.Option ℕ) → 0 ≡ place [] (option_to_list o)
+        go None = refl
+        go (Some x) = refl
 
 module _ (l : Line) where
   pub layer_size : layer_words (line_of l.buffers []) ≡ layer_words (line_is l)
@@ -99,22 +94,14 @@ module _ (l : Line) where
   pub layer_small : LineFits l → layer_words (line_is l) ≤ 4194304
   layer_small f = rw (← layer_size) (each_small l.buffers f.buffers)
 
-  pub place_is : (at : Levels) → at.decoder * ((l.buffers.bucket + 1) * span (second_sizes l.buffers)) + at.bucket * span (second_sizes l.buffers) + place (second_sizes l.buffers) (one_if at.two at.bucket2) ≡ place (tops (line_is l)) (flat (levels_of at))
-  unfolding line_is line_of tops span flat levels_of place second_sizes second_of
-  place_is at = go l.buffers.two
+  pub place_is : (at : Levels) → at.decoder * ((l.buffers.first.size + 1) * span (second_sizes l.buffers)) + at.bucket * span (second_sizes l.buffers) + place (second_sizes l.buffers) (option_to_list at.bucket2) ≡ place (tops (line_is l)) (flat (levels_of at))
+  unfolding line_is line_of tops span flat levels_of place second_sizes
+  place_is at = go l.buffers.second
     where
-      go : (t : Bool) → at.decoder * ((l.buffers.bucket + 1) * span (one_if t l.buffers.bucket2)) + at.bucket * span (one_if t l.buffers.bucket2) + place (one_if t l.buffers.bucket2) (one_if at.two at.bucket2) ≡ place (l.buffers.decoder ∷ l.buffers.bucket ∷ map (λ (b : Bucket). b.size) (one_if t (record { size = l.buffers.bucket2; drain = l.buffers.drain2 }))) (at.decoder ∷ at.bucket ∷ one_if at.two at.bucket2)
-      go true = unfold place span one_if in (omega arith)
-      go false = unfold place span one_if in (omega arith)
+      go : (o : std.Option Policer) → at.decoder * ((l.buffers.first.size + 1) * span (option_to_list (option_map (λ b. b.size) o))) + at.bucket * span (option_to_list (option_map (λ b. b.size) o)) + place (option_to_list (option_map (λ b. b.size) o)) (option_to_list at.bucket2) ≡ place (l.buffers.decoder ∷ l.buffers.first.size ∷ map (λ (b : Bucket). b.size) (option_to_list (option_map bucket_is o))) (at.decoder ∷ at.bucket ∷ option_to_list at.bucket2)
+      go None = omega arith
+      go (Some b) = omega arith
 
   pub rates_count : LineFits l → length (line_is l).rates ≡ l.count
   unfolding line_is line_of
   rates_count f = length-take-le l.count l.rates (rw f.size f.rates)
-
--- the place of a second level is small
-pub place_most : (k : Buffers) (at : Levels) → place (second_sizes k) (one_if at.two at.bucket2) ≤ at.bucket2
-place_most k at = go (k.two && at.two) refl
-  where
-    go : (t : Bool) → (k.two && at.two) ≡ t → place (second_sizes k) (one_if at.two at.bucket2) ≤ at.bucket2
-    go true e = omega (arith, both_place k at e)
-    go false e = omega (arith, no_place k at e)

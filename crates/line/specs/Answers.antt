@@ -1,7 +1,10 @@
 -- What the structs of this crate mean in the terms of `model`, and what its functions say and ask.
-use Rattle.std.specs.Prelude.{ℕ, ◌+◌, ◌*◌, ◌<◌, ◌≤◌, ◌≡◌, true, List, [], length, get_or, take}
+use Rattle.std.specs.Prelude.{ℕ, ◌+◌, ◌*◌, ◌<◌, ◌≤◌, ◌≡◌, List, [], length, get_or, take}
 use Rattle.std.proofs.Math.Option.{Option}
-use Rattle.base.specs.If.{one_if}
+use Rattle.std.specs.Prelude.{Some}
+use Rattle.std.specs.Option.{option_map, option_to_list}
+use Rattle.interval.specs.declared.Policer.{Policer}
+use Rattle.sender.specs.declared.Bucket.{Bucket}
 use Rattle.model.specs.Job as model
 use Rattle.model.specs.Step.{Outcome, outcome_of}
 use Rattle.model.specs.Table.{InLayer, layer_words}
@@ -27,16 +30,16 @@ candidate_is x = coding_if x.free x.size x.distortion
 
 -- the size of the second bucket, where there is one
 unfoldable pub second_sizes : Buffers → List ℕ
-second_sizes k = one_if k.two k.bucket2
+second_sizes k = option_to_list (option_map (λ b. b.size) k.second)
 
 -- What the functions say and ask.
 
 -- the limits of buffers, and of a line with its array of rates
 pub record BuffersFit (k : Buffers) : Type 0 where
   pub decoder : k.decoder ≤ 255
-  pub bucket : k.bucket ≤ 255
-  pub drain : k.drain ≤ 4095
-  pub second : k.two ≡ true → (k.bucket2 ≤ 63) × (k.drain2 ≤ 4095)
+  pub bucket : k.first.size ≤ 255
+  pub drain : k.first.drain ≤ 4095
+  pub second : (b : Policer) → k.second ≡ Some b → (b.size ≤ 63) × (b.drain ≤ 4095)
 
 pub record LineFits (l : Line) : Type 0 where
   pub buffers : BuffersFit l.buffers
@@ -59,6 +62,11 @@ pub data FilledAs (line : model.Line) (as_filled : model.Line) : Type 0 where
 pub record LayerLine (l : Line) (r : layer_line.Line) : Type 0 where
   pub is : FilledAs (line_is l) (layer_answers.line_is r)
   pub fits : layer_answers.LineFits r
+
+-- a bucket as layers are filled over it
+pub record BucketOf (k : Policer) (r : Bucket) : Type 0 where
+  pub size : r.size ≡ k.size
+  pub drain : r.drain ≡ k.drain
 
 -- what an interval does that sends so much and decodes a coding of this size and distortion
 pub record IntervalOf (sent size distortion : ℕ) (x : Interval) : Type 0 where

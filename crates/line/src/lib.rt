@@ -4,14 +4,14 @@
 #![tactic(auto)]
 
 ghost use Rattle.std.specs.Prelude.{◌≡◌, [], ◌+◌, ◌≤◌, length};
-ghost use Rattle.base.specs.If.{one_if};
+ghost use Rattle.std.specs.Option.{option_to_list};
 ghost use Rattle.model.specs.Table.{span, layer_words, tops, flat, place, layer_of, word_in};
 ghost use Rattle.interval.specs.Answers.{levels_of, line_of};
 ghost use Rattle.planning.specs.Rule.{coding_offer};
 ghost use Rattle.planning.specs.Passes.{charged};
-ghost use Rattle.line.specs.Answers.{line_is, candidate_is, second_sizes, LineFits, WordAsked, LayerLine, IntervalOf};
+ghost use Rattle.line.specs.Answers.{line_is, candidate_is, second_sizes, LineFits, WordAsked, LayerLine, BucketOf, IntervalOf};
 
-use interval::{Buffers, Interval, Levels, Outcome};
+use interval::{Buffers, Interval, Levels, Policer};
 use sender::Bucket;
 
 // What receiver and carrier fix: the decoder's size, the buckets and the rates on offer, of which there are `count`.
@@ -37,19 +37,19 @@ const LARGEST: u32 = 512000000;
 
 // How many levels the second bucket has; one where there is none.
 fn second_levels(buffers: Buffers) -> usize
-    ensures { result ≡ span (second_sizes buffers) }
+    ensures { (result ≡ span (second_sizes buffers)) × (result ≤ 65536) }
 {
-    if buffers.two {
-        return buffers.bucket2 as usize + 1;
+    match buffers.second {
+        None => 1,
+        Some(bucket) => bucket.size as usize + 1,
     }
-    1
 }
 
 // How many words a layer over such buffers has: one for each decoder level and levels of the buckets.
 pub fn words_each(buffers: Buffers) -> usize
     ensures { result ≡ layer_words (line_of buffers []) }
 {
-    let row = (buffers.bucket as usize + 1) * second_levels(buffers);
+    let row = (buffers.first.size as usize + 1) * second_levels(buffers);
     (buffers.decoder as usize + 1) * row
 }
 
@@ -62,12 +62,12 @@ pub fn layer_words(line: Line) -> usize
 
 // The place of the second bucket's level among its levels.
 fn second_place(buffers: Buffers, at: Levels) -> usize
-    ensures { result ≡ place (second_sizes buffers) (one_if at.two at.bucket2) }
+    ensures { (result ≡ place (second_sizes buffers) (option_to_list at.bucket2)) × (result ≤ 65535) }
 {
-    if buffers.two & at.two {
-        return at.bucket2 as usize;
+    match (buffers.second, at.bucket2) {
+        (Some(_), Some(level)) => level as usize,
+        _ => 0,
     }
-    0
 }
 
 // The place of levels in a layer, the decoder's outermost and the second bucket's innermost.
@@ -75,7 +75,7 @@ pub fn word_place(line: Line, at: Levels) -> usize
     ensures { result ≡ place (tops (line_is line)) (flat (levels_of at)) }
 {
     let each = second_levels(line.buffers);
-    let row = (line.buffers.bucket as usize + 1) * each;
+    let row = (line.buffers.first.size as usize + 1) * each;
     at.decoder as usize * row + at.bucket as usize * each + second_place(line.buffers, at)
 }
 
@@ -127,8 +127,8 @@ pub fn offer(next: &[u32], line: Line, from: Levels, sent: u16, candidate: Candi
     let distortion = candidate.distortion;
     let x = interval_of(sent, size, distortion);
     match interval::step(buffers, from, x) {
-        Outcome::Violates(_) => NONE,
-        Outcome::Reaches(to) => {
+        Err(_) => NONE,
+        Ok(to) => {
             let at = word_place(line, to);
             charged(next[at], distortion)
         }
@@ -141,30 +141,34 @@ pub fn layer_line(line: Line) -> sender::Line
     ensures { LayerLine line result }
 {
     let rates = line.rates;
-    let first = Bucket {
-        size: line.buffers.bucket,
-        drain: line.buffers.drain,
-    };
-    if line.buffers.two {
-        return sender::Line {
+    let first = bucket_of(line.buffers.first);
+    match line.buffers.second {
+        None => sender::Line {
             decoder: line.buffers.decoder,
-            outer: first,
-            inner: Bucket {
-                size: line.buffers.bucket2,
-                drain: line.buffers.drain2,
+            outer: Bucket {
+                size: 0,
+                drain: 4095,
             },
+            inner: first,
             count: line.count,
             rates,
-        };
-    }
-    sender::Line {
-        decoder: line.buffers.decoder,
-        outer: Bucket {
-            size: 0,
-            drain: 4095,
         },
-        inner: first,
-        count: line.count,
-        rates,
+        Some(second) => sender::Line {
+            decoder: line.buffers.decoder,
+            outer: first,
+            inner: bucket_of(second),
+            count: line.count,
+            rates,
+        },
+    }
+}
+
+// A bucket as layers are filled over it.
+fn bucket_of(policer: Policer) -> Bucket
+    ensures { BucketOf policer result }
+{
+    Bucket {
+        size: policer.size,
+        drain: policer.drain,
     }
 }

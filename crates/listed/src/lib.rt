@@ -2,24 +2,32 @@
 
 #![tactic(auto)]
 
-ghost use Rattle.std.specs.Prelude.{◌≡◌};
+ghost use Rattle.std.specs.Prelude.{◌≡◌, Err};
 ghost use Rattle.exporting.specs.Playlists.{told, playlisted, playlist_export};
 ghost use Rattle.playlist.specs.Answers.{outcome};
 
-use playlist::Outcome;
-use values::DONE;
+use playlist::Stopped;
 
 // What a place counts in the answer.
 const PLACE: u32 = 256;
 
-// The answer as one number: 0, the number of a refusal of the list, or 256 times the place of the programme that was refused, and its number.
-fn number_of(answer: Outcome) -> u32
+// The number of a refusal of the list, or 256 times the place of the programme that was refused, and its number.
+fn stopped_number(stopped: Stopped) -> u32
+    ensures { result ≡ told (outcome (Err stopped)) }
+{
+    match stopped {
+        Stopped::List(refusal) => u32::from(refusal),
+        Stopped::Programme { place, refusal } => PLACE * place as u32 + u32::from(refusal),
+    }
+}
+
+// The answer as one number, 0 where all are planned.
+fn number_of(answer: Result<(), Stopped>) -> u32
     ensures { result ≡ told (outcome answer) }
 {
     match answer {
-        Outcome::Finished => DONE,
-        Outcome::RefusedList(n) => n as u32,
-        Outcome::RefusedAt { place, number } => PLACE * place as u32 + number as u32,
+        Ok(()) => 0,
+        Err(stopped) => stopped_number(stopped),
     }
 }
 

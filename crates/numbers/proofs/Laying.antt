@@ -1,39 +1,29 @@
 -- The numbers of a set as they are laid down: the header's, the pins, the totals.
+use Rattle.std.specs.Prelude.{Option, Some, None}
 use Prim.Native.Nat.{ℕ, ◌+◌}
 use mathlib.Core.Path.{◌≡◌, refl, ap, ◌∙◌}
-use mathlib.Core.Bool.{Bool, true, false}
 use mathlib.Core.List.{List, [], ◌∷◌, ◌++◌, append_assoc}
 use native.Mathlib.Omega.{arith}
 use lib.ListN.{length, get_or, drop, length-append}
 use lib.Seq.{length-take-le}
-use Rattle.base.specs.If.{one_if}
 use Rattle.base.specs.Lent.{over, over_at}
 use Rattle.base.proofs.Lent.{over_behind}
 use Rattle.format.specs.JobBytes.{Policed, Header, no_bucket, further_buckets, bucket_values, nine_values, header_values, header_kind}
+use Rattle.header.specs.declared.Bucket.{Bucket}
 use Rattle.header.specs.declared.Header as code
 use Rattle.header.specs.Answers.{policed_of, plain}
 use Rattle.pinning.specs.PinSet.{PinSet}
 use Rattle.pinning.specs.Numbers.{twelve, total_numbers, set_numbers}
 use Rattle.numbers.specs.Parts.{header_numbers}
 
--- a header with one bucket and with two
-module _ (h : code.Header) where
-  pub two_is : h.two ≡ true → (8 ≡ header_kind (further_buckets (plain h))) × (policed_of h.second ≡ get_or (plain h).buckets 1 no_bucket)
-  unfolding plain one_if header_kind
-  two_is e = rw e (refl, refl)
-
-  pub one_is : h.two ≡ false → (1 ≡ header_kind (further_buckets (plain h))) × (no_bucket ≡ get_or (plain h).buckets 1 no_bucket)
-  unfolding plain one_if header_kind
-  one_is e = rw e (refl, refl)
-
-  -- its thirteen numbers, from its kind and what stands for a second bucket
-  pub header_laid : (kind : ℕ) (k2 : Policed) → kind ≡ header_kind (further_buckets (plain h)) → k2 ≡ get_or (plain h).buckets 1 no_bucket → kind ∷ h.units ∷ h.delay ∷ h.decoder ∷ h.first.size ∷ h.first.drain ∷ h.level ∷ h.first.fill ∷ h.rates ∷ h.choices ∷ k2.size ∷ k2.drain ∷ k2.fill ∷ [] ≡ header_numbers (plain h)
-  unfolding header_numbers twelve header_values nine_values bucket_values plain policed_of one_if header_kind
-  header_laid kind k2 e f = go h.two refl
-    where
-      go : (t : Bool) → h.two ≡ t → kind ∷ h.units ∷ h.delay ∷ h.decoder ∷ h.first.size ∷ h.first.drain ∷ h.level ∷ h.first.fill ∷ h.rates ∷ h.choices ∷ k2.size ∷ k2.drain ∷ k2.fill ∷ [] ≡ header_numbers (plain h)
-      go true t = rw (e, f, t)
-      go false t = rw (e, f, t)
+-- a header's thirteen numbers, from its kind and what stands for a second bucket
+pub header_laid : (h : code.Header) (kind : ℕ) (k2 : Policed) → kind ≡ header_kind (further_buckets (plain h)) → k2 ≡ get_or (plain h).buckets 1 no_bucket → kind ∷ h.units ∷ h.delay ∷ h.decoder ∷ h.first.size ∷ h.first.drain ∷ h.level ∷ h.first.fill ∷ h.rates ∷ h.choices ∷ k2.size ∷ k2.drain ∷ k2.fill ∷ [] ≡ header_numbers (plain h)
+unfolding header_numbers twelve header_values nine_values bucket_values plain policed_of header_kind
+header_laid h kind k2 e f = go h.second refl
+  where
+    go : (o : Option Bucket) → h.second ≡ o → kind ∷ h.units ∷ h.delay ∷ h.decoder ∷ h.first.size ∷ h.first.drain ∷ h.level ∷ h.first.fill ∷ h.rates ∷ h.choices ∷ k2.size ∷ k2.drain ∷ k2.fill ∷ [] ≡ header_numbers (plain h)
+    go (Some k) t = rw (e, f, t)
+    go None t = rw (e, f, t)
 
 -- lists of 13, 512 and 3 numbers, each laid down behind the one before
 parts_laid : (w p t list : List ℕ) → length w ≡ 13 → length p ≡ 512 → length t ≡ 3 → over_at 525 t (over_at 13 p (over w list)) ≡ over (w ++ (p ++ t)) list

@@ -8,7 +8,7 @@ ghost use Rattle.format.specs.JobBytes.{no_bucket, further_buckets, header_kind,
 ghost use Rattle.header.specs.Answers.{policed_of, plain};
 ghost use Rattle.pinning.specs.Numbers.{total_numbers, set_numbers, two_byte, one_kind, set_shaped, field_count, set_in};
 ghost use Rattle.pinset.specs.Answers.{set_of};
-ghost use Rattle.numbers.specs.Parts.{header_numbers, bucket_at_lem, FieldIn};
+ghost use Rattle.numbers.specs.Parts.{header_numbers, bucket_at_lem, SecondIn, FieldIn};
 
 use header::{Bucket, Choice, Header};
 use pinset::PinSet;
@@ -24,9 +24,6 @@ const SIZES: usize = 526;
 
 const DISTORTIONS: usize = 527;
 
-// How many numbers stand between the kind and the totals: the fields and the pins, which are of two bytes each.
-const FIELDS: usize = 524;
-
 // What is past every number of two bytes.
 const PAST: u32 = 65536;
 
@@ -35,9 +32,8 @@ fn two_byte(list: &[u32]) -> bool
     requires { 528 ≤ length list.now }
     ensures { result ≡ two_byte list.now 1 524 }
 {
-    for i in 0..FIELDS {
-        let at = 1 + i;
-        if PAST <= list[at] {
+    for number in &list[1..COUNT] {
+        if PAST <= *number {
             return false;
         }
     }
@@ -88,7 +84,19 @@ fn bucket_in(list: &[u32], size: usize, drain: usize, fill: usize) -> Bucket
     }
 }
 
-// The header; the numbers of a second bucket are 0 where the kind tells of none.
+// The second bucket, where the kind tells of one.
+fn second_in(list: &[u32]) -> Option<Bucket>
+    requires { set_shaped list.now ≡ true }
+    ensures { SecondIn list.now result }
+{
+    if list[0] == Header::TWO_KIND as u32 {
+        Some(bucket_in(list, 10, 11, 12))
+    } else {
+        None
+    }
+}
+
+// The header.
 fn header_in(list: &[u32]) -> Header
     requires { set_shaped list.now ≡ true }
     ensures { plain result ≡ header_of (take (field_count list.now) (drop 1 list.now)) }
@@ -99,8 +107,7 @@ fn header_in(list: &[u32]) -> Header
         decoder: field(list, 3),
         level: field(list, 6),
         first: bucket_in(list, 4, 5, 7),
-        two: list[0] == Header::TWO_KIND as u32,
-        second: bucket_in(list, 10, 11, 12),
+        second: second_in(list),
         rates: field(list, 8),
         choices: field(list, 9),
     }
@@ -112,9 +119,9 @@ fn pins_in(list: &[u32]) -> [Choice; 512]
     ensures { result ≡ take 512 (drop 13 list.now) }
 {
     let mut pins = [0u16; 512];
-    for place in 0..512 {
+    for (place, pin) in pins.iter_mut().enumerate() {
         let from = PINS + place;
-        pins[place] = field(list, from);
+        *pin = field(list, from);
     }
     pins
 }
@@ -139,24 +146,23 @@ pub fn set_in(list: &[u32]) -> PinSet
 fn kind_of(header: Header) -> u16
     ensures { result ≡ header_kind (further_buckets (plain header)) }
 {
-    if header.two {
-        Header::TWO_KIND
-    } else {
-        Header::KIND
+    match header.second {
+        None => Header::KIND,
+        Some(_) => Header::TWO_KIND,
     }
 }
 
-// The second bucket, or zeros where there is none: what a header holds of a bucket that it has not is not handed out.
+// The second bucket, or zeros where there is none.
 fn second_of(header: Header) -> Bucket
     ensures { policed_of result ≡ get_or (plain header).buckets 1 no_bucket }
 {
-    if header.two {
-        return header.second;
-    }
-    Bucket {
-        size: 0,
-        drain: 0,
-        fill: 0,
+    match header.second {
+        None => Bucket {
+            size: 0,
+            drain: 0,
+            fill: 0,
+        },
+        Some(second) => second,
     }
 }
 
@@ -182,21 +188,14 @@ fn put_header(header: Header, list: &mut [u32])
     list[12] = second.fill as u32;
 }
 
-// A pin as a number of the list.
-fn wide(pin: Choice) -> u32
-    ensures { result ≡ pin }
-{
-    pin as u32
-}
-
 // Writes the pins to their place.
 fn put_pins(pins: &[Choice; 512], list: &mut [u32])
     requires { (length pins.now ≡ 512) × (525 ≤ length list.old) }
     ensures { list.new ≡ over_at 13 pins.now list.old }
 {
-    for place in 0..512 {
+    for (place, pin) in pins.iter().enumerate() {
         let to = PINS + place;
-        list[to] = wide(pins[place]);
+        list[to] = u32::from(*pin);
     }
 }
 

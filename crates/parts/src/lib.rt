@@ -10,7 +10,7 @@ ghost use Rattle.parts.specs.Answers.{decoded, drained};
 use header::Choice;
 
 // The violations, document 01's breaches and document 02's of a second bucket, in the order in which they are tested.
-#[derive(Clone, Copy)]
+#[derive(Clone, Copy, Debug, PartialEq, Eq)]
 pub enum Violation {
     DecoderOverflow,
     DecoderUnderflow,
@@ -19,32 +19,25 @@ pub enum Violation {
     PinNotHeld,
 }
 
-// The decoder's part of an interval: its level at the end, or the limit that it violates.
-#[derive(Clone, Copy)]
-pub enum Decoded {
-    Level(u16),
-    Violated(Violation),
-}
-
 // The bucket's part of an interval: its level at the end, and what it could have drained besides.
-#[derive(Clone, Copy)]
+#[derive(Clone, Copy, Debug, PartialEq, Eq)]
 pub struct Drained {
     pub level: u32,
     pub unused: u32,
 }
 
-// (16), and its limits: over by the peak, which stands before the unit leaves; then short.
-pub fn decoder_step(size: u16, level: u16, sent: u16, taken: u16) -> Decoded
+// The decoder's part of an interval: its level at the end, or the limit that it violates. (16), and its limits: over by the peak, which stands before the unit leaves; then short.
+pub fn decoder_step(size: u16, level: u16, sent: u16, taken: u16) -> Result<u16, Violation>
     ensures { decoded result ≡ decoder_step size level sent taken }
 {
     let peak = level as u32 + sent as u32;
     if (size as u32) < peak {
-        return Decoded::Violated(Violation::DecoderOverflow);
+        return Err(Violation::DecoderOverflow);
     }
     if peak < taken as u32 {
-        return Decoded::Violated(Violation::DecoderUnderflow);
+        return Err(Violation::DecoderUnderflow);
     }
-    Decoded::Level((peak - taken as u32) as u16)
+    Ok((peak - taken as u32) as u16)
 }
 
 // Example 1: the larger of level + sent - drain and 0. The larger of drain - level - sent and 0 goes unused.

@@ -9,9 +9,10 @@ use Rattle.format.specs.Parser as P
 use Rattle.format.specs.JobBytes.{header_in, no_header, Door, parse}
 use Rattle.pinning.specs.PinSet.{fresh}
 use Rattle.pinning.specs.Calls.{Opening, opened, open_call}
+use Rattle.header.specs.Answers.{answer_by}
 use Rattle.pins.specs.declared.Opened.{Opened}
 use Rattle.pinset.specs.Answers.{set_of}
-use Rattle.pins.specs.Answers.{opening_answer, opening}
+use Rattle.pins.specs.Answers.{opening}
 
 -- a job that did not open
 pub not_open : (p : P.Result Job) (n : ℕ) → (opened p).answer ≡ refused n → (p ≡ P.refused n) × ((opened p).set ≡ fresh no_header)
@@ -32,7 +33,7 @@ is_open (P.took j m) k e = let q : m ≡ k = cc in record { job = j; is = rw q; 
 
 -- x is the answer of opening
 module _ (d : Door) (b : List ℕ) (x : Opened) (e : opening x ≡ open_call d b) where
-  pub answer_is : (opened (parse d b)).answer ≡ opening_answer x.answer
+  pub answer_is : (opened (parse d b)).answer ≡ answer_by (λ k. k) x.answer
   unfolding opening open_call
   answer_is = ap (λ (t : Opening). t.answer) (sym e)
 

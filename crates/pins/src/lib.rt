@@ -3,46 +3,31 @@
 #![tactic(auto)]
 
 pub mod kind;
-pub mod refusal;
 
 ghost use Rattle.std.specs.Prelude.{◌≡◌};
 ghost use Rattle.model.specs.Pins.{pin, lift, outside};
 ghost use Rattle.format.specs.JobBytes.{no_header, job_in};
+ghost use Rattle.header.specs.Refusals.{number};
 ghost use Rattle.header.specs.Answers.{plain, door_of};
 ghost use Rattle.pinning.specs.Check.{Ready};
 ghost use Rattle.pinning.specs.Calls.{open_call, refuse, call_in, call};
 ghost use Rattle.pinset.specs.Answers.{set_of};
 ghost use Rattle.pins.specs.Answers.{opening, handed};
 
-use header::{Bucket, Door, Header};
-use job::Reading;
+use header::{Bucket, Door, Header, Refusal};
 use pinset::PinSet;
 
-// How many bytes the job took, or the refusal's number.
-#[derive(Clone, Copy)]
-pub enum Opening {
-    Took(usize),
-    Refused(u8),
-}
-
-// The answer of opening, and the set; beside a refusal the set is that of no job.
+// The answer of opening, how many bytes the job took, and the set; beside a refusal the set is that of no job.
 #[derive(Clone, Copy)]
 pub struct Opened {
-    pub answer: Opening,
+    pub answer: Result<usize, Refusal>,
     pub set: PinSet,
-}
-
-// Whether a pin or a lift is taken, or the refusal's number.
-#[derive(Clone, Copy)]
-pub enum Answer {
-    Done,
-    Refused(u8),
 }
 
 // The answer of a pin or a lift, and the set as it is now; a refused call hands it back as it came.
 #[derive(Clone, Copy)]
 pub struct Handed {
-    pub answer: Answer,
+    pub answer: Result<(), Refusal>,
     pub set: PinSet,
 }
 
@@ -50,19 +35,17 @@ pub struct Handed {
 pub fn no_header() -> Header
     ensures { plain result ≡ no_header }
 {
-    let bucket = Bucket {
-        size: 0,
-        drain: 0,
-        fill: 0,
-    };
     Header {
         units: 0,
         delay: 0,
         decoder: 0,
         level: 0,
-        first: bucket,
-        two: false,
-        second: bucket,
+        first: Bucket {
+            size: 0,
+            drain: 0,
+            fill: 0,
+        },
+        second: None,
         rates: 0,
         choices: 0,
     }
@@ -73,23 +56,23 @@ pub fn open(job: &[u8], door: Door) -> Opened
     ensures { opening result ≡ open_call (door_of door) job.now }
 {
     match job::read(job, door) {
-        Reading::Refused(n) => Opened {
-            answer: Opening::Refused(n),
+        Err(refusal) => Opened {
+            answer: Err(refusal),
             set: PinSet::fresh(no_header()),
         },
-        Reading::Read { header, taken } => Opened {
-            answer: Opening::Took(taken),
-            set: PinSet::fresh(header),
+        Ok(reading) => Opened {
+            answer: Ok(reading.taken),
+            set: PinSet::fresh(reading.header),
         },
     }
 }
 
 // The set as it came, beside the refusal's number.
-fn refused(set: PinSet, number: u8) -> Handed
-    ensures { handed result ≡ refuse (set_of set) number }
+fn refused(set: PinSet, refusal: Refusal) -> Handed
+    ensures { handed result ≡ refuse (set_of set) (number refusal) }
 {
     Handed {
-        answer: Answer::Refused(number),
+        answer: Err(refusal),
         set,
     }
 }
@@ -112,19 +95,19 @@ fn pin_line(job: &[u8], header: Header, set: PinSet, unit: u16, choice: u16) -> 
     let units = header.units;
     let choices = header.choices;
     if outside(units, unit) {
-        return refused(set, refusal::UNIT);
+        return refused(set, Refusal::Unit);
     }
     if choices <= choice {
-        return refused(set, refusal::CHOICE);
+        return refused(set, Refusal::Choice);
     }
     let at = (unit - 1) as usize;
     let old = set.pins[at];
     if old != PinSet::NO_PIN {
-        return refused(set, refusal::PINNED);
+        return refused(set, Refusal::Pinned);
     }
     let coding = header::coding_at(job, header, unit, choice);
     Handed {
-        answer: Answer::Done,
+        answer: Ok(()),
         set: set.with_pin(at, choice, coding),
     }
 }
@@ -136,16 +119,16 @@ fn lift_line(job: &[u8], header: Header, set: PinSet, unit: u16) -> Handed
 {
     let units = header.units;
     if outside(units, unit) {
-        return refused(set, refusal::UNIT);
+        return refused(set, Refusal::Unit);
     }
     let at = (unit - 1) as usize;
     let old = set.pins[at];
     if old == PinSet::NO_PIN {
-        return refused(set, refusal::NOT_PINNED);
+        return refused(set, Refusal::NotPinned);
     }
     let coding = header::coding_at(job, header, unit, old);
     Handed {
-        answer: Answer::Done,
+        answer: Ok(()),
         set: set.without_pin(at, coding),
     }
 }
@@ -155,8 +138,8 @@ pub fn pin(job: &[u8], set: PinSet, unit: u16, choice: u16) -> Handed
     ensures { handed result ≡ call job.now (set_of set) (pin unit choice) }
 {
     match pinset::check(job, set, Door::Opening) {
-        Reading::Refused(n) => refused(set, n),
-        Reading::Read { header, taken: _ } => pin_line(job, header, set, unit, choice),
+        Err(refusal) => refused(set, refusal),
+        Ok(reading) => pin_line(job, reading.header, set, unit, choice),
     }
 }
 
@@ -165,7 +148,7 @@ pub fn lift(job: &[u8], set: PinSet, unit: u16) -> Handed
     ensures { handed result ≡ call job.now (set_of set) (lift unit) }
 {
     match pinset::check(job, set, Door::Opening) {
-        Reading::Refused(n) => refused(set, n),
-        Reading::Read { header, taken: _ } => lift_line(job, header, set, unit),
+        Err(refusal) => refused(set, refusal),
+        Ok(reading) => lift_line(job, reading.header, set, unit),
     }
 }

@@ -5,13 +5,15 @@ use mathlib.Core.Bool.{Bool, true, false}
 use mathlib.Core.List.{List}
 use native.Mathlib.Omega.{arith}
 use lib.ListN.{length}
-use Rattle.std.specs.Prelude.{if◌then◌else◌}
+use Rattle.std.specs.Prelude.{if◌then◌else◌, Ok, Err}
 use Rattle.model.specs.Job.{Job, job_coding}
 use Rattle.format.specs.Parser.{Result, refused, took, with_value}
 use Rattle.format.specs.JobBytes.{Header, header_in, Door, parse, job_in}
 use Rattle.format.proofs.Opened.{held_job, opens_by}
-use Rattle.header.specs.declared.Header as code
-use Rattle.job.specs.declared.Reading.TheVariants as reading
+use Rattle.header.specs.declared.refusal.Refusal.{Refusal}
+use Rattle.header.specs.declared.refusal.Refusal.TheVariants as r
+use Rattle.header.specs.Refusals.{number}
+use Rattle.job.specs.declared.Reading.{Reading}
 use Rattle.header.specs.Answers.{plain}
 use Rattle.job.specs.Answers.{reading}
 use Rattle.job.proofs.Answers.{Held}
@@ -26,21 +28,21 @@ module _ (d : Door) (b : List ℕ) where
   few_units h k held = let n = ap (λ (i : Header). i.units) held.header_is in omega (arith, (limits d b held.job k held.is).units)
 
   module _ (s : PinSet) where
-    pub check_refused : (n : ℕ) → parse d b ≡ refused n → reading (reading.Refused n) ≡ with_value header_in (checked d b s)
-    unfolding reading with_value
-    check_refused n e = rw (checked_refused d b s n e)
+    pub check_refused : (e : Refusal) → parse d b ≡ refused (number e) → reading (Err e) ≡ with_value header_in (checked d b s)
+    unfolding with_value
+    check_refused e p = rw (checked_refused d b s (number e) p)
 
-    module _ (h : code.Header) (k : ℕ) (held : Held (parse d b) (plain h) k) (size : length s.pins ≡ 512) where
-      fits_job : (t : Bool) → t ≡ fits (codings_in b (plain h)) (plain h) s → fits (job_coding held.job) (header_in held.job) s ≡ t
-      fits_job t e = sym (fits_agree d b held.job k held.is s size) ∙ ap (λ (i : Header). fits (codings_in b i) i s) held.header_is ∙ sym e
+    module _ (k : Reading) (held : Held (parse d b) (plain k.header) k.taken) (size : length s.pins ≡ 512) where
+      fits_job : (t : Bool) → t ≡ fits (codings_in b (plain k.header)) (plain k.header) s → fits (job_coding held.job) (header_in held.job) s ≡ t
+      fits_job t e = sym (fits_agree d b held.job k.taken held.is s size) ∙ ap (λ (i : Header). fits (codings_in b i) i s) held.header_is ∙ sym e
 
-      pub check_took : true ≡ fits (codings_in b (plain h)) (plain h) s → reading (reading.Read h k) ≡ with_value header_in (checked d b s)
-      unfolding reading with_value
-      check_took e = rw (checked_took d b held.job k held.is s (fits_job true e), held.header_is)
+      pub check_took : true ≡ fits (codings_in b (plain k.header)) (plain k.header) s → reading (Ok k) ≡ with_value header_in (checked d b s)
+      unfolding with_value
+      check_took e = rw (checked_took d b held.job k.taken held.is s (fits_job true e), held.header_is)
 
-      pub check_six : false ≡ fits (codings_in b (plain h)) (plain h) s → reading (reading.Refused 6) ≡ with_value header_in (checked d b s)
-      unfolding reading with_value
-      check_six e = rw (checked_six d b held.job k held.is s (fits_job false e))
+      pub check_six : false ≡ fits (codings_in b (plain k.header)) (plain k.header) s → reading (Err r.Set) ≡ with_value header_in (checked d b s)
+      unfolding with_value
+      check_six e = rw (checked_six d b held.job k.taken held.is s (fits_job false e))
 
     -- a set that the check takes matches the job
     ready_by : (j : Job) (k : ℕ) (p : Result Job) → length s.pins ≡ 512 → parse d b ≡ p → accept s p ≡ took j k → Ready b (header_in j) s × (job_in b ≡ j)

@@ -2,8 +2,6 @@
 
 #![tactic(auto)]
 
-pub mod refusal;
-
 ghost use Rattle.std.specs.Prelude.{◌≡◌, ◌<◌, ◌≤◌, length};
 ghost use Rattle.model.specs.Pins.{totals_to};
 ghost use Rattle.format.specs.JobBytes.{header_in};
@@ -15,7 +13,7 @@ ghost use Rattle.pinning.specs.Check.{pin_fits, pins_fit, same_totals, fits, cod
 ghost use Rattle.pinning.specs.Calls.{with_pin, without_pin};
 ghost use Rattle.pinset.specs.Answers.{set_of, tallied, Added, Room, Pinned};
 
-use header::{Choice, Coding, Door, Header};
+use header::{Choice, Coding, Door, Header, Refusal};
 use job::Reading;
 
 // Document 01's desk: the job's header, a pin for each of 512 units, and the totals of the pins: how many, their sizes, their distortions.
@@ -94,8 +92,8 @@ fn pin_fits(header: Header, place: usize, pin: Choice) -> bool
 fn pins_fit(header: Header, pins: &[Choice; 512]) -> bool
     ensures { result ≡ pins_fit (plain header) pins.now 512 }
 {
-    for place in 0..512 {
-        if !pin_fits(header, place, pins[place]) {
+    for (place, pin) in pins.iter().enumerate() {
+        if !pin_fits(header, place, *pin) {
             return false;
         }
     }
@@ -167,18 +165,14 @@ fn fits(job: &[u8], header: Header, set: PinSet) -> bool
 
 // What every call that takes a job and a set tests first: the job by its door, refusals 1 to 5 and 17, then the set against it, refusal 6.
 // That a set has 512 pins is handed on to the callers' proofs.
-pub fn check(job: &[u8], set: PinSet, door: Door) -> Reading
+pub fn check(job: &[u8], set: PinSet, door: Door) -> Result<Reading, Refusal>
     ensures sized { length set.pins ≡ 512 }
     ensures answer { reading result ≡ with_value header_in (checked (door_of door) job.now (set_of set)) }
 {
-    match job::read(job, door) {
-        Reading::Refused(n) => Reading::Refused(n),
-        Reading::Read { header, taken } => {
-            if fits(job, header, set) {
-                Reading::Read { header, taken }
-            } else {
-                Reading::Refused(refusal::SET)
-            }
-        }
+    let reading = job::read(job, door)?;
+    if fits(job, reading.header, set) {
+        Ok(reading)
+    } else {
+        Err(Refusal::Set)
     }
 }

@@ -9,8 +9,6 @@ ghost use Rattle.replaying.specs.Entries.{entry_size};
 
 use header::{Choice, Door, Header};
 use interval::Totals;
-use job::Reading;
-use planner::Planned;
 use std::io;
 
 // The most intervals that a job has.
@@ -52,7 +50,8 @@ fn print_intervals(rt: HostRuntime, job: &[u8], header: Header, entries: &[u8]) 
     let set = opened.set;
     let each = replay::levels_each(header);
     let mut levels = [0u16; MOST_LEVELS * MOST_INTERVALS];
-    replay::replay(job, set, &entries[start..end], &mut levels);
+    // the plan was found: only its levels are asked
+    let _ = replay::replay(job, set, &entries[start..end], &mut levels);
     for place in 0..total {
         let entry = entry::entry_at(entries, place);
         let number = place as u64 + 1;
@@ -68,10 +67,10 @@ fn print_plan(rt: HostRuntime, job: &[u8], entries: &[u8], totals: Totals) -> io
     requires { length entries.now ≡ entry_size * 576 }
 {
     match job::read(job, Door::Opening) {
-        Reading::Refused(n) => print::refused(rt, n),
-        Reading::Read { header, taken: _ } => {
-            print::head(rt, header)?;
-            print_intervals(rt, job, header, entries)?;
+        Err(refusal) => print::refused(rt, refusal),
+        Ok(reading) => {
+            print::head(rt, reading.header)?;
+            print_intervals(rt, job, reading.header, entries)?;
             print::total(rt, totals)
         }
     }
@@ -84,7 +83,7 @@ fn main(rt: HostRuntime) -> io::Result<()> {
     let mut table = [0u32; 16384];
     let mut entries = [0u8; entry::SIZE * MOST_INTERVALS];
     match commands::plan_input(&input[..n], &mut table, &mut entries) {
-        Planned::Refused(number) => print::refused(rt, number),
-        Planned::Best(totals) => print_plan(rt, &input[..n], &entries, totals),
+        Err(refusal) => print::refused(rt, refusal),
+        Ok(totals) => print_plan(rt, &input[..n], &entries, totals),
     }
 }

@@ -1,5 +1,5 @@
 // The lines of the printed plan, in document 01's format.
-use header::{Choice, Header};
+use header::{Choice, Header, Refusal};
 use interval::Totals;
 use std::io;
 
@@ -41,14 +41,12 @@ pub fn total(rt: HostRuntime, totals: Totals) -> io::Result<()> {
     number(rt, totals.source as u64)?;
     number(rt, totals.channel as u64)?;
     number(rt, totals.unused as u64)?;
-    if totals.two {
-        number(rt, totals.unused2 as u64)?;
+    if let Some(unused) = totals.unused2 {
+        number(rt, unused as u64)?;
     }
     end(rt)
 }
 
-pub fn refused(rt: HostRuntime, n: u8) -> io::Result<()> {
-    print!(rt; "refused")?;
-    number(rt, n as u64)?;
-    end(rt)
+pub fn refused(rt: HostRuntime, refusal: Refusal) -> io::Result<()> {
+    println!(rt; "refused {refusal}")
 }

@@ -27,7 +27,10 @@ use Rattle.table.specs.Answers.{table_words}
 use Rattle.table.proofs.Words.{words_are}
 use Rattle.planning.specs.Calls as planning
 use Rattle.planning.specs.Calls.{plan_tests, plan_call}
-use Rattle.planner.specs.declared.Planned.{Planned}
+use Rattle.std.specs.Prelude.{Result}
+use Rattle.interval.specs.declared.Totals.{Totals}
+use Rattle.header.specs.declared.refusal.Refusal.{Refusal}
+use Rattle.header.specs.Refusals.{code}
 use Rattle.planner.specs.Answers as planner
 use Rattle.calling.specs.Sessions.{Session, plan_refusal, session_call, aim_named, order_named, named_tests, set_plan_tests, set_plan_refusal}
 use Rattle.session.specs.Answers.{session_is}
@@ -48,31 +51,31 @@ module _ (job ks : List ℕ) (aim order : ℕ) (answers table entries values : L
     unfolding plan_export
     plan_12 = few (λ n. planned n answers table entries values) (plan_refusal job ks aim order (length answers) (length table) (length entries)) (3 + buckets_in job) values _ e
 
-    module _ (room : 3 + buckets_in job ≤ length values) (x : Planned) (a t p : List ℕ) (i : session_is x a t p ≡ session_call job ks aim order answers table entries) where
+    module _ (room : 3 + buckets_in job ≤ length values) (x : Result Totals Refusal) (a t p : List ℕ) (i : session_is x a t p ≡ session_call job ks aim order answers table entries) where
       on_plan : plan_export job ks aim order answers table entries values ≡ after_session (session_is x a t p) values
       unfolding plan_export
       on_plan = behind (λ n. planned n answers table entries values) (plan_refusal job ks aim order (length answers) (length table) (length entries)) (3 + buckets_in job) values _ e room ∙ rw (← i)
 
-      pub plan_told : (r : ℕ) (new : List ℕ) → Told x values r new → planned r a t p new ≡ plan_export job ks aim order answers table entries values
+      pub plan_told : (r : Result (Unit {0}) Refusal) (new : List ℕ) → Told x values r new → planned (code r) a t p new ≡ plan_export job ks aim order answers table entries values
       unfolding after_session session_is planner.planned
       plan_told r new h = sym (on_plan ∙ rw (h.number, h.values))
 
 -- there is room for the values that the code writes
-pub plan_room : (b calls : List ℕ) (aim order : ℕ) (answers table entries : List ℕ) (x : Planned) (a t e : List ℕ) → session_is x a t e ≡ session_call b calls aim order answers table entries → (n : ℕ) → 3 + buckets_in b ≤ n → Room x n
-unfolding session_is planner.planned planner.answered totals_values totals_list
+pub plan_room : (b calls : List ℕ) (aim order : ℕ) (answers table entries : List ℕ) (x : Result Totals Refusal) (a t e : List ℕ) → session_is x a t e ≡ session_call b calls aim order answers table entries → (n : ℕ) → 3 + buckets_in b ≤ n → Room x n
+unfolding session_is planner.planned totals_values totals_list
 plan_room b calls aim order answers table entries x a t e i n h best q =
     let c : length (totals_of best).unused ≡ buckets_in b = session_counts b calls aim order answers table entries (totals_of best) (sym (ap (λ (y : Session). y.planned.answer) i) ∙ rw q) in
     omega arith
 
 -- the same of a plan that was found, by however many values its totals have
-pub found_room : (k : ℕ) (x : Planned) (t p : List ℕ) (found : planning.Planned) → planner.planned x t p ≡ found → FewCounts k found.answer → (n : ℕ) → 3 + k ≤ n → Room x n
-unfolding planner.planned planner.answered totals_values totals_list
+pub found_room : (k : ℕ) (x : Result Totals Refusal) (t p : List ℕ) (found : planning.Planned) → planner.planned x t p ≡ found → FewCounts k found.answer → (n : ℕ) → 3 + k ≤ n → Room x n
+unfolding planner.planned totals_values totals_list
 found_room k x t p found i few n h best q =
     let c : length (totals_of best).unused ≤ k = few (totals_of best) (sym (ap (λ (y : planning.Planned). y.answer) i) ∙ rw q) in
     omega arith
 
 -- and what is told of it
-pub found_told : (x : Planned) (t p : List ℕ) (found : planning.Planned) → planner.planned x t p ≡ found → (values : List ℕ) (r : ℕ) (new : List ℕ) → Told x values r new → set_planned r t p new ≡ after_plan found values
+pub found_told : (x : Result Totals Refusal) (t p : List ℕ) (found : planning.Planned) → planner.planned x t p ≡ found → (values : List ℕ) (r : Result (Unit {0}) Refusal) (new : List ℕ) → Told x values r new → set_planned (code r) t p new ≡ after_plan found values
 unfolding after_plan planner.planned
 found_told x t p found i values r new h = rw (← i, h.number, h.values)
 
@@ -92,10 +95,10 @@ module _ (job l : List ℕ) (own : PinSet) (named : own ≡ set_in l) (aim order
     pub set_12 : length values < 3 + buckets_in job → set_planned 12 table entries values ≡ set_plan_export job l aim order table entries values
     set_12 h = few (λ n. set_planned n table entries values) O (3 + buckets_in job) values _ e h ∙ sym export_is
 
-    pub set_told : 3 + buckets_in job ≤ length values → (x : Planned) (t p : List ℕ) → planner.planned x t p ≡ plan_call job own (aim_named aim) (order_named order) table entries → (r : ℕ) (new : List ℕ) → Told x values r new → set_planned r t p new ≡ set_plan_export job l aim order table entries values
+    pub set_told : 3 + buckets_in job ≤ length values → (x : Result Totals Refusal) (t p : List ℕ) → planner.planned x t p ≡ plan_call job own (aim_named aim) (order_named order) table entries → (r : Result (Unit {0}) Refusal) (new : List ℕ) → Told x values r new → set_planned (code r) t p new ≡ set_plan_export job l aim order table entries values
     set_told room x t p i r new h = found_told x t p _ i values r new h ∙ sym (export_is ∙ behind (λ n. set_planned n table entries values) O (3 + buckets_in job) values _ e room)
 
-pub set_room : (b : List ℕ) (own : PinSet) (a : Aim) (o : Order) (table entries : List ℕ) (x : Planned) (t p : List ℕ) → planner.planned x t p ≡ plan_call b own a o table entries → (n : ℕ) → 3 + buckets_in b ≤ n → Room x n
+pub set_room : (b : List ℕ) (own : PinSet) (a : Aim) (o : Order) (table entries : List ℕ) (x : Result Totals Refusal) (t p : List ℕ) → planner.planned x t p ≡ plan_call b own a o table entries → (n : ℕ) → 3 + buckets_in b ≤ n → Room x n
 set_room b own a o table entries x t p i = found_room (buckets_in b) x t p _ i (λ t e. omega (arith, plan_counts b own a o table entries t e))
 
 -- what refuses it, test by test

@@ -3,6 +3,7 @@
 #![tactic(auto)]
 
 ghost use Rattle.std.specs.Prelude.{◌≡◌, length};
+ghost use Rattle.header.specs.Refusals.{code};
 ghost use Rattle.header.specs.Answers.{verdict};
 ghost use Rattle.pinset.specs.Answers.{set_of};
 ghost use Rattle.calling.specs.Sessions.{set_plan_refusal};
@@ -10,27 +11,20 @@ ghost use Rattle.exporting.specs.Exports.{planned, plan_export};
 ghost use Rattle.exporting.specs.Sets.{set_planned, set_plan_export};
 ghost use Rattle.planned.specs.Answers.{Room, Told};
 
-use header::{Door, Verdict};
-use job::Reading;
+use header::{Door, Refusal};
+use interval::Totals;
 use pinset::PinSet;
-use planner::Planned;
-use values::{DONE, SHORT_LIST};
 
 // A plan gives so many values, and one more for each bucket.
 pub const PLAN_VALUES: usize = 3;
 
-// The number of what planning found, and its totals as values.
-pub fn tell(found: Planned, values: &mut [u64]) -> u32
+// What planning found, with its totals as values.
+pub fn tell(found: Result<Totals, Refusal>, values: &mut [u64]) -> Result<(), Refusal>
     requires { Room found (length values.old) }
     ensures { Told found values.old result values.new }
 {
-    match found {
-        Planned::Refused(n) => n as u32,
-        Planned::Best(totals) => {
-            values::put_totals(values, totals);
-            DONE
-        }
-    }
+    values::put_totals(values, found?);
+    Ok(())
 }
 
 // Makes calls as numbers and plans with the pins that they leave, by the aim and in the order that numbers name. Where there is a plan, each call's number goes to `answers`; 13 writes the table alone. Values: distortion, source size and channel size of the plan, then the unused drain of each bucket.
@@ -43,10 +37,10 @@ pub fn plan(
     table: &mut [u32],
     entries: &mut [u8],
     values: &mut [u64],
-) -> u32
-    ensures { planned result answers.new table.new entries.new values.new ≡ plan_export job.now calls.now aim order answers.old table.old entries.old values.old }
+) -> Result<(), Refusal>
+    ensures { planned (code result) answers.new table.new entries.new values.new ≡ plan_export job.now calls.now aim order answers.old table.old entries.old values.old }
 {
-    if let Verdict::Refused(n) = session::plan_refusal(
+    session::plan_refusal(
         job,
         calls,
         aim,
@@ -54,12 +48,10 @@ pub fn plan(
         answers.len(),
         table.len(),
         entries.len(),
-    ) {
-        return n as u32;
-    }
+    )?;
     let buckets = values::buckets_in(job);
     if values.len() < PLAN_VALUES + buckets {
-        return SHORT_LIST;
+        return Err(Refusal::List);
     }
     let found = session::plan_after(job, calls, aim, order, answers, table, entries);
     tell(found, values)
@@ -73,24 +65,18 @@ fn set_refusal(
     order: u32,
     table: usize,
     entries: usize,
-) -> Verdict
+) -> Result<(), Refusal>
     ensures { verdict result ≡ set_plan_refusal job.now (set_of set) aim order table entries }
 {
-    match pinset::check(job, set, Door::Opening) {
-        Reading::Refused(n) => Verdict::Refused(n),
-        Reading::Read { header, taken: _ } => {
-            if let Verdict::Refused(n) = session::named_verdict(aim, order) {
-                return Verdict::Refused(n);
-            }
-            if table < table::table_words(header) {
-                return Verdict::Refused(planner::refusal::TABLE);
-            }
-            if entries < entry::SIZE * entry::intervals(header) {
-                return Verdict::Refused(header::refusal::LIST);
-            }
-            Verdict::Fits
-        }
+    let header = pinset::check(job, set, Door::Opening)?.header;
+    session::named_verdict(aim, order)?;
+    if table < table::table_words(header) {
+        return Err(Refusal::Table);
     }
+    if entries < entry::SIZE * entry::intervals(header) {
+        return Err(Refusal::List);
+    }
+    Ok(())
 }
 
 // Plans with the pins of a set as numbers, by the aim and in the order that numbers name; 13 writes the table alone. Values: as `plan` gives them.
@@ -102,16 +88,14 @@ pub fn plan_set(
     table: &mut [u32],
     entries: &mut [u8],
     values: &mut [u64],
-) -> u32
-    ensures { set_planned result table.new entries.new values.new ≡ set_plan_export job.now set.now aim order table.old entries.old values.old }
+) -> Result<(), Refusal>
+    ensures { set_planned (code result) table.new entries.new values.new ≡ set_plan_export job.now set.now aim order table.old entries.old values.old }
 {
     let own = numbers::set_in(set);
-    if let Verdict::Refused(n) = set_refusal(job, own, aim, order, table.len(), entries.len()) {
-        return n as u32;
-    }
+    set_refusal(job, own, aim, order, table.len(), entries.len())?;
     let buckets = values::buckets_in(job);
     if values.len() < PLAN_VALUES + buckets {
-        return SHORT_LIST;
+        return Err(Refusal::List);
     }
     let aim = session::aim_named(aim);
     let order = session::order_named(order);

@@ -13,7 +13,8 @@ use Rattle.trellis.specs.Trellis.{Combines}
 use Rattle.trellis.specs.Table.{encode}
 use Rattle.trellis.proofs.Optimality.{sum_combines, greatest_combines}
 use Rattle.std.specs.Prelude.{if◌then◌else◌}
-use Rattle.base.specs.If.{one_if}
+use Rattle.std.specs.Prelude.{Some, None}
+use Rattle.std.specs.Prelude as std
 use Rattle.base.specs.Refusals.{test, guarded}
 use Rattle.base.proofs.Refusals.{guarded_here, guarded_past, guarded_last}
 use Rattle.base.specs.Answer.{refused, gives}
@@ -41,8 +42,6 @@ use Rattle.starting.proofs.Starting.{fits_iff}
 use Rattle.planning.proofs.Layers.{word_of, from_before, from_rest, from_length, from_layer}
 use Rattle.line.specs.declared.Line.{Line}
 use Rattle.line.specs.Answers.{line_is, WordAsked}
-use Rattle.table.specs.declared.Limit.{Limit}
-use Rattle.table.specs.declared.Limit.TheVariants as limit
 use Rattle.table.specs.Answers.{job_on, limit_of, open_of, words_over, LineOf}
 use Rattle.best.specs.Answers.{Tabled, Standing, PlanRead}
 use Rattle.planner.specs.Answers.{PlansFrom, Searches, table_for, LimitFor}
@@ -105,15 +104,15 @@ module _ (b : List ℕ) (h : Header) (l : Line) (pins : List ℕ) (first : ℕ) 
 
   -- the limit of a search for even pictures, by the word of the start in a table by the greatest
   module _ (m : PinMap) where
-    pub no_limit : (new : List ℕ) → new ≡ table_from max J (unlimited m) first table → word_in (line_is l) (layer_of (line_is l) new first) s ≡ mark → LimitFor even J m first s table limit.Free new
-    unfolding open_for limit_of table_for
+    pub no_limit : (new : List ℕ) → new ≡ table_from max J (unlimited m) first table → word_in (line_is l) (layer_of (line_is l) new first) s ≡ mark → LimitFor even J m first s table None new
+    unfolding open_for table_for
     no_limit new e w = record {
       is = ap (λ (x : Option ℕ). record { pins = m; limit = x }) (sym (no_value max greatest_combines (unlimited m) (sym (start_word max greatest_combines (unlimited m)) ∙ ap (λ (t : List ℕ). word_in (line_is l) (layer_of (line_is l) t first) s) (sym e) ∙ w)));
       table_is = e;
     }
 
-    pub limit_is : (new : List ℕ) (word : ℕ) → new ≡ table_from max J (unlimited m) first table → word ≡ word_in (line_is l) (layer_of (line_is l) new first) s → (word ≡ mark → ⊥) → LimitFor even J m first s table (limit.UpTo word) new
-    unfolding open_for limit_of table_for
+    pub limit_is : (new : List ℕ) (word : ℕ) → new ≡ table_from max J (unlimited m) first table → word ≡ word_in (line_is l) (layer_of (line_is l) new first) s → (word ≡ mark → ⊥) → LimitFor even J m first s table (Some word) new
+    unfolding open_for table_for
     limit_is new word e w f =
         let q : word ≡ encode mark (least_by max J (unlimited m) first s) = w ∙ ap (λ (t : List ℕ). word_in (line_is l) (layer_of (line_is l) t first) s) e ∙ start_word max greatest_combines (unlimited m) in
         record {
@@ -121,8 +120,8 @@ module _ (b : List ℕ) (h : Header) (l : Line) (pins : List ℕ) (first : ℕ) 
           table_is = e;
         }
 
-    pub all_open : LimitFor total J m first s table limit.Free table
-    unfolding open_for limit_of table_for
+    pub all_open : LimitFor total J m first s table None table
+    unfolding open_for table_for
     all_open = record { is = refl; table_is = refl }
 
     -- the table that the search fills, over what is left of the limit's
@@ -140,7 +139,7 @@ module _ (b : List ℕ) (h : Header) (l : Line) (pins : List ℕ) (first : ℕ) 
       for_long total = refl
       for_long even = from_length max J (unlimited m) first table counted room
 
-      module _ (r : Limit) (mid : List ℕ) (found : LimitFor a J m first s table r mid) where
+      module _ (r : std.Option ℕ) (mid : List ℕ) (found : LimitFor a J m first s table r mid) where
         pub mid_room : words J ≤ length mid
         mid_room = rw (found.table_is, for_long a) room
 
@@ -254,19 +253,21 @@ pub not_fitting : (k l : ℕ) (ks ls : List ℕ) → k < l → false ≡ levels_
 unfolding levels_fit
 not_fitting k l ks ls h = rw (lt-leb l k h)
 
-pub fitting_two : (k k2 l l2 : ℕ) (two : Bool) → l ≤ k → (two && leb l2 k2) ≡ levels_fit (k ∷ k2 ∷ []) (l ∷ one_if two l2)
-unfolding levels_fit one_if
-fitting_two k k2 l l2 true h = rw (le-leb l k h) (itself (leb l2 k2))
+pub fitting_two : (k k2 l l2 : ℕ) → l ≤ k → leb l2 k2 ≡ levels_fit (k ∷ k2 ∷ []) (l ∷ l2 ∷ [])
+unfolding levels_fit
+fitting_two k k2 l l2 h = rw (le-leb l k h) (itself (leb l2 k2))
   where
     itself : (t : Bool) → t ≡ (if t then true else false)
     itself true = refl
     itself false = refl
-fitting_two k k2 l l2 false h = rw (le-leb l k h)
 
-pub fitting_one : (k l l2 : ℕ) (two : Bool) → l ≤ k → not two ≡ levels_fit (k ∷ []) (l ∷ one_if two l2)
-unfolding levels_fit one_if
-fitting_one k l l2 true h = rw (le-leb l k h)
-fitting_one k l l2 false h = rw (le-leb l k h)
+pub fitting_one : (k l : ℕ) → l ≤ k → true ≡ levels_fit (k ∷ []) (l ∷ [])
+unfolding levels_fit
+fitting_one k l h = rw (le-leb l k h)
+
+pub fitting_other : (k l : ℕ) (ks ls : List ℕ) → l ≤ k → false ≡ levels_fit ks ls → false ≡ levels_fit (k ∷ ks) (l ∷ ls)
+unfolding levels_fit
+fitting_other k l ks ls h e = rw (le-leb l k h) e
 
 -- the sizes that a header tells
 map_sizes : (ks : List Policed) → map (λ (k : Bucket). k.size) (map bucket_of ks) ≡ map (λ k. k.size) ks

@@ -1,7 +1,11 @@
 -- What the answers of this crate mean in the terms of `model` and `planning`, case by case, and what its private functions say and ask.
 use Rattle.std.specs.Prelude.{ℕ, ◌+◌, ◌-◌, ◌*◌, ◌≤◌, max, ◌≡◌, List, ◌∷◌, length}
-use Rattle.base.specs.If.{one_if}
-use Rattle.base.specs.Answer.{Answer, refused, gives}
+use Rattle.std.specs.Prelude.{Option, Result}
+use Rattle.std.specs.Option.{option_to_list}
+use Rattle.base.specs.Answer.{Answer}
+use Rattle.interval.specs.declared.Totals.{Totals}
+use Rattle.header.specs.declared.refusal.Refusal.{Refusal}
+use Rattle.header.specs.Answers.{answer_by}
 use Rattle.model.specs.Job as model
 use Rattle.model.specs.Pins.{PinMap}
 use Rattle.model.specs.Replay as model_replay
@@ -13,22 +17,18 @@ use Rattle.interval.specs.Answers.{totals_of}
 use Rattle.replaying.specs.Entries.{entry_size}
 use Rattle.planning.specs.Words.{table_from}
 use Rattle.planning.specs.Calls as calls
-use Rattle.planner.specs.declared.Planned.{Planned}
-use Rattle.planner.specs.declared.Planned.TheVariants as p
 use Rattle.planner.specs.declared.BucketLevels.{BucketLevels}
 use Rattle.planner.specs.declared.Aim.{Aim}
 use Rattle.planner.specs.declared.Aim.TheVariants as aim
 use Rattle.line.specs.declared.Line.{Line}
 use Rattle.line.specs.Answers.{line_is}
-use Rattle.table.specs.declared.Limit.{Limit}
 use Rattle.table.specs.Answers.{job_on, open_of, Starts}
 
 -- the answer of planning, and the lists that were lent
-unfoldable pub answered : Planned → Answer model_replay.Totals
-answered (p.Best t) = gives (totals_of t)
-answered (p.Refused n) = refused n
+abbrev pub answered : Result Totals Refusal → Answer model_replay.Totals
+answered = answer_by totals_of
 
-unfoldable pub planned : Planned → List ℕ → List ℕ → calls.Planned
+unfoldable pub planned : Result Totals Refusal → List ℕ → List ℕ → calls.Planned
 planned x table entries = record { answer = answered x; table = table; entries = entries }
 
 unfoldable pub aim_is : Aim → model_best.Aim
@@ -37,7 +37,7 @@ aim_is aim.Even = even
 
 -- the levels of the buckets
 unfoldable pub levels_of_buckets : BucketLevels → List ℕ
-levels_of_buckets l = l.bucket ∷ one_if l.two l.bucket2
+levels_of_buckets l = l.bucket ∷ option_to_list l.bucket2
 
 -- What the private functions say and ask.
 
@@ -63,6 +63,6 @@ table_for total j m first table = table
 table_for even j m first table = table_from max j (unlimited m) first table
 
 -- the limit of a search by an aim
-pub record LimitFor (a : model_best.Aim) (j : model.Job) (m : PinMap) (first : ℕ) (s : model.Levels) (old : List ℕ) (r : Limit) (new : List ℕ) : Type 0 where
+pub record LimitFor (a : model_best.Aim) (j : model.Job) (m : PinMap) (first : ℕ) (s : model.Levels) (old : List ℕ) (r : Option ℕ) (new : List ℕ) : Type 0 where
   pub is : open_of m r ≡ open_for a j m first s
   pub table_is : new ≡ table_for a j m first old

@@ -3,8 +3,6 @@
 
 #![tactic(auto)]
 
-pub mod refusal;
-
 ghost use Rattle.std.specs.Prelude.{◌≡◌, map, length};
 ghost use Rattle.model.specs.Best.{even};
 ghost use Rattle.model.specs.Table.{InLayer};
@@ -22,19 +20,11 @@ ghost use Rattle.planner.specs.Answers.{planned, aim_is, levels_of_buckets, Limi
 
 use best::Order;
 use decoder::Measure;
-use header::{Choice, Door, Header};
+use header::{Choice, Door, Header, Refusal};
 use interval::{Levels, Totals};
-use job::Reading;
 use line::Line;
 use pinset::PinSet;
 use table::Limit;
-
-// The totals of the best plan, or the refusal's number.
-#[derive(Clone, Copy)]
-pub enum Planned {
-    Best(Totals),
-    Refused(u8),
-}
 
 // What is to be least: the total distortion; or, for even pictures, the greatest distortion of a unit, and of the plans in which that is least the total.
 #[derive(Clone, Copy)]
@@ -47,8 +37,19 @@ pub enum Aim {
 #[derive(Clone, Copy)]
 pub struct BucketLevels {
     pub bucket: u16,
-    pub two: bool,
-    pub bucket2: u16,
+    pub bucket2: Option<u16>,
+}
+
+impl BucketLevels {
+    // Those that a job tells.
+    pub fn start(header: Header) -> BucketLevels
+        ensures { levels_of_buckets result ≡ map (λ k. k.fill) (plain header).buckets }
+    {
+        BucketLevels {
+            bucket: header.first.fill,
+            bucket2: header.second.map(|bucket| bucket.fill),
+        }
+    }
 }
 
 // The least greatest distortion of a plan for the intervals after `first`, from the levels there, as a limit: a table by the greatest has it in the word of these levels. Where there is no plan nothing is left out.
@@ -69,16 +70,16 @@ fn least_greatest(
         header,
         line,
         pins,
-        Limit::Free,
+        None,
         Measure::Greatest,
         first,
         table,
     );
     let word = line::word_at(table, line, first, start);
     if word == line::NONE {
-        return Limit::Free;
+        return None;
     }
-    Limit::UpTo(word)
+    Some(word)
 }
 
 // What the distortion of a choice may be in a search by this aim.
@@ -96,7 +97,7 @@ fn limit_for(
     ensures { LimitFor (aim_is aim) (job_on job.now line) (lines header.units pins.now) first (levels_of start) table.old result table.new }
 {
     match aim {
-        Aim::Total => Limit::Free,
+        Aim::Total => None,
         Aim::Even => least_greatest(job, header, line, pins, first, start, table),
     }
 }
@@ -113,16 +114,16 @@ pub fn search(
     start: Levels,
     table: &mut [u32],
     entries: &mut [u8],
-) -> Planned
+) -> Result<Totals, Refusal>
     requires { Searches job.now (plain header) line pins.now first (levels_of start) table.old entries.old }
     ensures { planned result table.new entries.new ≡ search_in (job_on job.now line) (lines header.units pins.now) (aim_is aim) (order_is order) first (levels_of start) table.old entries.old }
 {
     let limit = limit_for(aim, job, header, line, pins, first, start, table);
     table::fill_table(job, header, line, pins, limit, Measure::Sum, first, table);
     if line::word_at(table, line, first, start) == line::NONE {
-        return Planned::Refused(refusal::NO_PLAN);
+        return Err(Refusal::NoPlan);
     }
-    Planned::Best(best::read_off(
+    Ok(best::read_off(
         order, job, header, line, pins, limit, table, first, start, entries,
     ))
 }
@@ -139,15 +140,15 @@ fn plan_rest(
     start: Levels,
     table: &mut [u32],
     entries: &mut [u8],
-) -> Planned
+) -> Result<Totals, Refusal>
     requires { PlansFrom job.now (plain header) line pins.now first (levels_of start) }
     ensures { planned result table.new entries.new ≡ plan_in (job_on job.now line) (lines header.units pins.now) (aim_is aim) (order_is order) first (levels_of start) table.old entries.old }
 {
     if table.len() < table::words_over(header, line.buffers) {
-        return Planned::Refused(refusal::TABLE);
+        return Err(Refusal::Table);
     }
     if entries.len() < entry::SIZE * (entry::intervals(header) - first) {
-        return Planned::Refused(header::refusal::LIST);
+        return Err(Refusal::List);
     }
     search(
         aim, order, job, header, line, pins, first, start, table, entries,
@@ -164,7 +165,7 @@ fn plan_checked(
     order: Order,
     table: &mut [u32],
     entries: &mut [u8],
-) -> Planned
+) -> Result<Totals, Refusal>
     requires { Ready job.now (plain header) (set_of set) × InLayer (job_in job.now).line (levels_of start) }
     ensures { planned result table.new entries.new ≡ plan_in (job_in job.now) (lines (length (job_in job.now).units) (set_of set).pins) (aim_is aim) (order_is order) 0 (levels_of start) table.old entries.old }
 {
@@ -184,16 +185,12 @@ pub fn plan(
     order: Order,
     table: &mut [u32],
     entries: &mut [u8],
-) -> Planned
+) -> Result<Totals, Refusal>
     ensures { planned result table.new entries.new ≡ plan_call job.now (set_of set) (aim_is aim) (order_is order) table.old entries.old }
 {
-    match pinset::check(job, set, Door::Opening) {
-        Reading::Refused(n) => Planned::Refused(n),
-        Reading::Read { header, taken: _ } => {
-            let start = Levels::start(header);
-            plan_checked(job, header, set, start, aim, order, table, entries)
-        }
-    }
+    let header = pinset::check(job, set, Door::Opening)?.header;
+    let start = Levels::start(header);
+    plan_checked(job, header, set, start, aim, order, table, entries)
 }
 
 // Whether there is a level for each bucket that the header tells, and none above its bucket's size.
@@ -203,10 +200,11 @@ fn levels_fit(header: Header, levels: BucketLevels) -> bool
     if levels.bucket > header.first.size {
         return false;
     }
-    if header.two {
-        return levels.two & (levels.bucket2 <= header.second.size);
+    match (header.second, levels.bucket2) {
+        (None, None) => true,
+        (Some(bucket), Some(level)) => level <= bucket.size,
+        _ => false,
     }
-    !levels.two
 }
 
 // Planning from given levels of the buckets, for a job that the set matches: 20, then as above.
@@ -219,17 +217,16 @@ fn plan_with(
     order: Order,
     table: &mut [u32],
     entries: &mut [u8],
-) -> Planned
+) -> Result<Totals, Refusal>
     requires { Ready job.now (plain header) (set_of set) }
     ensures { planned result table.new entries.new ≡ plan_with (job_in job.now) (set_of set) (levels_of_buckets levels) (aim_is aim) (order_is order) table.old entries.old }
 {
     if !levels_fit(header, levels) {
-        return Planned::Refused(refusal::LEVELS);
+        return Err(Refusal::Levels);
     }
     let start = Levels {
         decoder: header.level,
         bucket: levels.bucket,
-        two: levels.two,
         bucket2: levels.bucket2,
     };
     plan_checked(job, header, set, start, aim, order, table, entries)
@@ -244,13 +241,9 @@ pub fn plan_from(
     order: Order,
     table: &mut [u32],
     entries: &mut [u8],
-) -> Planned
+) -> Result<Totals, Refusal>
     ensures { planned result table.new entries.new ≡ levels_call job.now (set_of held) (levels_of_buckets levels) (aim_is aim) (order_is order) table.old entries.old }
 {
-    match pinset::check(job, held, Door::Opening) {
-        Reading::Refused(n) => Planned::Refused(n),
-        Reading::Read { header, taken: _ } => {
-            plan_with(job, header, held, levels, aim, order, table, entries)
-        }
-    }
+    let header = pinset::check(job, held, Door::Opening)?.header;
+    plan_with(job, header, held, levels, aim, order, table, entries)
 }

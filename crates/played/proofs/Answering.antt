@@ -27,9 +27,13 @@ use Rattle.parts.specs.Answers.{violation}
 use Rattle.replaying.specs.Entries.{shaped}
 use Rattle.replaying.specs.Calls as replaying
 use Rattle.replaying.specs.Calls.{level_count, replay_tests, replay_call}
+use Rattle.std.specs.Prelude.{Result, Ok}
+use Rattle.header.specs.declared.refusal.Refusal.{Refusal}
+use Rattle.header.specs.Refusals.{code}
 use Rattle.replay.specs.declared.Replayed.{Replayed}
 use Rattle.replay.specs.declared.Replayed.TheVariants as replays
-use Rattle.replay.specs.Answers.{ended, answered}
+use Rattle.replay.specs.Answers as told
+use Rattle.replay.specs.Answers.{ended}
 use Rattle.replay.proofs.Answering.{levels_are}
 use Rattle.calling.specs.Sessions.{replay_refusal, replay_session, set_replay_refusal}
 use Rattle.values.specs.Lists.{buckets_in, totals_list, totals_values, violation_number, replayed_list}
@@ -50,18 +54,18 @@ module _ (job ks entries levels values : List ℕ) where
     unfolding replay_export
     replay_12 = few (λ n. replayed n levels values) (replay_refusal job ks entries (length levels)) (5 + buckets_in job) values _ e
 
-    module _ (room : 5 + buckets_in job ≤ length values) (x : Replayed) (l : List ℕ) (i : ended x l ≡ replay_session job ks entries levels) where
+    module _ (room : 5 + buckets_in job ≤ length values) (x : Result Replayed Refusal) (l : List ℕ) (i : ended x l ≡ replay_session job ks entries levels) where
       on_replay : replay_export job ks entries levels values ≡ after_replay (buckets_in job) (ended x l) values
       unfolding replay_export
       on_replay = behind (λ n. replayed n levels values) (replay_refusal job ks entries (length levels)) (5 + buckets_in job) values _ e room ∙ rw (← i)
 
-      pub replay_told : (r : ℕ) (new : List ℕ) → Told x (buckets_in job) values r new → replayed r l new ≡ replay_export job ks entries levels values
+      pub replay_told : (r : Result (Unit {0}) Refusal) (new : List ℕ) → Told x (buckets_in job) values r new → replayed (code r) l new ≡ replay_export job ks entries levels values
       unfolding after_replay ended
       replay_told r new h = sym (on_replay ∙ rw (h.number, h.values))
 
 -- there is room for the values that the code writes
-pub replay_room : (b calls entries levels : List ℕ) (x : Replayed) (l : List ℕ) → ended x l ≡ replay_session b calls entries levels → (n : ℕ) → 5 + buckets_in b ≤ n → Room x (buckets_in b) n
-unfolding ended answered totals_values totals_list
+pub replay_room : (b calls entries levels : List ℕ) (x : Result Replayed Refusal) (l : List ℕ) → ended x l ≡ replay_session b calls entries levels → (n : ℕ) → 5 + buckets_in b ≤ n → Room x (buckets_in b) n
+unfolding ended told.replayed totals_values totals_list
 replay_room b calls entries levels x l i n h = record {
   some_bucket = few_buckets b;
   totals = λ t q.
@@ -75,8 +79,8 @@ pub zero_room : (t : Totals) (k n : ℕ) → totals_values t ≡ replicate (3 + 
 zero_room t k n e h = let c : length (totals_values t) ≡ 3 + k = ap length e ∙ length-replicate (3 + k) 0 in omega arith
 
 -- what is told of a violation
-pub violated_told : (x : Replayed) (n : ℕ) (v : Violation) → x ≡ replays.Violated n v → (buckets k : ℕ) → k ≡ violation_number (violation v) → (t : Totals) → totals_values t ≡ replicate (3 + buckets) 0 → (old new : List ℕ) → new ≡ over (k ∷ n ∷ totals_values t) old → Told x buckets old 0 new
-unfolding answered number_of put replayed_list
+pub violated_told : (x : Result Replayed Refusal) (n : ℕ) (v : Violation) → x ≡ Ok (replays.Violated n v) → (buckets k : ℕ) → k ≡ violation_number (violation v) → (t : Totals) → totals_values t ≡ replicate (3 + buckets) 0 → (old new : List ℕ) → new ≡ over (k ∷ n ∷ totals_values t) old → Told x buckets old (Ok tt) new
+unfolding number_of told.replayed put replayed_list
 violated_told x n v q buckets k f t z old new w = record { number = rw q; values = rw (q, w, f, z) }
 
 -- with a set in place of calls
@@ -95,12 +99,12 @@ module _ (job l : List ℕ) (own : PinSet) (named : own ≡ set_in l) (entries l
     pub set_12 : length values < 5 + buckets_in job → replayed 12 levels values ≡ set_replay_export job l entries levels values
     set_12 h = few (λ n. replayed n levels values) O (5 + buckets_in job) values _ e h ∙ sym export_is
 
-    pub set_told : 5 + buckets_in job ≤ length values → (x : Replayed) (new_levels : List ℕ) → ended x new_levels ≡ replay_call job own entries levels → (r : ℕ) (new : List ℕ) → Told x (buckets_in job) values r new → replayed r new_levels new ≡ set_replay_export job l entries levels values
+    pub set_told : 5 + buckets_in job ≤ length values → (x : Result Replayed Refusal) (new_levels : List ℕ) → ended x new_levels ≡ replay_call job own entries levels → (r : Result (Unit {0}) Refusal) (new : List ℕ) → Told x (buckets_in job) values r new → replayed (code r) new_levels new ≡ set_replay_export job l entries levels values
     unfolding after_replay ended
     set_told room x new_levels i r new h = sym (export_is ∙ behind (λ n. replayed n levels values) O (5 + buckets_in job) values _ e room ∙ rw (← i, h.number, h.values))
 
-pub set_room : (b : List ℕ) (own : PinSet) (entries levels : List ℕ) (x : Replayed) (l : List ℕ) → ended x l ≡ replay_call b own entries levels → (n : ℕ) → 5 + buckets_in b ≤ n → Room x (buckets_in b) n
-unfolding ended answered totals_values totals_list
+pub set_room : (b : List ℕ) (own : PinSet) (entries levels : List ℕ) (x : Result Replayed Refusal) (l : List ℕ) → ended x l ≡ replay_call b own entries levels → (n : ℕ) → 5 + buckets_in b ≤ n → Room x (buckets_in b) n
+unfolding ended told.replayed totals_values totals_list
 set_room b own entries levels x l i n h = record {
   some_bucket = few_buckets b;
   totals = λ t q.

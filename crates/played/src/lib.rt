@@ -3,6 +3,7 @@
 #![tactic(auto)]
 
 ghost use Rattle.std.specs.Prelude.{◌≡◌, ◌≤◌, length};
+ghost use Rattle.header.specs.Refusals.{code};
 ghost use Rattle.header.specs.Answers.{verdict};
 ghost use Rattle.pinset.specs.Answers.{set_of};
 ghost use Rattle.calling.specs.Sessions.{set_replay_refusal};
@@ -10,25 +11,26 @@ ghost use Rattle.exporting.specs.Exports.{replayed, replay_export};
 ghost use Rattle.exporting.specs.Sets.{set_replay_export};
 ghost use Rattle.played.specs.Answers.{Room, Told};
 
-use header::{Door, Verdict};
-use job::Reading;
+use header::{Door, Refusal};
 use pinset::PinSet;
 use replay::Replayed;
-use values::{DONE, SHORT_LIST};
 
 // A replay gives so many values, and one more for each bucket.
 const REPLAY_VALUES: usize = 5;
 
-// The number of what a replay came to over so many buckets, and its values.
-fn tell(outcome: Replayed, buckets: usize, values: &mut [u64]) -> u32
+// What a replay came to over so many buckets, with its values.
+fn tell(
+    outcome: Result<Replayed, Refusal>,
+    buckets: usize,
+    values: &mut [u64],
+) -> Result<(), Refusal>
     requires { Room outcome buckets (length values.old) }
     ensures { Told outcome buckets values.old result values.new }
 {
-    match outcome {
-        Replayed::Refused(n) => n as u32,
+    match outcome? {
         Replayed::Clean(totals) => {
             values::put_replayed(values, 0, 0, totals);
-            DONE
+            Ok(())
         }
         Replayed::Violated {
             interval,
@@ -36,7 +38,7 @@ fn tell(outcome: Replayed, buckets: usize, values: &mut [u64]) -> u32
         } => {
             let number = values::violation_number(violation);
             values::put_replayed(values, number, interval, values::no_totals(buckets));
-            DONE
+            Ok(())
         }
     }
 }
@@ -48,36 +50,30 @@ pub fn replay(
     entries: &[u8],
     levels: &mut [u16],
     values: &mut [u64],
-) -> u32
-    ensures { replayed result levels.new values.new ≡ replay_export job.now calls.now entries.now levels.old values.old }
+) -> Result<(), Refusal>
+    ensures { replayed (code result) levels.new values.new ≡ replay_export job.now calls.now entries.now levels.old values.old }
 {
-    if let Verdict::Refused(n) = session::replay_refusal(job, calls, entries, levels.len()) {
-        return n as u32;
-    }
+    session::replay_refusal(job, calls, entries, levels.len())?;
     let buckets = values::buckets_in(job);
     if values.len() < REPLAY_VALUES + buckets {
-        return SHORT_LIST;
+        return Err(Refusal::List);
     }
     let outcome = session::replay_after(job, calls, entries, levels);
     tell(outcome, buckets, values)
 }
 
 // What refuses a replay with a set, of a job that the archive takes, with room for so many levels: the job, 1 to 5, the set, 6, the plan, 14, then 12.
-fn set_refusal(job: &[u8], set: PinSet, entries: &[u8], levels: usize) -> Verdict
+fn set_refusal(job: &[u8], set: PinSet, entries: &[u8], levels: usize) -> Result<(), Refusal>
     ensures { verdict result ≡ set_replay_refusal job.now (set_of set) entries.now levels }
 {
-    match pinset::check(job, set, Door::Archive) {
-        Reading::Refused(n) => Verdict::Refused(n),
-        Reading::Read { header, taken: _ } => {
-            if !entry::shaped(header, entries) {
-                return Verdict::Refused(entry::refusal::PLAN);
-            }
-            if levels < replay::levels_each(header) * entry::intervals(header) {
-                return Verdict::Refused(header::refusal::LIST);
-            }
-            Verdict::Fits
-        }
+    let header = pinset::check(job, set, Door::Archive)?.header;
+    if !entry::shaped(header, entries) {
+        return Err(Refusal::Plan);
     }
+    if levels < replay::levels_each(header) * entry::intervals(header) {
+        return Err(Refusal::List);
+    }
+    Ok(())
 }
 
 // Replays a plan with the pins of a set as numbers. Values: as `replay` gives them.
@@ -87,16 +83,14 @@ pub fn replay_set(
     entries: &[u8],
     levels: &mut [u16],
     values: &mut [u64],
-) -> u32
-    ensures { replayed result levels.new values.new ≡ set_replay_export job.now set.now entries.now levels.old values.old }
+) -> Result<(), Refusal>
+    ensures { replayed (code result) levels.new values.new ≡ set_replay_export job.now set.now entries.now levels.old values.old }
 {
     let own = numbers::set_in(set);
-    if let Verdict::Refused(n) = set_refusal(job, own, entries, levels.len()) {
-        return n as u32;
-    }
+    set_refusal(job, own, entries, levels.len())?;
     let buckets = values::buckets_in(job);
     if values.len() < REPLAY_VALUES + buckets {
-        return SHORT_LIST;
+        return Err(Refusal::List);
     }
     let outcome = replay::replay(job, own, entries, levels);
     tell(outcome, buckets, values)

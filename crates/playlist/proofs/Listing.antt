@@ -7,14 +7,16 @@ use native.Mathlib.Omega.{arith}
 use lib.Dec.{ltb}
 use lib.ListN.{length}
 use borrow.Author.Tests.{ltb-false, le-ltb, eq-eqb}
+use Rattle.std.specs.Prelude.{Err}
 use Rattle.base.proofs.Refusals.{guarded_last}
 use Rattle.base.proofs.Tests.{true_both}
 use Rattle.format.proofs.Limits.{is_kept, not_true}
 use Rattle.playlists.specs.Calls.{programmes, is_list, playlist_call}
 use Rattle.playlists.specs.Claims.{IsList}
 use Rattle.playlists.proofs.Playlists.{programmes_are, playlist_calls}
-use Rattle.playlist.specs.declared.Outcome.TheVariants as o
-use Rattle.playlist.specs.Answers.{outcome, played, Going, runs}
+use Rattle.header.specs.declared.refusal.Refusal.TheVariants as refusals
+use Rattle.playlist.specs.declared.Stopped.TheVariants as o
+use Rattle.playlist.specs.Answers.{played, Going, runs}
 
 -- every two numbers tell one
 pairs_within : (ns : List ℕ) → 2 * length (programmes ns) ≤ length ns
@@ -39,15 +41,15 @@ module _ (b ns table entries totals : List ℕ) (n : ℕ) (half : n ≡ length n
   told : length (programmes ns) ≡ n
   told = omega (arith, pairs_within ns, (programmes_are ns).all)
 
-  abbrev Answered : ℕ → Type 0
-  Answered k = played (o.RefusedList k) table entries totals ≡ playlist_call b ns table entries totals
+  abbrev Answered : Type 0
+  Answered = played (Err (o.List refusals.Playlist)) table entries totals ≡ playlist_call b ns table entries totals
 
-  pub list_odd : (length ns ≡ 2 * n → ⊥) → Answered 21
-  unfolding played outcome
+  pub list_odd : (length ns ≡ 2 * n → ⊥) → Answered
+  unfolding played
   list_odd f = sym ((playlist_calls b ns table entries totals).0 (λ l. f (omega (arith, l.paired, told))))
 
-  pub list_count : (1 ≤ n → n ≤ 64 → ⊥) → Answered 21
-  unfolding played outcome
+  pub list_count : (1 ≤ n → n ≤ 64 → ⊥) → Answered
+  unfolding played
   list_count f = sym ((playlist_calls b ns table entries totals).0 (λ l. f (omega (arith, l.some_one, told)) (omega (arith, l.few, told))))
 
   module _ (paired : length ns ≡ 2 * n) (some_one : 1 ≤ n) (few : n ≤ 64) where

@@ -1,19 +1,18 @@
 -- One programme after another: what is kept from turn to turn, the programme whose turn it is, and how the list ends.
 use Prim.Native.Nat.{ℕ, zero, suc, ◌+◌, ◌*◌, ◌≤◌, ◌<◌}
 use mathlib.Core.Path.{◌≡◌, refl, sym, ap, ◌∙◌}
-use mathlib.Core.Bool.{false}
 use mathlib.Core.List.{List, [], ◌∷◌}
 use native.Mathlib.Omega.{arith}
 use lib.ListN.{length, get_or, drop, drop_of_length-le}
-use Rattle.planner.specs.declared.BucketLevels.{BucketLevels}
+use Rattle.std.specs.Prelude.{Result, Ok, Err, None}
+use Rattle.header.specs.declared.refusal.Refusal.{Refusal}
+use Rattle.header.specs.Refusals.{number}
 use Rattle.playlists.specs.Calls as calls
 use Rattle.playlists.specs.Calls.{Programme, programmes, Standing, at_first, stops, goes_on, refused_at, ended, onward, play}
 use Rattle.playlists.proofs.Turns.{turn_room}
 use Rattle.playlist.specs.declared.Standing as code
-use Rattle.playlist.specs.declared.Turn.{Turn}
-use Rattle.playlist.specs.declared.Turn.TheVariants as turn
-use Rattle.playlist.specs.declared.Outcome.TheVariants as o
-use Rattle.playlist.specs.Answers.{outcome, played, programme, carries, stands, turned, Room, Going, runs}
+use Rattle.playlist.specs.declared.Stopped.TheVariants as o
+use Rattle.playlist.specs.Answers.{played, programme, carries, stands, turned, Room, Going, runs}
 
 -- the programmes of so many pairs of numbers
 pub paired_count : (ns : List ℕ) (n : ℕ) → length ns ≡ 2 * n → length (programmes ns) ≡ n
@@ -42,16 +41,16 @@ pub record Running (b ns table₀ entries₀ totals₀ : List ℕ) (at : ℕ) (s
   pub totals_size : length totals ≡ length totals₀
   pub plays : runs b ns table₀ entries₀ totals₀ ≡ play b (drop at (programmes ns)) (stands s table entries totals)
 
-pub running_first : (b ns table entries totals : List ℕ) (l : BucketLevels) → Running b ns table entries totals 0 (record { done = 0; used = 0; any = false; levels = l }) table entries totals
+pub running_first : (b ns table entries totals : List ℕ) → Running b ns table entries totals 0 (record { done = 0; used = 0; levels = None }) table entries totals
 unfolding runs at_first stands carries
-running_first b ns table entries totals l = record { done = refl; used = omega arith; entries_size = refl; totals_size = refl; plays = refl }
+running_first b ns table entries totals = record { done = refl; used = omega arith; entries_size = refl; totals_size = refl; plays = refl }
 
 module _ (b ns table₀ entries₀ totals₀ : List ℕ) (count : ℕ) (g : Going ns count) (at : ℕ) (s : code.Standing) (table entries totals : List ℕ) (r : Running b ns table₀ entries₀ totals₀ at s table entries totals) where
   abbrev now : Standing
   now = stands s table entries totals
 
-  pub running_end : count ≤ at → played o.Finished table entries totals ≡ runs b ns table₀ entries₀ totals₀
-  unfolding played outcome play ended stands
+  pub running_end : count ≤ at → played (Ok tt) table entries totals ≡ runs b ns table₀ entries₀ totals₀
+  unfolding played play ended stands
   running_end h = sym (r.plays ∙ rw (drop_of_length-le (programmes ns) {i = at} (omega (arith, paired_count ns count g.paired))))
 
   module _ (h : at < count) where
@@ -64,14 +63,14 @@ module _ (b ns table₀ entries₀ totals₀ : List ℕ) (count : ℕ) (g : Goin
     comes : runs b ns table₀ entries₀ totals₀ ≡ onward (calls.turn b here now) (λ n. play b (drop (suc at) (programmes ns)) n)
     comes = r.plays ∙ ap (λ (ps : List Programme). play b ps now) (paired_next ns count at g.paired h) ∙ unfold play in refl
 
-    module _ (x : Turn) (table' entries' totals' : List ℕ) (e : turned x s table' entries' totals' ≡ calls.turn b here now) where
-      pub running_stop : (n place : ℕ) → x ≡ turn.Stops n → place ≡ at + 1 → played (o.RefusedAt place n) table' entries' totals' ≡ runs b ns table₀ entries₀ totals₀
+    module _ (x : Result code.Standing Refusal) (table' entries' totals' : List ℕ) (e : turned x s table' entries' totals' ≡ calls.turn b here now) where
+      pub running_stop : (n : Refusal) (place : ℕ) → x ≡ Err n → place ≡ at + 1 → played (Err (o.Programme place n)) table' entries' totals' ≡ runs b ns table₀ entries₀ totals₀
       unfolding turned
       running_stop n place q c =
-          let k : stops n (stands s table' entries' totals') ≡ calls.turn b here now = (rw q at e) in
-          sym (comes ∙ rw (← k) (unfold onward ended stands played outcome in ap (λ (d : ℕ). record { answer = refused_at d n; table = table'; entries = entries'; totals = totals' }) (omega (arith, r.done, c))))
+          let k : stops (number n) (stands s table' entries' totals') ≡ calls.turn b here now = (rw q at e) in
+          sym (comes ∙ rw (← k) (unfold onward ended stands played in ap (λ (d : ℕ). record { answer = refused_at d (number n); table = table'; entries = entries'; totals = totals' }) (omega (arith, r.done, c))))
 
-      module _ (next : code.Standing) (q : x ≡ turn.GoesOn next) where
+      module _ (next : code.Standing) (q : x ≡ Ok next) where
         went : calls.turn b here now ≡ goes_on (stands next table' entries' totals')
         unfolding turned
         went = sym (rw q at e)

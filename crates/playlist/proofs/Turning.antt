@@ -2,7 +2,7 @@
 use Prim.Native.Nat.{ℕ, zero, suc, ◌+◌, ◌-◌, ◌*◌, ◌≤◌, ◌<◌}
 use mathlib.Core.Path.{◌≡◌, refl, sym, ap, ap₂, ◌∙◌}
 use mathlib.Core.Bool.{Bool, true, false}
-use mathlib.Core.Option.{none, some}
+use mathlib.Core.Option.{some}
 use mathlib.Core.List.{List, [], ◌∷◌, ◌++◌, map, zip_with}
 use native.Mathlib.Nat.{mul-le-mul_left, mul-le-mul_right}
 use native.Mathlib.Omega.{arith}
@@ -10,7 +10,9 @@ use lib.Dec.{leb}
 use lib.ListN.{length, get_or, take, drop, length-map, length-drop}
 use borrow.Author.Tests.{le-leb}
 use borrow.Rule.Slice.PartMut.{put_mid, put_same}
-use Rattle.std.specs.Prelude.{if◌then◌else◌}
+use Rattle.std.specs.Prelude.{if◌then◌else◌, Some, None, Ok, Err}
+use Rattle.std.specs.Prelude as std
+use Rattle.std.specs.Option.{option_map_or}
 use Rattle.base.specs.Answer.{refused, gives}
 use Rattle.base.specs.Lent.{over_at}
 use Rattle.model.specs.Job.{Job, Bucket, Levels, bucket_at, intervals}
@@ -26,21 +28,20 @@ use Rattle.replaying.specs.Entries.{entry_size}
 use Rattle.planning.specs.Calls as planning
 use Rattle.starting.specs.Calls.{levels_call}
 use Rattle.planner.specs.declared.BucketLevels.{BucketLevels}
-use Rattle.planner.specs.declared.Planned.TheVariants as p
-use Rattle.planner.specs.Answers.{answered, planned, levels_of_buckets}
+use Rattle.planner.specs.Answers.{planned, levels_of_buckets}
 use Rattle.playlists.specs.Calls.{Standing, starting, led_to, five, after, rest_of, plan_part, plan_turn, stops, goes_on}
 use Rattle.playlists.proofs.Turns.{Balanced, balanced, plan_refused}
 use Rattle.playlist.specs.declared.Standing as code
-use Rattle.playlist.specs.declared.Turn.{Turn}
-use Rattle.playlist.specs.declared.Turn.TheVariants as turn
-use Rattle.playlist.specs.Answers.{carries, stands, turned, starts_at, led_by, LeadsTo, end_for, Opened}
+use Rattle.header.specs.declared.refusal.Refusal.{Refusal}
+use Rattle.header.specs.Refusals.{number}
+use Rattle.playlist.specs.Answers.{carried_by, carries, stands, turned, starts_at, led_by, LeadsTo, end_for, Opened}
 use Rattle.base.proofs.Lent.{part_all, put_back}
 
 -- the carried levels, or a job's own
-chosen : (j : Job) (t : Bool) (ls own : List ℕ) → j.start.buckets ≡ own → (if t then ls else own) ≡ starting j (if t then some ls else none)
+chosen : (j : Job) (o : std.Option BucketLevels) (own : List ℕ) → j.start.buckets ≡ own → option_map_or levels_of_buckets o own ≡ starting j (carried_by o)
 unfolding starting
-chosen j true ls own e = refl
-chosen j false ls own e = sym e
+chosen j (Some l) own e = refl
+chosen j None own e = sym e
 
 -- a bucket of a header, and of its job
 drain_at : (ks : List Policed) (i : ℕ) → (bucket_at (map bucket_of ks) i).drain ≡ (get_or ks i no_bucket).drain
@@ -119,7 +120,7 @@ module _ (b : List ℕ) (h : Header) (s : code.Standing) (o : Opened b h s) (tab
 
   starts : starts_at h s ≡ starting J st.carried
   unfolding starts_at stands carries
-  starts = chosen J s.any (levels_of_buckets s.levels) (map (λ k. k.fill) h.buckets) (ap (λ (x : Levels). x.buckets) (start_is b h o.opens))
+  starts = chosen J s.levels (map (λ k. k.fill) h.buckets) (ap (λ (x : Levels). x.buckets) (start_is b h o.opens))
 
   pub found_is : (set : PinSet) (ls : List ℕ) → set ≡ fresh h → ls ≡ starts_at h s → levels_call b set ls total late table (take (end - s.used) (drop s.used entries)) ≡ found
   unfolding plan_part stands
@@ -136,9 +137,9 @@ module _ (b : List ℕ) (h : Header) (s : code.Standing) (o : Opened b h s) (tab
   drain_is i = ap (λ (ks : List Bucket). (bucket_at ks i).drain) (buckets_are b h o.opens) ∙ drain_at h.buckets i
 
   -- a plan, from the levels that the code found
-  module _ (from : BucketLevels) (f : levels_of_buckets from ≡ starts_at h s) (x : Totals) (t e : List ℕ) (q : planned (p.Best x) t e ≡ found) where
+  module _ (from : BucketLevels) (f : levels_of_buckets from ≡ starts_at h s) (x : Totals) (t e : List ℕ) (q : planned (Ok x) t e ≡ found) where
     given_is : found.answer ≡ gives (totals_of x)
-    unfolding planned answered
+    unfolding planned
     given_is = ap (λ (r : planning.Planned). r.answer) (sym q)
 
     balance : Balanced b J st (totals_of x)
@@ -183,18 +184,18 @@ module _ (b : List ℕ) (h : Header) (s : code.Standing) (o : Opened b h s) (tab
     places = omega (arith, balance.places)
 
     -- the next programme's turn comes
-    pub turn_best : (d u : ℕ) (levels : BucketLevels) (list new : List ℕ) → d ≡ s.done + 1 → u ≡ s.used + 3 * (h.units + h.delay) → levels_of_buckets levels ≡ led_by h from x → list ≡ put_mid s.used (end - s.used) entries e → new ≡ over_at (5 * s.done) (five (totals_of x)) totals → turned (turn.GoesOn (record { done = d; used = u; any = true; levels = levels })) s t list new ≡ plan_turn b J st
-    unfolding turned stands carries plan_turn planned answered
+    pub turn_best : (d u : ℕ) (levels : BucketLevels) (list new : List ℕ) → d ≡ s.done + 1 → u ≡ s.used + 3 * (h.units + h.delay) → levels_of_buckets levels ≡ led_by h from x → list ≡ put_mid s.used (end - s.used) entries e → new ≡ over_at (5 * s.done) (five (totals_of x)) totals → turned (Ok (record { done = d; used = u; levels = Some levels })) s t list new ≡ plan_turn b J st
+    unfolding turned stands carries plan_turn planned
     turn_best d u levels list new ed eu el es put =
         let same : e ≡ found.entries = ap (λ (r : planning.Planned). r.entries) q in
         ap goes_on (standing_same d (suc s.done) u (s.used + 3 * intervals J) (levels_of_buckets levels) (led_to J (starting J st.carried) e) t list (take s.used entries ++ e) new (over_at (5 * s.done) (five (totals_of x)) totals) (omega (arith, ed)) (omega (arith, eu, intervals_are b h o.opens)) (el ∙ led_is ∙ ap (led_to J (starting J st.carried)) (sym same)) (es ∙ given_back s table entries totals fits end ends balance.places e) put)
         ∙ sym (after_best J (starting J st.carried) st found t e (totals_of x) q)
 
   -- the programme is refused
-  pub turn_refused : (n : ℕ) (t e : List ℕ) → planned (p.Refused n) t e ≡ found → (r : Turn) (list : List ℕ) → r ≡ turn.Stops n → list ≡ put_mid s.used (end - s.used) entries e → turned r s t list totals ≡ plan_turn b J st
-  unfolding turned stands plan_turn planned answered
+  pub turn_refused : (n : Refusal) (t e : List ℕ) → planned (Err n) t e ≡ found → (r : std.Result code.Standing Refusal) (list : List ℕ) → r ≡ Err n → list ≡ put_mid s.used (end - s.used) entries e → turned r s t list totals ≡ plan_turn b J st
+  unfolding turned stands plan_turn planned
   turn_refused n t e q r list is es =
-      let x : found.answer ≡ refused n = ap (λ (r : planning.Planned). r.answer) (sym q) in
-      let same : e ≡ take (end - s.used) (drop s.used entries) = ap (λ (r : planning.Planned). r.entries) q ∙ plan_refused b J o.drains.0 o.drains.1 st n x ∙ sym (lent s table entries totals fits end ends) in
-      rw is (ap (λ (l : List ℕ). stops n (stands s t l totals)) (es ∙ ap (put_mid s.used (end - s.used) entries) same ∙ put_same s.used (end - s.used) entries))
-      ∙ sym (after_refused J (starting J st.carried) st found t e n q)
+      let x : found.answer ≡ refused (number n) = ap (λ (r : planning.Planned). r.answer) (sym q) in
+      let same : e ≡ take (end - s.used) (drop s.used entries) = ap (λ (r : planning.Planned). r.entries) q ∙ plan_refused b J o.drains.0 o.drains.1 st (number n) x ∙ sym (lent s table entries totals fits end ends) in
+      rw is (ap (λ (l : List ℕ). stops (number n) (stands s t l totals)) (es ∙ ap (put_mid s.used (end - s.used) entries) same ∙ put_same s.used (end - s.used) entries))
+      ∙ sym (after_refused J (starting J st.carried) st found t e (number n) q)

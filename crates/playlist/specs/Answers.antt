@@ -1,5 +1,7 @@
 -- What the answers of this crate mean in the terms of `playlists`, case by case, and what its private functions say and ask.
-use Rattle.std.specs.Prelude.{ℕ, ◌+◌, ◌*◌, ◌-◌, ◌<◌, ◌≤◌, ◌≡◌, leb, length, get_or, if◌then◌else◌}
+use Rattle.std.specs.Prelude.{ℕ, ◌+◌, ◌*◌, ◌-◌, ◌<◌, ◌≤◌, ◌≡◌, Bool, true, leb, eqb, length, get_or, drop, if◌then◌else◌, Result, Ok, Err, Some, None}
+use Rattle.std.specs.Prelude as std
+use Rattle.std.specs.Option.{option_map_or}
 use Rattle.std.proofs.Math.Option.{Option, none, some}
 use mathlib.Core.List.{List, map, zip_with}
 use Rattle.format.specs.Parser.{took}
@@ -11,19 +13,19 @@ use Rattle.planner.specs.declared.BucketLevels.{BucketLevels}
 use Rattle.planner.specs.Answers.{levels_of_buckets}
 use Rattle.playlists.specs.Calls as calls
 use Rattle.playlists.specs.Calls.{Programme, programmes, Standing, at_first, stops, goes_on, finished, refused_list, refused_at, play}
-use Rattle.playlist.specs.declared.Outcome.{Outcome}
-use Rattle.playlist.specs.declared.Outcome.TheVariants as o
-use Rattle.playlist.specs.declared.Turn.{Turn}
-use Rattle.playlist.specs.declared.Turn.TheVariants as t
+use Rattle.playlist.specs.declared.Stopped.{Stopped}
+use Rattle.playlist.specs.declared.Stopped.TheVariants as o
+use Rattle.header.specs.declared.refusal.Refusal.{Refusal}
+use Rattle.header.specs.Refusals.{number}
 use Rattle.playlist.specs.declared.Standing as code
 
 -- the answer, and the lists that were lent
-unfoldable pub outcome : Outcome → calls.Outcome
-outcome o.Finished = finished
-outcome (o.RefusedList n) = refused_list n
-outcome (o.RefusedAt place n) = refused_at place n
+abbrev pub outcome : Result (Unit {0}) Stopped → calls.Outcome
+outcome (Ok u) = finished
+outcome (Err (o.List r)) = refused_list (number r)
+outcome (Err (o.Programme place r)) = refused_at place (number r)
 
-unfoldable pub played : Outcome → List ℕ → List ℕ → List ℕ → calls.Played
+unfoldable pub played : Result (Unit {0}) Stopped → List ℕ → List ℕ → List ℕ → calls.Played
 played x table entries totals = record { answer = outcome x; table = table; entries = entries; totals = totals }
 
 -- What the private functions say and ask.
@@ -32,20 +34,24 @@ abbrev pub programme : ℕ → ℕ → Programme
 programme first size = record { first = first; size = size }
 
 -- the levels that are carried, if a programme was planned
+abbrev pub carried_by : std.Option BucketLevels → Option (List ℕ)
+carried_by None = none
+carried_by (Some l) = some (levels_of_buckets l)
+
 unfoldable pub carries : code.Standing → Option (List ℕ)
-carries s = if s.any then some (levels_of_buckets s.levels) else none
+carries s = carried_by s.levels
 
 unfoldable pub stands : code.Standing → List ℕ → List ℕ → List ℕ → Standing
 stands s table entries totals = record { done = s.done; used = s.used; carried = carries s; table = table; entries = entries; totals = totals }
 
 -- a turn, from a standing, with the lists after it
-unfoldable pub turned : Turn → code.Standing → List ℕ → List ℕ → List ℕ → calls.Turn
-turned (t.Stops n) s table entries totals = stops n (stands s table entries totals)
-turned (t.GoesOn next) s table entries totals = goes_on (stands next table entries totals)
+unfoldable pub turned : Result code.Standing Refusal → code.Standing → List ℕ → List ℕ → List ℕ → calls.Turn
+turned (Err r) s table entries totals = stops (number r) (stands s table entries totals)
+turned (Ok next) s table entries totals = goes_on (stands next table entries totals)
 
 -- the levels from which a programme with this header is planned
 unfoldable pub starts_at : format.Header → code.Standing → List ℕ
-starts_at h s = if s.any then levels_of_buckets s.levels else map (λ k. k.fill) h.buckets
+starts_at h s = option_map_or levels_of_buckets s.levels (map (λ k. k.fill) h.buckets)
 
 -- a level that lasts: what is drained is no more than what was there, came in and was made up for, and what remains is a level
 pub record Lasts (level sent unused drained : ℕ) : Type 0 where
@@ -56,6 +62,14 @@ pub record Lasts (level sent unused drained : ℕ) : Type 0 where
 -- the levels at which a plan with these totals ends, by the balance of each bucket
 unfoldable pub led_by : format.Header → BucketLevels → Totals → List ℕ
 led_by h l x = zip_with (λ (k : format.Policed) (p : ℕ). p - (h.units + h.delay) * k.drain) h.buckets (zip_with (λ (level unused : ℕ). level + (totals_of x).channel + unused) (levels_of_buckets l) (totals_of x).unused)
+
+-- the second of them, where there is one
+abbrev pub second_led : format.Header → BucketLevels → Totals → List ℕ
+second_led h l x = drop 1 (led_by h l x)
+
+-- whether a job has as many buckets as those before it, if there are any
+abbrev pub alike : format.Header → code.Standing → Bool
+alike h s = option_map_or (λ l. eqb (length (levels_of_buckets l)) (length h.buckets)) s.levels true
 
 -- of each bucket
 pub record LeadsTo (h : format.Header) (l : BucketLevels) (x : Totals) : Type 0 where

@@ -3,30 +3,28 @@
 
 #![tactic(auto)]
 
-pub mod refusal;
-
-ghost use Rattle.std.specs.Prelude.{◌≡◌, ◌+◌, ◌*◌, ◌≤◌, length, get_or};
+ghost use Rattle.std.specs.Prelude.{◌≡◌, ◌+◌, ◌*◌, ◌≤◌, length};
+ghost use Rattle.std.specs.Option.{option_to_list};
 ghost use Rattle.base.specs.Lent.{over_at};
 ghost use Rattle.format.specs.JobBytes.{job_in};
 ghost use Rattle.header.specs.Answers.{plain};
 ghost use Rattle.interval.specs.Answers.{totals_of};
 ghost use Rattle.planner.specs.Answers.{levels_of_buckets};
 ghost use Rattle.playlists.specs.Calls.{five, plan_turn, part_turn, turn, playlist_call};
-ghost use Rattle.playlist.specs.Answers.{played, turned, stands, programme, starts_at, Lasts, LeadsTo, led_by, end_for, Room, Opened, Going, runs};
+ghost use Rattle.playlist.specs.Answers.{played, turned, stands, programme, starts_at, Lasts, LeadsTo, led_by, second_led, alike, end_for, Room, Opened, Going, runs};
 
 use best::Order;
-use header::{Door, Header};
+use header::{Door, Header, Refusal};
 use interval::Totals;
 use job::Reading;
 use pinset::PinSet;
-use planner::{Aim, BucketLevels, Planned};
+use planner::{Aim, BucketLevels};
 
-// All programmes are planned; a refusal of the list; or that of a programme, with its place, counted from 1.
-#[derive(Clone, Copy)]
-pub enum Outcome {
-    Finished,
-    RefusedList(u8),
-    RefusedAt { place: u8, number: u8 },
+// Why not all programmes are planned: a refusal of the list, or that of a programme, with its place, counted from 1.
+#[derive(Clone, Copy, Debug, PartialEq, Eq)]
+pub enum Stopped {
+    List(Refusal),
+    Programme { place: u8, refusal: Refusal },
 }
 
 // Between two programmes: how many are planned, how many bytes their plans take, and the bucket levels at which the last one ended, if there is one.
@@ -34,15 +32,7 @@ pub enum Outcome {
 struct Standing {
     done: usize,
     used: usize,
-    any: bool,
-    levels: BucketLevels,
-}
-
-// A programme is refused, or the next one's turn comes.
-#[derive(Clone, Copy)]
-enum Turn {
-    Stops(u8),
-    GoesOn(Standing),
+    levels: Option<BucketLevels>,
 }
 
 // The most entries of a list, and how many numbers each has; how many totals a programme has.
@@ -56,13 +46,9 @@ const EACH: usize = 5;
 fn levels_for(header: Header, standing: Standing) -> BucketLevels
     ensures { levels_of_buckets result ≡ starts_at (plain header) standing }
 {
-    if standing.any {
-        return standing.levels;
-    }
-    BucketLevels {
-        bucket: header.first.fill,
-        two: header.two,
-        bucket2: header.second.fill,
+    match standing.levels {
+        Some(levels) => levels,
+        None => BucketLevels::start(header),
     }
 }
 
@@ -72,6 +58,21 @@ fn level_after(level: u16, sent: u32, unused: u32, drained: u32) -> u16
     ensures { drained + result ≡ level + sent + unused }
 {
     (level as u32 + sent + unused - drained) as u16
+}
+
+// The second bucket's, where there is one.
+fn second_after(header: Header, from: BucketLevels, totals: Totals) -> Option<u16>
+    requires { LeadsTo (plain header) from totals }
+    ensures { option_to_list result ≡ second_led (plain header) from totals }
+{
+    let intervals = header.units as u32 + header.delay as u32;
+    let bucket = header.second?;
+    Some(level_after(
+        from.bucket2?,
+        totals.channel,
+        totals.unused2?,
+        intervals * bucket.drain as u32,
+    ))
 }
 
 // The levels at which a programme ends, by the totals of its plan.
@@ -86,46 +87,25 @@ fn levels_after(header: Header, from: BucketLevels, totals: Totals) -> BucketLev
         totals.unused,
         intervals * header.first.drain as u32,
     );
-    if !header.two {
-        return BucketLevels {
-            bucket,
-            two: false,
-            bucket2: 0,
-        };
-    }
     BucketLevels {
         bucket,
-        two: true,
-        bucket2: level_after(
-            from.bucket2,
-            totals.channel,
-            totals.unused2,
-            intervals * header.second.drain as u32,
-        ),
+        bucket2: second_after(header, from, totals),
     }
 }
 
-// The drain that the second bucket left unused, 0 where there is none.
-fn second_unused(totals: Totals) -> u32
-    ensures { result ≡ get_or (totals_of totals).unused 1 0 }
-{
-    if totals.two {
-        return totals.unused2;
-    }
-    0
-}
-
-// A programme's totals go to its own places of the list.
+// A programme's totals go to its own places of the list: 0 for the second bucket where there is none.
 fn put_totals(list: &mut [u64], done: usize, totals: Totals)
     requires { (done + 1) * 5 ≤ length list.old }
     ensures { list.new ≡ over_at (5 * done) (five (totals_of totals)) list.old }
 {
     let at = EACH * done;
-    list[at] = totals.distortion as u64;
-    list[at + 1] = totals.source as u64;
-    list[at + 2] = totals.channel as u64;
-    list[at + 3] = totals.unused as u64;
-    list[at + 4] = second_unused(totals) as u64;
+    list[at..at + EACH].copy_from_slice(&[
+        totals.distortion as u64,
+        totals.source as u64,
+        totals.channel as u64,
+        totals.unused as u64,
+        totals.unused2.unwrap_or(0) as u64,
+    ]);
 }
 
 // Where the entries end that a programme's plan may take: with the list, and where its totals have no place, at once.
@@ -147,7 +127,7 @@ fn plan_opened(
     table: &mut [u32],
     entries: &mut [u8],
     totals: &mut [u64],
-) -> Turn
+) -> Result<Standing, Refusal>
     requires { Opened job.now (plain header) standing × Room standing entries.old }
     ensures { turned result standing table.new entries.new totals.new ≡ plan_turn job.now (job_in job.now) (stands standing table.old entries.old totals.old) }
 {
@@ -155,7 +135,7 @@ fn plan_opened(
     let from = levels_for(header, standing);
     let used = standing.used;
     let end = end_for(standing, entries.len(), totals.len());
-    let found = planner::plan_from(
+    let sum = planner::plan_from(
         job,
         set,
         from,
@@ -163,18 +143,22 @@ fn plan_opened(
         Order::Late,
         table,
         &mut entries[used..end],
-    );
-    match found {
-        Planned::Refused(n) => Turn::Stops(n),
-        Planned::Best(sum) => {
-            put_totals(totals, standing.done, sum);
-            Turn::GoesOn(Standing {
-                done: standing.done + 1,
-                used: used + entry::SIZE * entry::intervals(header),
-                any: true,
-                levels: levels_after(header, from, sum),
-            })
-        }
+    )?;
+    put_totals(totals, standing.done, sum);
+    Ok(Standing {
+        done: standing.done + 1,
+        used: used + entry::SIZE * entry::intervals(header),
+        levels: Some(levels_after(header, from, sum)),
+    })
+}
+
+// Whether a job has as many buckets as those before it, if there are any.
+fn alike(standing: Standing, header: Header) -> bool
+    ensures { result ≡ alike (plain header) standing }
+{
+    match standing.levels {
+        None => true,
+        Some(levels) => levels.bucket2.is_some() == header.second.is_some(),
     }
 }
 
@@ -185,22 +169,18 @@ fn plan_part(
     table: &mut [u32],
     entries: &mut [u8],
     totals: &mut [u64],
-) -> Turn
+) -> Result<Standing, Refusal>
     requires { Room standing entries.old }
     ensures { turned result standing table.new entries.new totals.new ≡ part_turn job.now (stands standing table.old entries.old totals.old) }
 {
-    match job::read(job, Door::Opening) {
-        Reading::Refused(n) => Turn::Stops(n),
-        Reading::Read { header, taken } => {
-            if taken != job.len() {
-                return Turn::Stops(refusal::PROGRAMME);
-            }
-            if standing.any & (standing.levels.two != header.two) {
-                return Turn::Stops(refusal::PROGRAMME);
-            }
-            plan_opened(job, header, standing, table, entries, totals)
-        }
+    let Reading { header, taken } = job::read(job, Door::Opening)?;
+    if taken != job.len() {
+        return Err(Refusal::Programme);
     }
+    if !alike(standing, header) {
+        return Err(Refusal::Programme);
+    }
+    plan_opened(job, header, standing, table, entries, totals)
 }
 
 // One programme of the list: 22 where it passes the slice.
@@ -212,15 +192,15 @@ fn plan_programme(
     table: &mut [u32],
     entries: &mut [u8],
     totals: &mut [u64],
-) -> Turn
+) -> Result<Standing, Refusal>
     requires { Room standing entries.old }
     ensures { turned result standing table.new entries.new totals.new ≡ turn bytes.now (programme first size) (stands standing table.old entries.old totals.old) }
 {
     if bytes.len() < first {
-        return Turn::Stops(refusal::PROGRAMME);
+        return Err(Refusal::Programme);
     }
     if bytes.len() - first < size {
-        return Turn::Stops(refusal::PROGRAMME);
+        return Err(Refusal::Programme);
     }
     let end = first + size;
     plan_part(&bytes[first..end], standing, table, entries, totals)
@@ -234,36 +214,29 @@ fn plan_all(
     table: &mut [u32],
     entries: &mut [u8],
     totals: &mut [u64],
-) -> Outcome
+) -> Result<(), Stopped>
     requires { Going numbers.now count }
     ensures { played result table.new entries.new totals.new ≡ runs bytes.now numbers.now table.old entries.old totals.old }
 {
     let mut standing = Standing {
         done: 0,
         used: 0,
-        any: false,
-        levels: BucketLevels {
-            bucket: 0,
-            two: false,
-            bucket2: 0,
-        },
+        levels: None,
     };
     for at in 0..count {
         let first = numbers[PAIR * at] as usize;
         let size = numbers[PAIR * at + 1] as usize;
         match plan_programme(bytes, first, size, standing, table, entries, totals) {
-            Turn::Stops(n) => {
-                return Outcome::RefusedAt {
+            Ok(next) => standing = next,
+            Err(refusal) => {
+                return Err(Stopped::Programme {
                     place: (at + 1) as u8,
-                    number: n,
-                };
-            }
-            Turn::GoesOn(next) => {
-                standing = next;
+                    refusal,
+                });
             }
         }
     }
-    Outcome::Finished
+    Ok(())
 }
 
 // Plans the programmes of a list, each a job's first byte and its length in `bytes`, one after another. Plans stand behind each other in `entries`, totals, five a programme, in `totals`; each planning writes its table to `table`. Work stops at the first programme that is refused.
@@ -273,15 +246,15 @@ pub fn plan_list(
     table: &mut [u32],
     entries: &mut [u8],
     totals: &mut [u64],
-) -> Outcome
+) -> Result<(), Stopped>
     ensures { played result table.new entries.new totals.new ≡ playlist_call bytes.now numbers.now table.old entries.old totals.old }
 {
     let count = numbers.len() / PAIR;
     if numbers.len() != PAIR * count {
-        return Outcome::RefusedList(refusal::LIST);
+        return Err(Stopped::List(Refusal::Playlist));
     }
     if (count < 1) | (count > MOST) {
-        return Outcome::RefusedList(refusal::LIST);
+        return Err(Stopped::List(Refusal::Playlist));
     }
     plan_all(bytes, numbers, count, table, entries, totals)
 }

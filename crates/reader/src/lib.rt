@@ -3,6 +3,7 @@
 #![tactic(auto)]
 
 ghost use Rattle.std.specs.Prelude.{◌≡◌, [], ◌∷◌, ◌*◌, ◌≤◌, ◌<◌, length};
+ghost use Rattle.header.specs.Refusals.{code};
 ghost use Rattle.base.specs.Lent.{over};
 ghost use Rattle.format.specs.JobBytes.{header_values, job_in, Opens};
 ghost use Rattle.writing.specs.Lists.{sizes_in, distortions_in};
@@ -10,9 +11,8 @@ ghost use Rattle.header.specs.Answers.{plain, door_of};
 ghost use Rattle.exporting.specs.Contents.{contents, read_held, read_export};
 ghost use Rattle.reader.specs.Answers.{Follows, roomy};
 
-use header::{Door, Header};
+use header::{Door, Header, Refusal};
 use job::Reading;
-use values::{DONE, SHORT_LIST};
 
 // A unit, counted from 1, and one of its choices.
 #[derive(Clone, Copy)]
@@ -33,7 +33,10 @@ const VALUES: usize = 2;
 fn field_count(header: Header) -> usize
     ensures { result ≡ length (header_values (plain header)) }
 {
-    if header.two { TWO_FIELDS } else { FIELDS }
+    match header.second {
+        None => FIELDS,
+        Some(_) => TWO_FIELDS,
+    }
 }
 
 // How many codings all units have together.
@@ -78,10 +81,10 @@ fn put_fields(header: Header, fields: &mut [u16])
     fields[6] = header.first.fill;
     fields[7] = header.rates;
     fields[8] = header.choices;
-    if header.two {
-        fields[9] = header.second.size;
-        fields[10] = header.second.drain;
-        fields[11] = header.second.fill;
+    if let Some(second) = header.second {
+        fields[9] = second.size;
+        fields[10] = second.drain;
+        fields[11] = second.fill;
     }
 }
 
@@ -148,9 +151,9 @@ fn read_on(
     sizes: &mut [u16],
     distortions: &mut [u32],
     values: &mut [u64],
-) -> u32
+) -> Result<(), Refusal>
     requires { Opens job.now (plain header) }
-    ensures { contents result fields.new rates.new sizes.new distortions.new values.new ≡ read_held fields.old rates.old sizes.old distortions.old values.old (job_in job.now) taken }
+    ensures { contents (code result) fields.new rates.new sizes.new distortions.new values.new ≡ read_held fields.old rates.old sizes.old distortions.old values.old (job_in job.now) taken }
 {
     if !room(
         header,
@@ -160,13 +163,13 @@ fn read_on(
         distortions.len(),
         values.len(),
     ) {
-        return SHORT_LIST;
+        return Err(Refusal::List);
     }
     put_fields(header, fields);
     put_rates(job, header, rates);
     put_codings(job, header, sizes, distortions);
     put_values(header, taken, values);
-    DONE
+    Ok(())
 }
 
 // Reads a job back by a door. Values: how many bytes it took, and how many fields its header has.
@@ -178,20 +181,18 @@ pub fn read_back(
     sizes: &mut [u16],
     distortions: &mut [u32],
     values: &mut [u64],
-) -> u32
-    ensures { contents result fields.new rates.new sizes.new distortions.new values.new ≡ read_export fields.old rates.old sizes.old distortions.old values.old (door_of door) job.now }
+) -> Result<(), Refusal>
+    ensures { contents (code result) fields.new rates.new sizes.new distortions.new values.new ≡ read_export fields.old rates.old sizes.old distortions.old values.old (door_of door) job.now }
 {
-    match job::read(job, door) {
-        Reading::Refused(n) => n as u32,
-        Reading::Read { header, taken } => read_on(
-            job,
-            header,
-            taken,
-            fields,
-            rates,
-            sizes,
-            distortions,
-            values,
-        ),
-    }
+    let Reading { header, taken } = job::read(job, door)?;
+    read_on(
+        job,
+        header,
+        taken,
+        fields,
+        rates,
+        sizes,
+        distortions,
+        values,
+    )
 }

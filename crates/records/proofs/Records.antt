@@ -1,13 +1,11 @@
 -- The records of a job as they are written: any record's, all units', the header's of either kind, and the whole job's bytes.
 use Prim.Native.Nat.{ℕ, suc, ◌+◌, ◌-◌, ◌*◌, ◌<◌, ◌≤◌}
 use mathlib.Core.Path.{◌≡◌, refl, sym, ap, ap₂, ◌∙◌}
-use mathlib.Core.Bool.{true, false}
 use mathlib.Core.List.{List, [], ◌∷◌, ◌++◌}
 use native.Mathlib.Omega.{arith}
 use native.Mathlib.Nat.{suc-mul, mul-le-mul}
 use lib.ListN.{length, get_or, take, drop, replicate, length-append, length-drop}
 use lib.Seq.{drop-drop, length-take-le}
-use Rattle.base.specs.If.{one_if}
 use Rattle.base.specs.Lent.{over}
 use Rattle.model.specs.Job.{Coding, Job}
 use Rattle.base.proofs.Lent.{stored}
@@ -19,6 +17,8 @@ use Rattle.format.specs.Places.{header_size, rates_size, unit_size}
 use Rattle.format.proofs.HeaderValues.{bucket_count}
 use Rattle.format.proofs.RoundTrip.{header_total}
 use Rattle.format.proofs.Spelling.{bytes_length}
+use Rattle.std.specs.Prelude.{Some, None}
+use Rattle.header.specs.declared.Bucket.{Bucket}
 use Rattle.header.specs.declared.Header as code
 use Rattle.header.specs.Answers.{policed_of, plain}
 use Rattle.writing.specs.Lists.{parted, codings_from}
@@ -119,13 +119,18 @@ module _ (h : Header) where
   put_further : (l m o : List ℕ) → m ≡ put_at l 0 nine → o ≡ put_at m 22 (spelled (replicate (length more) 2) more) → o ≡ put_at l 0 (header_bytes h)
   put_further l m o e f = f ∙ rw (e, header_is) (sym (put_next l 0 22 22 nine (spelled (replicate (length more) 2) more) nine_length refl))
 
+-- how many bytes a header with two buckets takes
+pub two_size : (h : code.Header) (k : Bucket) → h.second ≡ Some k → header_size (plain h) ≡ 28
+unfolding plain
+two_size h k e = rw e refl
+
 -- with one bucket there is nothing behind the nine fields, with two the second's three
 module _ (h : code.Header) (l m : List ℕ) where
-  pub put_one : h.two ≡ false → m ≡ put_at l 0 (spelled (replicate 11 2) (20 ∷ 1 ∷ nine_values (plain h) (policed_of h.first) [])) → m ≡ put_at l 0 (header_bytes (plain h))
-  put_one e q = put_further (plain h) l m m (unfold plain one_if header_kind nine_values in (rw e q)) (unfold plain one_if bucket_values spelled in (rw e (sym (put_nothing m 22))))
+  pub put_one : h.second ≡ None → m ≡ put_at l 0 (spelled (replicate 11 2) (20 ∷ 1 ∷ nine_values (plain h) (policed_of h.first) [])) → m ≡ put_at l 0 (header_bytes (plain h))
+  put_one e q = put_further (plain h) l m m (unfold plain header_kind nine_values in (rw e q)) (unfold plain bucket_values spelled in (rw e (sym (put_nothing m 22))))
 
-  pub put_two : (o : List ℕ) → h.two ≡ true → m ≡ put_at l 0 (spelled (replicate 11 2) (26 ∷ 8 ∷ nine_values (plain h) (policed_of h.first) [])) → o ≡ put_at m 22 (spelled (replicate 3 2) (h.second.size ∷ h.second.drain ∷ h.second.fill ∷ [])) → o ≡ put_at l 0 (header_bytes (plain h))
-  put_two o e q r = put_further (plain h) l m o (unfold plain one_if header_kind nine_values in (rw e q)) (unfold plain one_if policed_of bucket_values in (rw e r))
+  pub put_two : (o : List ℕ) (k : Bucket) → h.second ≡ Some k → m ≡ put_at l 0 (spelled (replicate 11 2) (26 ∷ 8 ∷ nine_values (plain h) (policed_of h.first) [])) → o ≡ put_at m 22 (spelled (replicate 3 2) (k.size ∷ k.drain ∷ k.fill ∷ [])) → o ≡ put_at l 0 (header_bytes (plain h))
+  put_two o k e q r = put_further (plain h) l m o (unfold plain header_kind nine_values in (rw e q)) (unfold plain policed_of bucket_values in (rw e r))
 
 -- the whole job: the header, the rates, the units
 rates_length : (rates : List ℕ) → length (record_bytes (rates_form (length rates)) rates) ≡ rates_size (length rates)

@@ -21,8 +21,8 @@ fn put_numbers(out: &mut [u8], at: usize, numbers: &[u16])
     ensures { out.new ≡ put_at out.old at (spelled (replicate (length numbers.now) 2) numbers.now) }
 {
     let mut place = at;
-    for i in 0..numbers.len() {
-        fields::put16(out, place, numbers[i]);
+    for number in numbers {
+        fields::put16(out, place, *number);
         place += 2;
     }
 }
@@ -95,13 +95,14 @@ pub fn put_header(out: &mut [u8], header: Header)
     requires { header_size (plain header) ≤ length out.old }
     ensures { out.new ≡ put_at out.old 0 (header_bytes (plain header)) }
 {
-    if !header.two {
-        put_nine(out, Header::LENGTH, Header::KIND, header);
-        return;
+    match header.second {
+        None => put_nine(out, Header::LENGTH, Header::KIND, header),
+        Some(bucket) => {
+            let second = [bucket.size, bucket.drain, bucket.fill];
+            put_nine(out, Header::TWO_LENGTH, Header::TWO_KIND, header);
+            put_numbers(out, Header::SIZE, &second);
+        }
     }
-    let second = [header.second.size, header.second.drain, header.second.fill];
-    put_nine(out, Header::TWO_LENGTH, Header::TWO_KIND, header);
-    put_numbers(out, Header::SIZE, &second);
 }
 
 // The rates' record.

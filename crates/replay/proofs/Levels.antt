@@ -1,14 +1,13 @@
 -- How many levels an interval has, and where they stand in a list.
 use Prim.Native.Nat.{ℕ, suc, ◌+◌, ◌*◌, ◌<◌, ◌≤◌}
 use mathlib.Core.Path.{◌≡◌, ◌∙◌, ap, ap₂}
-use mathlib.Core.Bool.{true, false}
 use mathlib.Core.List.{List, [], ◌∷◌}
 use native.Mathlib.Numerals.{add-one}
 use native.Mathlib.Omega.{arith}
 use native.Mathlib.Nat.{mul-suc, mul-le-mul_left, mul-le-mul_right}
 use borrow.Author.Rules.{Below-set}
 use lib.ListN.{length, set, length-map}
-use Rattle.base.specs.If.{one_if}
+use Rattle.std.specs.Prelude.{Some, None}
 use Rattle.base.specs.Lent.{over_at}
 use Rattle.base.proofs.Lent.{stored_at}
 use Rattle.interval.specs.declared.Levels.{Levels}
@@ -47,23 +46,23 @@ module _ (list : List ℕ) (at each : ℕ) (l : Levels) (each_is : each ≡ suc 
   second_fits a = Below-set ℕ list (at + 1) at a (omega (arith, each_is))
 
   -- one bucket
-  pub two_stored : l.two ≡ false → set (set list at l.decoder) (at + 1) l.bucket ≡ over_at at (l.decoder ∷ (levels_of l).buckets) list
-  unfolding levels_of one_if
+  pub two_stored : l.bucket2 ≡ None → set (set list at l.decoder) (at + 1) l.bucket ≡ over_at at (l.decoder ∷ (levels_of l).buckets) list
+  unfolding levels_of
   two_stored t =
       let two : each ≡ 2 = rw t at each_is in
       rw (t, add-one at) (stored_at (l.decoder ∷ l.bucket ∷ []) list at (omega arith))
 
   -- two buckets
-  module _ (t : l.two ≡ true) where
+  module _ (k : ℕ) (t : l.bucket2 ≡ Some k) where
     three : each ≡ 3
-    unfolding levels_of one_if
+    unfolding levels_of
     three = rw t at each_is
 
-    pub third_fits : (a k : ℕ) → at + 2 < length (set (set list at a) (at + 1) k)
-    third_fits a k = Below-set ℕ (set list at a) (at + 2) (at + 1) k (Below-set ℕ list (at + 2) at a (omega (arith, three)))
+    pub third_fits : (a b : ℕ) → at + 2 < length (set (set list at a) (at + 1) b)
+    third_fits a b = Below-set ℕ (set list at a) (at + 2) (at + 1) b (Below-set ℕ list (at + 2) at a (omega (arith, three)))
 
-    pub three_stored : set (set (set list at l.decoder) (at + 1) l.bucket) (at + 2) l.bucket2 ≡ over_at at (l.decoder ∷ (levels_of l).buckets) list
-    unfolding levels_of one_if
+    pub three_stored : set (set (set list at l.decoder) (at + 1) l.bucket) (at + 2) k ≡ over_at at (l.decoder ∷ (levels_of l).buckets) list
+    unfolding levels_of
     three_stored =
         let last : at + 2 ≡ suc (suc at) = omega arith in
-        rw (t, add-one at, last) (stored_at (l.decoder ∷ l.bucket ∷ l.bucket2 ∷ []) list at (omega (arith, three)))
+        rw (t, add-one at, last) (stored_at (l.decoder ∷ l.bucket ∷ k ∷ []) list at (omega (arith, three)))

@@ -6,6 +6,7 @@ use native.Mathlib.Nat.{mul-suc, mul-zero}
 use native.Mathlib.Numerals.{add-one}
 use native.Mathlib.Omega.{arith}
 use lib.ListN.{length, drop, length-append}
+use Rattle.std.specs.Prelude.{Result}
 use Rattle.base.specs.Answer.{gives}
 use Rattle.model.specs.Job as model
 use Rattle.model.specs.Job.{Bucket, bucket_at, Job, Entry, intervals, sends}
@@ -26,7 +27,7 @@ use Rattle.base.proofs.Lent.{over_behind, over_at_length}
 use Rattle.interval.specs.declared.Buffers.{Buffers}
 use Rattle.interval.specs.declared.Interval.{Interval}
 use Rattle.interval.specs.declared.Levels.{Levels}
-use Rattle.interval.specs.declared.Outcome.{Outcome}
+use Rattle.parts.specs.declared.Violation.{Violation}
 use Rattle.interval.specs.declared.Totals.{Totals}
 use Rattle.course.specs.Answers.{IsInterval}
 use Rattle.interval.specs.Answers.{levels_of, outcome_is, totals_of, line_of, OfHeader, added, no_totals}
@@ -42,8 +43,8 @@ module _ (b : List ℕ) (h : Header) (o : Opens b h) where
   decoder_of_job k e = e.decoder ∙ sym (decoder_is b h o)
 
   -- a step over the job's line answers the interval's outcome
-  pub outcome_told : (k : Buffers) → OfHeader k h → (m : PinMap) (entries : List ℕ) (i : ℕ) (x : Interval) (at : Levels) → IsInterval (job_in b) m entries i x → (answer told : Outcome) → outcome_is answer ≡ outcome_of (line_of k []) (choice_of x.pin) (choice_of x.choice) at.decoder (levels_of at).buckets x.sent x.size → answer ≡ told → outcome (job_in b) m (suc i) (levels_of at) (entry_at entries i) ≡ outcome_is told
-  unfolding outcome outcome_of levels_of
+  pub outcome_told : (k : Buffers) → OfHeader k h → (m : PinMap) (entries : List ℕ) (i : ℕ) (x : Interval) (at : Levels) → IsInterval (job_in b) m entries i x → (answer told : Result Levels Violation) → outcome_is answer ≡ outcome_of (line_of k []) (choice_of x.pin) (choice_of x.choice) at.decoder (levels_of at).buckets x.sent x.size → answer ≡ told → outcome (job_in b) m (suc i) (levels_of at) (entry_at entries i) ≡ outcome_is told
+  unfolding outcome_of levels_of outcome
   outcome_told k e m entries i x at d answer told q same =
       sym (rw (same, d.pin, d.choice, d.does.sent, d.does.size, buckets_of_job k e, decoder_of_job k e) at q)
 
@@ -111,7 +112,7 @@ module _ (j : Job) (m : PinMap) (entries levels₀ : List ℕ) where
         new = next.decoder ∷ (levels_of next).buckets
 
         sent_on : (levels_of next).buckets ≡ after_sending (sends j (entry_at entries i)) j.line.buckets (levels_of at).buckets
-        unfolding outcome
+        unfolding outcome_of outcome
         sent_on = reaches_after_sending j.line _ _ _ _ (levels_of at) (levels_of next) o
 
         -- the levels that an interval reaches are as many as those before it

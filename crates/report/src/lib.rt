@@ -12,15 +12,7 @@ ghost use Rattle.replaying.specs.Calls.{report_call};
 ghost use Rattle.course.specs.Answers.{Shaped};
 ghost use Rattle.report.specs.Answers.{reported, Sums};
 
-use header::{Door, Header};
-use job::Reading;
-
-// Whether the report is written, or the refusal's number.
-#[derive(Clone, Copy)]
-pub enum Reported {
-    Done,
-    Refused(u8),
-}
+use header::{Door, Header, Refusal};
 
 // What the first intervals send, so many as the delay has: (6) for i = 0.
 fn first_sum(job: &[u8], header: Header, entries: &[u8]) -> u32
@@ -55,26 +47,24 @@ fn put_sums(job: &[u8], header: Header, entries: &[u8], sums: &mut [u32])
 }
 
 // A report for a job that was read: 14, then 12.
-fn report_read(job: &[u8], header: Header, entries: &[u8], sums: &mut [u32]) -> Reported
+fn report_read(job: &[u8], header: Header, entries: &[u8], sums: &mut [u32]) -> Result<(), Refusal>
     requires { Opens job.now (plain header) }
     ensures { reported result sums.new ≡ report_call job.now entries.now sums.old }
 {
     if !entry::shaped(header, entries) {
-        return Reported::Refused(entry::refusal::PLAN);
+        return Err(Refusal::Plan);
     }
     if sums.len() <= header.units as usize {
-        return Reported::Refused(header::refusal::LIST);
+        return Err(Refusal::List);
     }
     put_sums(job, header, entries, sums);
-    Reported::Done
+    Ok(())
 }
 
 // The effective buffer sizes of a plan, document 004 (6): to `sums` go, for i from 0 to N, what the d intervals after interval i send.
-pub fn effective_buffers(job: &[u8], entries: &[u8], sums: &mut [u32]) -> Reported
+pub fn effective_buffers(job: &[u8], entries: &[u8], sums: &mut [u32]) -> Result<(), Refusal>
     ensures { reported result sums.new ≡ report_call job.now entries.now sums.old }
 {
-    match job::read(job, Door::Archive) {
-        Reading::Refused(n) => Reported::Refused(n),
-        Reading::Read { header, taken: _ } => report_read(job, header, entries, sums),
-    }
+    let header = job::read(job, Door::Archive)?.header;
+    report_read(job, header, entries, sums)
 }

@@ -1,7 +1,6 @@
 -- What the answers of this crate mean in the terms of `planning`, case by case, and what its private functions say and ask.
-use Rattle.std.specs.Prelude.{ℕ, ◌≤◌, ◌≡◌, List, length}
-use Rattle.base.specs.Answer.{Answer, refused, gives}
-use Rattle.model.specs.Job as model
+use Rattle.std.specs.Prelude.{ℕ, ◌≤◌, ◌≡◌, List, length, Result}
+use Rattle.base.specs.Answer.{Answer}
 use Rattle.model.specs.Pins.{Call}
 use Rattle.model.specs.Table.{words, word_at}
 use Rattle.format.specs.JobBytes as format
@@ -12,13 +11,12 @@ use Rattle.pinning.specs.Calls.{Handed, call}
 use Rattle.pinset.specs.Answers.{set_of}
 use Rattle.planning.specs.See as planning
 use Rattle.planning.specs.See.{unit_of, renewed, see_call}
-use Rattle.see.specs.declared.Sight.{Sight}
-use Rattle.see.specs.declared.Sight.TheVariants as sight
+use Rattle.header.specs.declared.refusal.Refusal.{Refusal}
+use Rattle.header.specs.Answers.{answer_by}
 use Rattle.see.specs.declared.Seen.{Seen}
 
-unfoldable pub answered : Sight → Answer ℕ
-answered (sight.Word w) = gives w
-answered (sight.Refused n) = refused n
+abbrev pub answered : Result ℕ Refusal → Answer ℕ
+answered = answer_by (λ w. w)
 
 -- the answer, the set and the list that was lent
 unfoldable pub seen : Seen → List ℕ → planning.Seen

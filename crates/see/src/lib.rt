@@ -11,23 +11,15 @@ ghost use Rattle.planning.specs.See.{see_call};
 ghost use Rattle.see.specs.Answers.{seen, Renews, Renewed, Made, SeesFor};
 
 use decoder::Measure;
-use header::Header;
+use header::{Header, Refusal};
 use interval::Levels;
-use pins::{Answer, Handed};
+use pins::Handed;
 use pinset::PinSet;
-use table::Limit;
 
-// The word of layer 0 at the starting levels, the least total distortion or the mark where there is no plan; or the refusal's number.
-#[derive(Clone, Copy)]
-pub enum Sight {
-    Word(u32),
-    Refused(u8),
-}
-
-// The answer of a call that sees, and the set as it is now; a refused call hands it back as it came.
+// The answer of a call that sees, the word of layer 0 at the starting levels, which is the least total distortion or the mark where there is no plan; and the set as it is now. A refused call hands it back as it came.
 #[derive(Clone, Copy)]
 pub struct Seen {
-    pub answer: Sight,
+    pub answer: Result<u32, Refusal>,
     pub set: PinSet,
 }
 
@@ -46,7 +38,7 @@ fn renew(job: &[u8], header: Header, set: PinSet, unit: u16, table: &mut [u32]) 
         header,
         line,
         &pins,
-        Limit::Free,
+        None,
         Measure::Sum,
         first,
         last,
@@ -63,20 +55,20 @@ fn see(job: &[u8], set: PinSet, made: Handed, unit: u16, table: &mut [u32]) -> S
     let answer = made.answer;
     let new = made.set;
     match answer {
-        Answer::Refused(n) => Seen {
-            answer: Sight::Refused(n),
+        Err(refusal) => Seen {
+            answer: Err(refusal),
             set: new,
         },
-        Answer::Done => {
+        Ok(()) => {
             let header = new.header;
             if table.len() < table::table_words(header) {
                 return Seen {
-                    answer: Sight::Refused(planner::refusal::TABLE),
+                    answer: Err(Refusal::Table),
                     set,
                 };
             }
             Seen {
-                answer: Sight::Word(renew(job, header, new, unit, table)),
+                answer: Ok(renew(job, header, new, unit, table)),
                 set: new,
             }
         }

@@ -1,13 +1,15 @@
 -- Blocks of words where the second pass makes them, and writes them into the layer.
 use Prim.Native.Nat.{ℕ, ◌+◌, ◌*◌, ◌<◌, ◌≤◌}
-use mathlib.Core.Path.{◌≡◌, refl, ◌∙◌}
+use mathlib.Core.Path.{◌≡◌, refl, ◌∙◌, ap}
 use mathlib.Core.List.{List}
 use native.Mathlib.Decide.{dec_lt}
 use native.Mathlib.Nat.{add-mul, one-mul, mul-le-mul_right}
 use native.Mathlib.Omega.{arith}
-use lib.ListN.{length, get_or}
+use lib.ListN.{length, get_or, take}
+use lib.Seq.{length-take-le, get_or-take}
 use Rattle.model.specs.Table.{mark}
 use Rattle.planning.specs.Passes.{least_below}
+use Rattle.planning.proofs.Passes.{least_cong}
 use Rattle.block.specs.Blocks.{Lessened, Lowered, LeastOf, Made}
 use Rattle.sender.specs.Rates.{BlocksMade}
 
@@ -67,3 +69,9 @@ blocks_more start low high count width f g old mid new e h a b same =
 pub least_none : (n : ℕ) (f : ℕ → ℕ → ℕ) (old new : List ℕ) → length old ≡ 256 → Made 0 n (λ i. mark) old new → LeastOf n 0 f new
 unfolding least_below
 least_none n f old new h a = record { size = a.size ∙ h; each = λ i k. a.here i (omega arith) k }
+
+-- all rates in use, which are the first of an array
+pub least_taken : (n m k : ℕ) (f : ℕ → ℕ → ℕ) (rates block : List ℕ) → m ≤ length rates → k ≡ length (take m rates) → LeastOf n k (λ i y. f i (get_or (take m rates) y 0)) block → LeastOf n m (λ i y. f i (get_or rates y 0)) block
+least_taken n m k f rates block h e a =
+    let b : LeastOf n m (λ i y. f i (get_or (take m rates) y 0)) block = rw (e, length-take-le m rates h) at a in
+    record { size = b.size; each = λ i t. b.each i t ∙ least_cong m _ _ (λ y u. ap (f i) (get_or-take m rates y 0 u)) }

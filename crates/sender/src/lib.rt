@@ -14,14 +14,14 @@ ghost use Rattle.sender.specs.Swaps.{swapped, LevelsSwapped};
 use block::NONE;
 
 // A leaky bucket: its size, and what it drains in an interval.
-#[derive(Clone, Copy)]
+#[derive(Clone, Copy, Debug, PartialEq, Eq)]
 pub struct Bucket {
     pub size: u16,
     pub drain: u16,
 }
 
 // What receiver and carrier fix. A line with one bucket has it as the inner one; its outer one is of size 0 and drains every rate, so that it is always empty.
-#[derive(Clone, Copy)]
+#[derive(Clone, Copy, Debug, PartialEq, Eq)]
 pub struct Line {
     pub decoder: u16,
     pub outer: Bucket,
@@ -51,10 +51,11 @@ fn lessen(block: &mut [u32; 256], from: usize, words: &[u32])
     requires { (length block.old ≡ 256) × (length words.now ≤ 256 - from) }
     ensures { Lessened from (length words.now) (λ i. get_or words.now i 0) block.old block.new }
 {
+    // kept as an index loop: nothing is proved of what is written through a zip with iter_mut
     let count = words.len();
     for i in 0..count {
         let at = from + i;
-        block[at] = block::lesser(words[i], block[at]);
+        block[at] = words[i].min(block[at]);
     }
 }
 
@@ -63,8 +64,8 @@ fn lessen_first(block: &mut [u32; 256], count: usize, word: u32)
     requires { (length block.old ≡ 256) × (count ≤ 256) }
     ensures { Lessened 0 count (λ i. word) block.old block.new }
 {
-    for i in 0..count {
-        block[i] = block::lesser(word, block[i]);
+    for lessened in block[..count].iter_mut() {
+        *lessened = word.min(*lessened);
     }
 }
 
@@ -74,12 +75,12 @@ fn with_levels(block: &mut [u32; 256], words: &[u32], drain: usize, sent: usize)
     ensures { Lowered (length words.now) (λ i. level_read drain words.now i sent) block.old block.new }
 {
     let width = words.len();
-    let low = block::beyond(drain, sent);
-    let high = block::beyond(sent, drain);
+    let low = drain.saturating_sub(sent);
+    let high = sent.saturating_sub(drain);
     let lowest = words[0];
-    lessen_first(block, block::smaller(low, width), lowest);
-    let from = block::smaller(high, width);
-    let end = from + block::beyond(width, low + high);
+    lessen_first(block, low.min(width), lowest);
+    let from = high.min(width);
+    let end = from + width.saturating_sub(low + high);
     lessen(block, low, &words[from..end]);
 }
 
@@ -101,7 +102,7 @@ fn with_rate(
         return;
     }
     let levels = outer.size as usize + 1;
-    let to = block::beyond(level + sent, outer.drain as usize);
+    let to = (level + sent).saturating_sub(outer.drain as usize);
     if levels <= to {
         return;
     }
@@ -119,9 +120,8 @@ fn sent_block(block: &mut [u32; 256], rest: &[u32], line: Line, rows: usize, lev
     let count = line.count as usize;
     let width = line.inner.size as usize + 1;
     block::clear_words(block, width, NONE);
-    for rate in 0..count {
-        let sent = line.rates[rate];
-        with_rate(block, rest, line.outer, line.inner, rows, level, sent);
+    for rate in &line.rates[..count] {
+        with_rate(block, rest, line.outer, line.inner, rows, level, *rate);
     }
 }
 
@@ -131,9 +131,8 @@ fn send_row(part: &mut [u32], block: &mut [u32; 256], line: Line, start: usize, 
     ensures { (length block.new ≡ 256) × BlocksMade start 0 (line.outer.size + 1) (line.inner.size + 1) (λ k j. least_below line.count (λ y. rate_read line.outer line.inner rows (drop start part.old) k j (get_or line.rates y 0))) part.old part.new }
 {
     let width = line.inner.size as usize + 1;
-    let mut level = line.outer.size as usize + 1;
-    while 0 < level {
-        level -= 1;
+    let levels = line.outer.size as usize + 1;
+    for level in (0..levels).rev() {
         sent_block(block, &part[start..], line, rows, level);
         let at = start + level * width;
         block::put_words(part, at, block, width);
@@ -173,10 +172,10 @@ fn sent_column(block: &mut [u32; 256], words: &[u32], line: Line)
     ensures { LeastOf (length words.now) line.count (λ i y. column_read (min line.outer.drain line.inner.drain) words.now i (get_or line.rates y 0)) block.new }
 {
     let count = line.count as usize;
-    let drain = block::smaller(line.outer.drain as usize, line.inner.drain as usize);
+    let drain = line.outer.drain.min(line.inner.drain) as usize;
     block::clear_words(block, words.len(), NONE);
-    for rate in 0..count {
-        let sent = line.rates[rate] as usize;
+    for rate in &line.rates[..count] {
+        let sent = *rate as usize;
         with_sent(block, words, drain, sent);
     }
 }
@@ -226,10 +225,7 @@ fn keep_words(kept: &mut [u32; 4096], words: &[u32])
     requires { (length kept.old ≡ 4096) × (length words.now ≤ 4096) }
     ensures { Made 0 (length words.now) (λ i. get_or words.now i 0) kept.old kept.new }
 {
-    let count = words.len();
-    for i in 0..count {
-        kept[i] = words[i];
-    }
+    kept[..words.len()].copy_from_slice(words);
 }
 
 // Writes every `step`-th of the words that are kept, from `first` on.
@@ -244,6 +240,7 @@ fn put_column(
     requires { (length kept.now ≡ 4096) × (first < step) × (count * step ≤ 4096) × (start + count ≤ length part.old) }
     ensures { Made start (start + count) (λ i. get_or kept.now (first + (i - start) * step) 0) part.old part.new }
 {
+    // kept as an index loop: nothing is proved of what is written through a zip with iter_mut
     for i in 0..count {
         let at = start + i;
         let from = first + i * step;
@@ -258,9 +255,7 @@ fn swap_row(part: &mut [u32], kept: &mut [u32; 4096], start: usize, levels: usiz
 {
     let end = start + levels * width;
     keep_words(kept, &part[start..end]);
-    let mut level = width;
-    while 0 < level {
-        level -= 1;
+    for level in (0..width).rev() {
         let at = start + level * levels;
         put_column(part, at, kept, level, width, levels);
     }

@@ -12,9 +12,9 @@ ghost use Rattle.calling.specs.Sessions.{aim_named, order_named, named_tests, as
 ghost use Rattle.session.specs.Answers.{session_is};
 
 use best::Order;
-use header::{Door, Verdict};
-use job::Reading;
-use planner::{Aim, Planned};
+use header::{Door, Refusal};
+use interval::Totals;
+use planner::Aim;
 use replay::Replayed;
 
 // The numbers that name an aim: 0 the least total, 1 even pictures; and those that name an order: 0 early, 1 late.
@@ -41,25 +41,23 @@ pub fn order_named(order: u32) -> Order
 }
 
 // A number that names no aim, then one that names no order is 2.
-pub fn named_verdict(aim: u32, order: u32) -> Verdict
+pub fn named_verdict(aim: u32, order: u32) -> Result<(), Refusal>
     ensures { verdict result ≡ refusal (named_tests aim order) }
 {
     if EVEN < aim {
-        return Verdict::Refused(header::refusal::NOT_DUE);
+        return Err(Refusal::NotDue);
     }
     if LATE < order {
-        return Verdict::Refused(header::refusal::NOT_DUE);
+        return Err(Refusal::NotDue);
     }
-    Verdict::Fits
+    Ok(())
 }
 
 // What is asked, by numbers: aim and order, then the calls, 2 or 1.
-fn asked_verdict(calls: &[u16], aim: u32, order: u32) -> Verdict
+fn asked_verdict(calls: &[u16], aim: u32, order: u32) -> Result<(), Refusal>
     ensures { verdict result ≡ refusal (asked_tests calls.now aim order) }
 {
-    if let Verdict::Refused(n) = named_verdict(aim, order) {
-        return Verdict::Refused(n);
-    }
+    named_verdict(aim, order)?;
     calls::calls_verdict(calls)
 }
 
@@ -72,27 +70,21 @@ pub fn plan_refusal(
     answers: usize,
     table: usize,
     entries: usize,
-) -> Verdict
+) -> Result<(), Refusal>
     ensures { verdict result ≡ plan_refusal job.now calls.now aim order answers table entries }
 {
-    match job::read(job, Door::Opening) {
-        Reading::Refused(n) => Verdict::Refused(n),
-        Reading::Read { header, taken: _ } => {
-            if let Verdict::Refused(n) = asked_verdict(calls, aim, order) {
-                return Verdict::Refused(n);
-            }
-            if table < table::table_words(header) {
-                return Verdict::Refused(planner::refusal::TABLE);
-            }
-            if answers < calls.len() / calls::NUMBERS {
-                return Verdict::Refused(header::refusal::LIST);
-            }
-            if entries < entry::SIZE * entry::intervals(header) {
-                return Verdict::Refused(header::refusal::LIST);
-            }
-            Verdict::Fits
-        }
+    let header = job::read(job, Door::Opening)?.header;
+    asked_verdict(calls, aim, order)?;
+    if table < table::table_words(header) {
+        return Err(Refusal::Table);
     }
+    if answers < calls.len() / calls::NUMBERS {
+        return Err(Refusal::List);
+    }
+    if entries < entry::SIZE * entry::intervals(header) {
+        return Err(Refusal::List);
+    }
+    Ok(())
 }
 
 // Makes calls as numbers and plans with the pins that they leave, by the aim and in the order that numbers name. Where there is a plan, each call's number goes to `answers`; "no plan" writes the table alone.
@@ -104,10 +96,10 @@ pub fn plan_after(
     answers: &mut [u8],
     table: &mut [u32],
     entries: &mut [u8],
-) -> Planned
+) -> Result<Totals, Refusal>
     ensures { session_is result answers.new table.new entries.new ≡ session_call job.now calls.now aim order answers.old table.old entries.old }
 {
-    if let Verdict::Refused(n) = plan_refusal(
+    plan_refusal(
         job,
         calls,
         aim,
@@ -115,48 +107,44 @@ pub fn plan_after(
         answers.len(),
         table.len(),
         entries.len(),
-    ) {
-        return Planned::Refused(n);
-    }
+    )?;
     let set = calls::set_after(job, calls, Door::Opening);
-    match planner::plan(job, set, aim_named(aim), order_named(order), table, entries) {
-        Planned::Refused(n) => Planned::Refused(n),
-        Planned::Best(totals) => {
-            // the calls are made again for their numbers: until there is a plan, nothing but the table may be written
-            calls::put_numbers(job, calls, answers);
-            Planned::Best(totals)
-        }
-    }
+    let totals = planner::plan(job, set, aim_named(aim), order_named(order), table, entries)?;
+    // the calls are made again for their numbers: until there is a plan, nothing but the table may be written
+    calls::put_numbers(job, calls, answers);
+    Ok(totals)
 }
 
 // What refuses calls and a replay of a job that the archive takes, with room for so many levels: the job, 1 to 5, the calls, 2 or 1, the plan, 14, then 12.
-pub fn replay_refusal(job: &[u8], calls: &[u16], entries: &[u8], levels: usize) -> Verdict
+pub fn replay_refusal(
+    job: &[u8],
+    calls: &[u16],
+    entries: &[u8],
+    levels: usize,
+) -> Result<(), Refusal>
     ensures { verdict result ≡ replay_refusal job.now calls.now entries.now levels }
 {
-    match job::read(job, Door::Archive) {
-        Reading::Refused(n) => Verdict::Refused(n),
-        Reading::Read { header, taken: _ } => {
-            if let Verdict::Refused(n) = calls::calls_verdict(calls) {
-                return Verdict::Refused(n);
-            }
-            if !entry::shaped(header, entries) {
-                return Verdict::Refused(entry::refusal::PLAN);
-            }
-            if levels < replay::levels_each(header) * entry::intervals(header) {
-                return Verdict::Refused(header::refusal::LIST);
-            }
-            Verdict::Fits
-        }
+    let header = job::read(job, Door::Archive)?.header;
+    calls::calls_verdict(calls)?;
+    if !entry::shaped(header, entries) {
+        return Err(Refusal::Plan);
     }
+    if levels < replay::levels_each(header) * entry::intervals(header) {
+        return Err(Refusal::List);
+    }
+    Ok(())
 }
 
 // Replays a plan with the pins that calls as numbers leave, refused ones included; for a job that never drains every call is refused, and the plan is replayed without pins.
-pub fn replay_after(job: &[u8], calls: &[u16], entries: &[u8], levels: &mut [u16]) -> Replayed
+pub fn replay_after(
+    job: &[u8],
+    calls: &[u16],
+    entries: &[u8],
+    levels: &mut [u16],
+) -> Result<Replayed, Refusal>
     ensures { ended result levels.new ≡ replay_session job.now calls.now entries.now levels.old }
 {
-    if let Verdict::Refused(n) = replay_refusal(job, calls, entries, levels.len()) {
-        return Replayed::Refused(n);
-    }
+    replay_refusal(job, calls, entries, levels.len())?;
     let set = calls::set_after(job, calls, Door::Archive);
     replay::replay(job, set, entries, levels)
 }

@@ -6,12 +6,9 @@
 ghost use Rattle.std.specs.Prelude.{◌≤◌, length};
 
 use best::Order;
-use header::{Bucket, Door, Header};
-use job::Reading;
-use pins::Answer;
+use header::{Bucket, Door, Header, Refusal};
 use pinset::PinSet;
-use planner::{Aim, Planned};
-use replay::Replayed;
+use planner::Aim;
 use std::io;
 
 // Where Job A ends, the second job and the third, and the bytes of a row: the nine fields of the set's header, whether it has a second bucket and that bucket's three, a unit and its pin, which unit 0 leaves out, and the three totals.
@@ -26,6 +23,19 @@ const ROW: usize = 36;
 // A plan of Job A without a violation, where no pin bars it.
 const PLAN: [u8; 9] = [0, 255, 255, 2, 0, 0, 1, 1, 0];
 
+fn second_at(input: &[u8], at: usize) -> Option<Bucket>
+    requires { at ≤ 4096 }
+{
+    if fields::field16(input, at + 18) != 1 {
+        return None;
+    }
+    Some(Bucket {
+        size: fields::field16(input, at + 20),
+        drain: fields::field16(input, at + 22),
+        fill: fields::field16(input, at + 24),
+    })
+}
+
 fn header_at(input: &[u8], at: usize) -> Header
     requires { at ≤ 4096 }
 {
@@ -39,12 +49,7 @@ fn header_at(input: &[u8], at: usize) -> Header
             drain: fields::field16(input, at + 8),
             fill: fields::field16(input, at + 12),
         },
-        two: fields::field16(input, at + 18) == 1,
-        second: Bucket {
-            size: fields::field16(input, at + 20),
-            drain: fields::field16(input, at + 22),
-            fill: fields::field16(input, at + 24),
-        },
+        second: second_at(input, at),
         rates: fields::field16(input, at + 14),
         choices: fields::field16(input, at + 16),
     }
@@ -72,43 +77,16 @@ fn set_at(input: &[u8], at: usize) -> PinSet
     }
 }
 
-fn print_number(rt: HostRuntime, n: u8) -> io::Result<()> {
-    print!(rt; " {n}")
-}
-
-fn print_answer(rt: HostRuntime, answer: Answer) -> io::Result<()> {
+// 0, or the number of the refusal.
+fn print_answer<T: Copy>(rt: HostRuntime, answer: Result<T, Refusal>) -> io::Result<()> {
     match answer {
-        Answer::Done => print_number(rt, 0),
-        Answer::Refused(n) => print_number(rt, n),
-    }
-}
-
-fn print_reading(rt: HostRuntime, reading: Reading) -> io::Result<()> {
-    match reading {
-        Reading::Read {
-            header: _,
-            taken: _,
-        } => print_number(rt, 0),
-        Reading::Refused(n) => print_number(rt, n),
-    }
-}
-
-fn print_replayed(rt: HostRuntime, replayed: Replayed) -> io::Result<()> {
-    match replayed {
-        Replayed::Refused(n) => print_number(rt, n),
-        _ => print_number(rt, 0),
-    }
-}
-
-fn print_planned(rt: HostRuntime, planned: Planned) -> io::Result<()> {
-    match planned {
-        Planned::Best(_) => print_number(rt, 0),
-        Planned::Refused(n) => print_number(rt, n),
+        Ok(_) => print!(rt; " 0"),
+        Err(refusal) => print!(rt; " {refusal}"),
     }
 }
 
 fn try_set(rt: HostRuntime, job: &[u8], set: PinSet) -> io::Result<()> {
-    print_reading(rt, pinset::check(job, set, Door::Opening))?;
+    print_answer(rt, pinset::check(job, set, Door::Opening))?;
     let pinned = pins::pin(job, set, 2, 0);
     let answer = pinned.answer;
     print_answer(rt, answer)?;
@@ -117,10 +95,10 @@ fn try_set(rt: HostRuntime, job: &[u8], set: PinSet) -> io::Result<()> {
     print_answer(rt, answer)?;
     let mut levels = [0u16; 9];
     let plan = PLAN;
-    print_replayed(rt, replay::replay(job, set, &plan, &mut levels))?;
+    print_answer(rt, replay::replay(job, set, &plan, &mut levels))?;
     let mut table = [0u32; 160];
     let mut entries = [0u8; 9];
-    print_planned(
+    print_answer(
         rt,
         planner::plan(job, set, Aim::Total, Order::Late, &mut table, &mut entries),
     )

@@ -9,7 +9,10 @@ use lib.ListN.{length, get_or, take}
 use lib.Seq.{get_or-take}
 use borrow.Author.Tests.{le-leb, lt-leb, eq-eqb, ne_eqb}
 use Rattle.trellis.specs.Limit.{keeps_to, only}
-use Rattle.base.specs.If.{one_if}
+use Rattle.std.specs.Prelude.{Some}
+use Rattle.std.specs.Prelude as std
+use Rattle.std.specs.Option.{option_map, option_to_list}
+use Rattle.interval.specs.declared.Policer.{Policer}
 use Rattle.model.specs.Job as model
 use Rattle.model.specs.Job.{bucket_at, on_line, job_coding, coding}
 use Rattle.model.specs.Pins.{mapped_pin, pin_at}
@@ -27,10 +30,9 @@ use Rattle.pinning.specs.PinSet.{lines}
 use Rattle.pinning.proofs.Lines.{lines_at}
 use Rattle.planning.specs.Rule.{choice_in, allowed_in}
 use Rattle.interval.specs.declared.Buffers.{Buffers}
-use Rattle.interval.specs.Answers.{second_of, line_of, OfHeader}
+use Rattle.interval.specs.Answers.{bucket_is, line_of, OfHeader}
 use Rattle.line.specs.declared.Line.{Line}
 use Rattle.table.specs.declared.Choices.{Choices}
-use Rattle.table.specs.declared.Limit.{Limit}
 use Rattle.line.specs.Answers.{line_is, BuffersFit}
 use Rattle.table.specs.Answers.{job_on, limit_of, open_of, allowed_is, LineOf, ChoicesIn, waits, decodes, ChoicesOf, Starts}
 use Rattle.table.proofs.Arrays.{Filled, filled_list}
@@ -40,34 +42,31 @@ pub own_buckets : (b : List ℕ) (h : Header) → Opens b h → (k : Buffers) �
 own_buckets b h o k e = e.buckets ∙ sym (buckets_are b h o)
 
 -- and within the header's limits
-module _ (k : Buffers) where
-  abbrev first : model.Bucket
-  first = record { size = k.bucket; drain = k.drain }
-
-  first_fits : (hs : List Policed) (rest : List model.Bucket) → first ∷ rest ≡ map bucket_of hs → AllKept (bucket_limits largest_sizes hs) → (k.bucket ≤ 255) × (k.drain ≤ 4095)
+module _ (first : model.Bucket) where
+  first_fits : (hs : List Policed) (rest : List model.Bucket) → first ∷ rest ≡ map bucket_of hs → AllKept (bucket_limits largest_sizes hs) → (first.size ≤ 255) × (first.drain ≤ 4095)
   unfolding bucket_of
   first_fits [] rest e h = absurd (let z : length (first ∷ rest) ≡ 0 = ap length e in omega arith)
   first_fits (p ∷ hs) rest e h = (omega (arith, ap (λ (ks : List model.Bucket). (bucket_at ks 0).size) e), omega (arith, ap (λ (ks : List model.Bucket). (bucket_at ks 0).drain) e))
 
-  second_fits : (hs : List Policed) → first ∷ second_of k ∷ [] ≡ map bucket_of hs → AllKept (bucket_limits largest_sizes hs) → (k.bucket2 ≤ 63) × (k.drain2 ≤ 4095)
-  unfolding bucket_of second_of
-  second_fits [] e h = absurd (let z : length (first ∷ second_of k ∷ []) ≡ 0 = ap length e in omega arith)
-  second_fits (p ∷ []) e h = absurd (let z : length (first ∷ second_of k ∷ []) ≡ 1 = ap length e in omega arith)
-  second_fits (p ∷ q ∷ hs) e h = (omega (arith, ap (λ (ks : List model.Bucket). (bucket_at ks 1).size) e), omega (arith, ap (λ (ks : List model.Bucket). (bucket_at ks 1).drain) e))
+  second_fits : (hs : List Policed) (second : model.Bucket) → first ∷ second ∷ [] ≡ map bucket_of hs → AllKept (bucket_limits largest_sizes hs) → (second.size ≤ 63) × (second.drain ≤ 4095)
+  unfolding bucket_of
+  second_fits [] second e h = absurd (let z : length (first ∷ second ∷ []) ≡ 0 = ap length e in omega arith)
+  second_fits (p ∷ []) second e h = absurd (let z : length (first ∷ second ∷ []) ≡ 1 = ap length e in omega arith)
+  second_fits (p ∷ q ∷ hs) second e h = (omega (arith, ap (λ (ks : List model.Bucket). (bucket_at ks 1).size) e), omega (arith, ap (λ (ks : List model.Bucket). (bucket_at ks 1).drain) e))
 
-  pub told_fit : (h : Header) → OfHeader k h → AllKept (header_limits h) → BuffersFit k
-  unfolding line_of
-  told_fit h e kept =
-      let one = first_fits h.buckets (one_if k.two (second_of k)) e.buckets kept.1.1.1.1.1.1.1 in
-      record {
-        decoder = omega (arith, e.decoder);
-        bucket = one.0;
-        drain = one.1;
-        second = λ t. second_fits h.buckets (sym (both t) ∙ e.buckets) kept.1.1.1.1.1.1.1;
-      }
-    where
-      both : k.two ≡ true → first ∷ one_if k.two (second_of k) ≡ first ∷ second_of k ∷ []
-      both t = unfold one_if in rw t
+pub told_fit : (k : Buffers) (h : Header) → OfHeader k h → AllKept (header_limits h) → BuffersFit k
+unfolding line_of
+told_fit k h e kept =
+    let one = first_fits (bucket_is k.first) h.buckets (option_to_list (option_map bucket_is k.second)) e.buckets kept.1.1.1.1.1.1.1 in
+    record {
+      decoder = omega (arith, e.decoder);
+      bucket = one.0;
+      drain = one.1;
+      second = λ b t. second_fits (bucket_is k.first) h.buckets (bucket_is b) (sym (both b t) ∙ e.buckets) kept.1.1.1.1.1.1.1;
+    }
+  where
+    both : (b : Policer) → k.second ≡ Some b → bucket_is k.first ∷ option_to_list (option_map bucket_is k.second) ≡ bucket_is k.first ∷ bucket_is b ∷ []
+    both b t = rw t refl
 
 -- the line, where the job's rates fill an array
 pub line_read : (b : List ℕ) (h : job.Header) (k : Buffers) (rates : List ℕ) → Opens b (plain h) → OfHeader k (plain h) → Filled 0 (rate_at b (plain h)) 16 h.rates rates → LineOf b (record { buffers = k; count = h.rates; rates = rates })
@@ -96,7 +95,7 @@ nothing_kept none = refl
 nothing_kept (some g) = le-leb 0 g (omega arith)
 
 -- the choices of the interval in a place: up to the delay, and after it
-module _ (b : List ℕ) (h : Header) (pins : List ℕ) (limit : Limit) (place : ℕ) (c : Choices) (o : Opens b h) (n : length pins ≡ 512) (k : place < h.units + h.delay) where
+module _ (b : List ℕ) (h : Header) (pins : List ℕ) (limit : std.Option ℕ) (place : ℕ) (c : Choices) (o : Opens b h) (n : length pins ≡ 512) (k : place < h.units + h.delay) where
   none_chosen : place < h.delay → c.unit ≡ 0 → c.count ≡ 1 → ChoicesOf b h (job_in b) (open_of (lines h.units pins) limit) place c
   unfolding width allowed_is allowed_in choice_in entry pin_at pin_held coding only
   none_chosen l u e =
@@ -145,7 +144,7 @@ chosen_on b h j line m place c d = record { count = d.count; each = λ x k. d.ea
     same : (x : ℕ) → allowed_in (on_line j line) m (suc place) x ≡ allowed_in j m (suc place) x
     same x = unfold on_line allowed_in choice_in entry pin_at in rw (coding_on j line (suc place) (choice_in j (suc place) x)) refl
 
-pub choices_on : (b : List ℕ) (h : Header) (l : Line) (pins : List ℕ) (limit : Limit) (place : ℕ) (c : Choices) → Starts b h l pins → place < h.units + h.delay → ChoicesIn h pins limit place c → ChoicesOf b h (job_on b l) (open_of (lines h.units pins) limit) place c
+pub choices_on : (b : List ℕ) (h : Header) (l : Line) (pins : List ℕ) (limit : std.Option ℕ) (place : ℕ) (c : Choices) → Starts b h l pins → place < h.units + h.delay → ChoicesIn h pins limit place c → ChoicesOf b h (job_on b l) (open_of (lines h.units pins) limit) place c
 choices_on b h l pins limit place c st k told = chosen_on b h (job_in b) (line_is l) (open_of (lines h.units pins) limit) place c (choices_of b h pins limit place c st.opens st.pins_size k told)
 
 pub few_units : (b : List ℕ) (h : Header) → Opens b h → h.units ≤ 512

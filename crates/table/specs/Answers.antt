@@ -1,5 +1,7 @@
 -- What is read of a job's bytes and pins in the terms of `model` and `planning`, how long a table is, and what the functions of this crate say and ask.
 use Rattle.std.specs.Prelude.{ℕ, suc, ◌+◌, ◌-◌, ◌*◌, ◌<◌, ◌≤◌, ◌≡◌, List, [], map, eqb, length, get_or, if◌then◌else◌}
+use Rattle.std.specs.Prelude.{Some, None}
+use Rattle.std.specs.Prelude as std
 use Rattle.std.proofs.Math.Option.{Option, none, some}
 use Rattle.trellis.specs.Limit.{keeps_to, only}
 use Rattle.model.specs.Job as model
@@ -17,8 +19,6 @@ use Rattle.interval.specs.Answers.{line_of}
 use Rattle.planning.specs.Rule.{Allowed, allowed_in}
 use Rattle.line.specs.declared.Line.{Line}
 use Rattle.table.specs.declared.Choices.{Choices}
-use Rattle.table.specs.declared.Limit.{Limit}
-use Rattle.table.specs.declared.Limit.TheVariants as limit
 use Rattle.line.specs.declared.Candidate.{Candidate}
 use Rattle.line.specs.Answers.{line_is, candidate_is, LineFits}
 
@@ -27,11 +27,11 @@ abbrev pub job_on : List ℕ → Line → model.Job
 job_on b l = model.on_line (job_in b) (line_is l)
 
 -- a limit in the model's terms, and what it leaves open with some pins
-unfoldable pub limit_of : Limit → Option ℕ
-limit_of limit.Free = none
-limit_of (limit.UpTo g) = some g
+abbrev pub limit_of : std.Option ℕ → Option ℕ
+limit_of None = none
+limit_of (Some g) = some g
 
-abbrev pub open_of : PinMap → Limit → Open
+abbrev pub open_of : PinMap → std.Option ℕ → Open
 open_of m l = record { pins = m; limit = limit_of l }
 
 -- the codings of an interval as they stand in bytes, those that its pin and the limit leave open; without a unit nothing is decoded
@@ -68,7 +68,7 @@ pub record CandidateOf (b : List ℕ) (h : format.Header) (c : Choices) (x : ℕ
   pub small : r.distortion ≤ 1000000
 
 -- the choices of the interval in a place, as header, pins and limit tell them
-pub data ChoicesIn (h : format.Header) (pins : List ℕ) (l : Limit) (place : ℕ) (c : Choices) : Type 0 where
+pub data ChoicesIn (h : format.Header) (pins : List ℕ) (l : std.Option ℕ) (place : ℕ) (c : Choices) : Type 0 where
   waits : place < h.delay → c.unit ≡ 0 → c.count ≡ 1 → ChoicesIn h pins l place c
   decodes : h.delay ≤ place → c.unit ≡ place - h.delay + 1 → c.count ≡ h.choices → c.pin ≡ get_or pins (place - h.delay) 0 → c.limit ≡ l → ChoicesIn h pins l place c
 

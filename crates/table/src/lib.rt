@@ -20,16 +20,12 @@ ghost use Rattle.line.specs.Answers.{line_is, LineFits};
 ghost use Rattle.table.specs.Answers.{job_on, limit_of, open_of, allowed_is, words_over, table_words, ChoicesFit, LineOf, CandidateOf, ChoicesIn, Starts, Fills};
 
 use decoder::Measure;
-use header::{Choice, Header, Verdict};
+use header::{Choice, Header};
 use interval::Buffers;
 use line::{Candidate, Line};
 
 // What the distortion of a choice may be: anything, or at most so much (even pictures: document 02, E7).
-#[derive(Clone, Copy)]
-pub enum Limit {
-    Free,
-    UpTo(u32),
-}
+pub type Limit = Option<u32>;
 
 // The choices of one interval: of which unit, how many, the unit's pin, and the limit on their distortion. How each codes the unit stands in the job: a thousand codings are too many to hand on. Up to the delay there is one choice, which decodes no unit: unit 0.
 #[derive(Clone, Copy)]
@@ -45,8 +41,8 @@ fn keeps_to(limit: Limit, distortion: u32) -> bool
     ensures { result ≡ keeps_to (limit_of limit) distortion }
 {
     match limit {
-        Limit::Free => true,
-        Limit::UpTo(most) => distortion <= most,
+        None => true,
+        Some(most) => distortion <= most,
     }
 }
 
@@ -213,8 +209,8 @@ pub fn words_over(header: Header, buffers: Buffers) -> usize
 pub fn table_words(header: Header) -> usize
     ensures { result ≡ table_words (plain header) }
 {
-    if let Verdict::Refused(_) = header.verdict() {
-        return 0;
+    match header.verdict() {
+        Err(_) => 0,
+        Ok(()) => words_over(header, Buffers::of(header)),
     }
-    words_over(header, Buffers::of(header))
 }

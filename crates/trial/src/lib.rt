@@ -16,8 +16,7 @@ ghost use Rattle.writer.specs.Answers.{wrote};
 ghost use Rattle.trials.specs.Draws.{next, after, rate_drawn, size_drawn, distortion_drawn};
 ghost use Rattle.trials.specs.Calls.{trial_refusal, trial_call};
 
-use header::{Door, Header, Verdict};
-use writer::Wrote;
+use header::{Door, Header, Refusal};
 
 // The next state is this many times the state, and so much more.
 const TIMES: u32 = 1664525;
@@ -57,11 +56,11 @@ fn draw_rates(rates: &mut [u16], state: u32) -> u32
 {
     let mut drawn = state;
     let mut low = 0;
-    for y in 0..rates.len() {
+    for rate in rates.iter_mut() {
         drawn = next_state(drawn);
-        let rate = low + upper_half(drawn) % 4;
-        rates[y] = rate;
-        low = rate + 1;
+        let risen = low + upper_half(drawn) % 4;
+        *rate = risen;
+        low = risen + 1;
     }
     drawn
 }
@@ -140,28 +139,22 @@ fn put_drawn_units(out: &mut [u8], at: usize, header: Header, state: u32)
 }
 
 // What refuses a trial job that is to be written to so many bytes: 3, then 17 for the header, then 12.
-pub fn trial_refusal(header: Header, out: usize) -> Verdict
+pub fn trial_refusal(header: Header, out: usize) -> Result<(), Refusal>
     ensures { verdict result ≡ trial_refusal (plain header) out }
 {
-    if let Verdict::Refused(n) = header.verdict() {
-        return Verdict::Refused(n);
-    }
-    if let Verdict::Refused(n) = header.drains_verdict(Door::Opening) {
-        return Verdict::Refused(n);
-    }
+    header.verdict()?;
+    header.drains_verdict(Door::Opening)?;
     if out < draft::job_size(header) {
-        return Verdict::Refused(header::refusal::LIST);
+        return Err(Refusal::List);
     }
-    Verdict::Fits
+    Ok(())
 }
 
 // Writes the trial job of a header and a starting state. Bytes behind the job stay as they are.
-pub fn write_trial(header: Header, state: u32, out: &mut [u8]) -> Wrote
+pub fn write_trial(header: Header, state: u32, out: &mut [u8]) -> Result<usize, Refusal>
     ensures { wrote result out.new ≡ trial_call (plain header) state out.old }
 {
-    if let Verdict::Refused(n) = trial_refusal(header, out.len()) {
-        return Wrote::Refused(n);
-    }
+    trial_refusal(header, out.len())?;
     let size = draft::job_size(header);
     let front = header.record_size();
     let count = header.rates as usize;
@@ -170,5 +163,5 @@ pub fn write_trial(header: Header, state: u32, out: &mut [u8]) -> Wrote
     records::put_header(out, header);
     let drawn = put_drawn_rates(out, front, &mut rates[0..count], state);
     put_drawn_units(out, units, header, drawn);
-    Wrote::Done(size)
+    Ok(size)
 }

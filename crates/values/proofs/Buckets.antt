@@ -1,11 +1,11 @@
 -- How many buckets the line of a job has, from what reading the job answered: a job that opens has one or two, and bytes that do not open stand for one.
 use Prim.Native.Nat.{ℕ, ◌≤◌}
 use mathlib.Core.Path.{◌≡◌, refl, sym, ◌∙◌}
-use mathlib.Core.Bool.{true, false}
 use mathlib.Core.List.{List}
 use native.Mathlib.Omega.{arith}
 use lib.ListN.{length}
-use Rattle.base.specs.If.{one_if}
+use Rattle.std.specs.Prelude.{Some, None}
+use Rattle.header.specs.declared.Bucket.{Bucket}
 use Rattle.model.specs.Job.{Job}
 use Rattle.format.specs.Parser as P
 use Rattle.format.specs.JobBytes.{job_of, archive, parse, job_or_none, job_in}
@@ -27,12 +27,12 @@ module _ (b : List ℕ) where
     told : buckets_in b ≡ length (plain h).buckets
     told = bucket_count b (plain h) (opens_by archive b (plain h) held.job k held.is held.header_is)
 
-    pub two_read : h.two ≡ true → 2 ≡ buckets_in b
-    unfolding plain one_if
-    two_read e = sym (told ∙ rw e)
+    pub two_read : (k : Bucket) → h.second ≡ Some k → 2 ≡ buckets_in b
+    unfolding plain
+    two_read k e = sym (told ∙ rw e)
 
-    pub one_read : h.two ≡ false → 1 ≡ buckets_in b
-    unfolding plain one_if
+    pub one_read : h.second ≡ None → 1 ≡ buckets_in b
+    unfolding plain
     one_read e = sym (told ∙ rw e)
 
   pub few_buckets : (1 ≤ buckets_in b) × (buckets_in b ≤ 2)

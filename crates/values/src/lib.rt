@@ -4,21 +4,25 @@
 
 ghost use Rattle.std.specs.Prelude.{◌≡◌, ◌+◌, ◌≤◌, [], ◌∷◌, length, replicate};
 ghost use Rattle.base.specs.Lent.{over};
+ghost use Rattle.header.specs.Refusals.{code};
 ghost use Rattle.header.specs.Answers.{plain};
 ghost use Rattle.parts.specs.Answers.{violation};
 ghost use Rattle.values.specs.Lists.{buckets_in, opened_values, totals_values, violation_number};
 
 use calls::PinTotals;
-use header::{Door, Header};
+use header::{Door, Header, Refusal};
 use interval::Totals;
-use job::Reading;
 use parts::Violation;
 
-// What an exported call answers where it is not refused.
-pub const DONE: u32 = 0;
-
-// The list to be filled is too short.
-pub const SHORT_LIST: u32 = header::refusal::LIST as u32;
+// What an exported call answers: 0, or the refusal's number.
+pub fn code(made: Result<(), Refusal>) -> u32
+    ensures { result ≡ code made }
+{
+    match made {
+        Ok(()) => 0,
+        Err(refusal) => u32::from(refusal),
+    }
+}
 
 // Of a job that opens: how many bytes it took, N, T, and how many words its table has.
 pub fn put_opened(values: &mut [u64], taken: usize, header: Header)
@@ -36,8 +40,11 @@ pub fn buckets_in(job: &[u8]) -> usize
     ensures { result ≡ buckets_in job.now }
 {
     match job::read(job, Door::Archive) {
-        Reading::Refused(_) => 1,
-        Reading::Read { header, taken: _ } => { if header.two { 2 } else { 1 } }
+        Err(_) => 1,
+        Ok(reading) => match reading.header.second {
+            None => 1,
+            Some(_) => 2,
+        },
     }
 }
 
@@ -50,8 +57,8 @@ pub fn put_totals(values: &mut [u64], totals: Totals)
     values[1] = totals.source as u64;
     values[2] = totals.channel as u64;
     values[3] = totals.unused as u64;
-    if totals.two {
-        values[4] = totals.unused2 as u64;
+    if let Some(unused) = totals.unused2 {
+        values[4] = unused as u64;
     }
 }
 
@@ -89,8 +96,8 @@ pub fn put_replayed(values: &mut [u64], violation: u64, interval: u16, totals: T
     values[3] = totals.source as u64;
     values[4] = totals.channel as u64;
     values[5] = totals.unused as u64;
-    if totals.two {
-        values[6] = totals.unused2 as u64;
+    if let Some(unused) = totals.unused2 {
+        values[6] = unused as u64;
     }
 }
 
@@ -104,7 +111,6 @@ pub fn no_totals(buckets: usize) -> Totals
         source: 0,
         channel: 0,
         unused: 0,
-        two: buckets == 2,
-        unused2: 0,
+        unused2: if buckets == 2 { Some(0) } else { None },
     }
 }

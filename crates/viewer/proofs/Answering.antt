@@ -17,7 +17,7 @@ use Rattle.planning.specs.See.{unit_of, see_call}
 use Rattle.planning.specs.Seeing.{refused_by}
 use Rattle.planning.proofs.Seeing.{see_clicks}
 use Rattle.table.specs.Answers.{table_words}
-use Rattle.see.specs.declared.Sight.TheVariants as s
+use Rattle.std.specs.Prelude.{Ok}
 use Rattle.see.specs.declared.Seen as code
 use Rattle.see.specs.Answers.{answered, seen}
 use Rattle.see.proofs.Seeing.{see_refused, taken, short_seen, not_short}
@@ -35,11 +35,11 @@ module _ (b l : List ℕ) (k : Call) (own : PinSet) (e : own ≡ set_in l) (tabl
     is_seen : seen x new ≡ r
     is_seen = rw e at q
 
-    word_answer : (w : ℕ) → x.answer ≡ s.Word w → (seen x new).answer ≡ gives w
-    unfolding seen answered
+    word_answer : (w : ℕ) → x.answer ≡ Ok w → (seen x new).answer ≡ gives w
+    unfolding seen
     word_answer w z = rw z
 
-    pub room_told : 1 ≤ length values → (w : ℕ) → x.answer ≡ s.Word w → (528 ≤ length l) × (1 ≤ length values)
+    pub room_told : 1 ≤ length values → (w : ℕ) → x.answer ≡ Ok w → (528 ≤ length l) × (1 ≤ length values)
     room_told h w z =
         let a : r.answer ≡ gives w = ap (λ (y : sight.Seen). y.answer) (sym is_seen) ∙ word_answer w z in
         (seen_long b l k table w a, h)

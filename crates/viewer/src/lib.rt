@@ -3,32 +3,32 @@
 #![tactic(auto)]
 
 ghost use Rattle.std.specs.Prelude.{◌≡◌, ◌≤◌, [], ◌∷◌, length};
+ghost use Rattle.header.specs.Refusals.{number, code};
 ghost use Rattle.base.specs.Lent.{over};
 ghost use Rattle.model.specs.Pins.{pin, lift};
 ghost use Rattle.pins.specs.Answers.{handed};
 ghost use Rattle.exporting.specs.Sets.{seen, see_export};
 ghost use Rattle.viewer.specs.Answers.{unseen, Room, Told};
 
-use pins::{Answer, Handed};
-use see::{Seen, Sight};
-use values::{DONE, SHORT_LIST};
+use header::Refusal;
+use pins::Handed;
+use see::Seen;
 
 // How many values the calls give.
 const SEE_VALUES: usize = 1;
 
 // What refuses a call that was lent no room for its value, from what the pin or the lift under it met with: its own refusal, the table, 11, then 12.
-fn unseen(made: Handed, table: usize) -> u32
-    ensures { result ≡ unseen (handed made) table }
+fn unseen(made: Handed, table: usize) -> Refusal
+    ensures { number result ≡ unseen (handed made) table }
 {
-    let answer = made.answer;
-    let new = made.set;
-    match answer {
-        Answer::Refused(n) => n as u32,
-        Answer::Done => {
-            if table < table::table_words(new.header) {
-                return planner::refusal::TABLE as u32;
+    match made.answer {
+        Err(refusal) => refusal,
+        Ok(()) => {
+            if table < table::table_words(made.set.header) {
+                Refusal::Table
+            } else {
+                Refusal::List
             }
-            SHORT_LIST
         }
     }
 }
@@ -41,21 +41,15 @@ fn put_word(values: &mut [u64], word: u32)
     values[0] = word as u64;
 }
 
-// The number of what was seen; where the call was taken, the set that it left and the word are written.
-fn tell(sight: Seen, set: &mut [u32], values: &mut [u64]) -> u32
+// What was seen; where the call was taken, the set that it left and the word are written.
+fn tell(sight: Seen, set: &mut [u32], values: &mut [u64]) -> Result<(), Refusal>
     requires { Room sight (length set.old) (length values.old) }
     ensures { Told sight set.old values.old result set.new values.new }
 {
-    let answer = sight.answer;
-    let new = sight.set;
-    match answer {
-        Sight::Refused(n) => n as u32,
-        Sight::Word(word) => {
-            numbers::put_set(new, set);
-            put_word(values, word);
-            DONE
-        }
-    }
+    let word = sight.answer?;
+    numbers::put_set(sight.set, set);
+    put_word(values, word);
+    Ok(())
 }
 
 // Pins a unit at a choice, brings the table up to date and tells the least total. Values: the word of layer 0 at the starting levels.
@@ -66,12 +60,12 @@ pub fn pin_and_see(
     choice: u16,
     table: &mut [u32],
     values: &mut [u64],
-) -> u32
-    ensures { seen result set.new table.new values.new ≡ see_export job.now set.old (pin unit choice) table.old values.old }
+) -> Result<(), Refusal>
+    ensures { seen (code result) set.new table.new values.new ≡ see_export job.now set.old (pin unit choice) table.old values.old }
 {
     let own = numbers::set_in(set);
     if values.len() < SEE_VALUES {
-        return unseen(pins::pin(job, own, unit, choice), table.len());
+        return Err(unseen(pins::pin(job, own, unit, choice), table.len()));
     }
     let sight = see::pin_and_see(job, own, unit, choice, table);
     tell(sight, set, values)
@@ -84,12 +78,12 @@ pub fn lift_and_see(
     unit: u16,
     table: &mut [u32],
     values: &mut [u64],
-) -> u32
-    ensures { seen result set.new table.new values.new ≡ see_export job.now set.old (lift unit) table.old values.old }
+) -> Result<(), Refusal>
+    ensures { seen (code result) set.new table.new values.new ≡ see_export job.now set.old (lift unit) table.old values.old }
 {
     let own = numbers::set_in(set);
     if values.len() < SEE_VALUES {
-        return unseen(pins::lift(job, own, unit), table.len());
+        return Err(unseen(pins::lift(job, own, unit), table.len()));
     }
     let sight = see::lift_and_see(job, own, unit, table);
     tell(sight, set, values)

@@ -7,14 +7,7 @@ ghost use Rattle.header.specs.Answers.{plain};
 ghost use Rattle.writing.specs.Calls.{write_call};
 ghost use Rattle.writer.specs.Answers.{wrote};
 
-use header::{Header, Verdict};
-
-// How many bytes the job took, or the refusal's number.
-#[derive(Clone, Copy)]
-pub enum Wrote {
-    Done(usize),
-    Refused(u8),
-}
+use header::{Header, Refusal};
 
 // Writes the job of a header, its rates, and sizes and distortions by unit and choice, unit after unit. Bytes behind the job stay as they are.
 pub fn write_job(
@@ -23,23 +16,15 @@ pub fn write_job(
     sizes: &[u16],
     distortions: &[u32],
     out: &mut [u8],
-) -> Wrote
+) -> Result<usize, Refusal>
     ensures { wrote result out.new ≡ write_call (plain header) rates.now sizes.now distortions.now out.old }
 {
-    if let Verdict::Refused(n) = draft::write_refusal(
-        header,
-        rates,
-        sizes,
-        distortions,
-        out.len(),
-    ) {
-        return Wrote::Refused(n);
-    }
+    draft::write_refusal(header, rates, sizes, distortions, out.len())?;
     let size = draft::job_size(header);
     let front = header.record_size();
     let units = front + Header::HEAD + 2 * rates.len();
     records::put_header(out, header);
     records::put_rates(out, front, rates);
     records::put_units(out, units, header, sizes, distortions);
-    Wrote::Done(size)
+    Ok(size)
 }

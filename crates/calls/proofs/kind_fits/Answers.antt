@@ -1,13 +1,12 @@
--- `calls::kind_fits` meets its contract.
-use native.Mathlib.Omega.{arith}
-use Rattle.calls.proofs.Calling.{kind_pins, kind_lifts, kind_other}
+-- `calls::kind_fits` meets its contract: one kind, or the other.
+use borrow.Author.Tests.{eq-eqb, ne_eqb}
+use Rattle.calling.specs.Commands.{kind_fits}
 use Rattle.calls.proofs.kind_fits.Goals as goal
 
-pub returns-in-6 : goal.returns-in-6
-returns-in-6 c = kind_pins _ c.in-6.is
+pub returns-then-kind-eq-PIN : goal.returns-then-kind-eq-PIN
+unfolding kind_fits
+returns-then-kind-eq-PIN c = rw (eq-eqb c.args.kind 6 c.if-kind-eq-PIN.true)
 
-pub returns-in-7 : goal.returns-in-7
-returns-in-7 c = kind_lifts _ c.in-7.is
-
-pub returns-in_default : goal.returns-in_default
-returns-in_default c = kind_other _ (λ e. omega (arith, e)) (λ e. omega (arith, e))
+pub returns-else-kind-eq-PIN : goal.returns-else-kind-eq-PIN
+unfolding kind_fits
+returns-else-kind-eq-PIN c = rw (ne_eqb c.args.kind 6 c.if-kind-eq-PIN.false)

@@ -1,20 +1,18 @@
 -- `calls::make_calls` meets its contract.
+use Rattle.header.proofs.Told.{handed_as}
 use Rattle.calls.proofs.Answering.{calls_refused, calls_room, calls_made}
-use Rattle.calls.specs.Answers.{called_answer, called}
+use Rattle.calls.specs.Answers.{called, totals_are}
 use Rattle.base.specs.Lent.{refuse}
 use Rattle.pinset.specs.Answers.{set_of}
-use Rattle.header.specs.Answers.{verdict}
-use mathlib.Core.Path.{sym, ◌∙◌, ap}
 use Rattle.calls.proofs.make_calls.Goals as goal
 
-pub returns-in-Refused : goal.returns-in-Refused
-unfolding called called_answer refuse verdict
-returns-in-Refused c = calls_refused _ _ _ _ (ap verdict (sym c.in-Refused.is) ∙ c.calls_refusal.ensures)
+pub returns-in_err-calls_refusal : goal.returns-in_err-calls_refusal
+unfolding called refuse
+returns-in_err-calls_refusal c = handed_as (λ r. called r c.args.answers.now) _ _ c.from_residual.ensures (calls_refused _ _ _ _ c.in_err-calls_refusal.ensures)
 
 pub put_numbers-set-requires : goal.put_numbers-set-requires
-unfolding verdict
-put_numbers-set-requires c = calls_room _ _ _ (ap verdict (sym c.in_default.is) ∙ c.calls_refusal.ensures)
+put_numbers-set-requires c = calls_room _ _ _ c.in_ok-calls_refusal.ensures
 
 pub returns : goal.returns
-unfolding called called_answer set_of verdict
-returns c = calls_made _ _ _ (ap verdict (sym c.in_default.is) ∙ c.calls_refusal.ensures) _ _ c.put_numbers-set.ensures
+unfolding called set_of totals_are
+returns c = calls_made _ _ _ c.in_ok-calls_refusal.ensures _ _ c.put_numbers-set.ensures

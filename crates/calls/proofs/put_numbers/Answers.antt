@@ -3,7 +3,6 @@ use Rattle.calls.proofs.Making.{ran_on, going_start, going_on, going_end}
 use Rattle.pins.specs.Answers.{opening, handed}
 use Rattle.pinning.specs.Calls.{Opening}
 use mathlib.Core.Path.{ap}
-use Prim.Native.Nat.{◌-◌}
 use native.Mathlib.Omega.{arith}
 use Rattle.header.specs.Answers.{door_of}
 use borrow.Author.Rules.{rules}

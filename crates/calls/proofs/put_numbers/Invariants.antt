@@ -1,7 +1,7 @@
 -- `calls::put_numbers` meets its contract.
 use Rattle.calls.proofs.Making.{Going}
 use Rattle.pinset.specs.Answers.{set_of}
-use Prim.Native.Nat.{◌≤◌, ◌-◌}
+use Prim.Native.Nat.{◌≤◌}
 use Rattle.calls.proofs.put_numbers.Given as goal
 
 abbrev pub invariant-loop-place : goal.invariant-loop-place

@@ -4,7 +4,6 @@ use Rattle.pins.specs.Answers.{opening, handed}
 use Rattle.pinning.specs.Calls.{Opening, CallsMade}
 use mathlib.Core.Path.{ap, sym}
 use mathlib.Core.List.{[]}
-use Prim.Native.Nat.{◌-◌}
 use native.Mathlib.Omega.{arith}
 use borrow.Author.Rules.{rules}
 use Rattle.calls.proofs.set_after.Goals as goal

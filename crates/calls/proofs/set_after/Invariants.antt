@@ -3,7 +3,7 @@ use Rattle.calls.proofs.Making.{Ran}
 use Rattle.pinset.specs.Answers.{set_of}
 use mathlib.Core.Option.{Option}
 use mathlib.Core.List.{List}
-use Prim.Native.Nat.{ℕ, ◌≤◌, ◌-◌}
+use Prim.Native.Nat.{ℕ, ◌≤◌}
 use Rattle.calls.proofs.set_after.Given as goal
 
 abbrev pub invariant-loop-place : goal.invariant-loop-place

@@ -24,18 +24,18 @@ unfolding plain set_of
 plan_rest-requires c =
     -- nothing refuses the rest
     let goes : Passed c.args.job.now (plain c.args.header) c.args.line (lines c.args.header.units c.args.set.pins) c.args.old.now c.args.first (length c.args.table.now) (length c.args.entries.now) = passed _ _ _ c.requires.0.plan.opens _ _ _ _ _ (rw (units_are _ _ c.requires.0.plan.opens) at c.requires.1) in
-    let leads-on : let a = c.args in Led (job_in a.job.now) (lines a.header.units a.set.pins) a.first a.old.now c.in-Leads.at c.in-Leads.sum = led _ _ c.follow.ensures c.in-Leads.is in
+    let leads-on : let a = c.args in Led (job_in a.job.now) (lines a.header.units a.set.pins) a.first a.old.now c.in-Some.field-0.at c.in-Some.field-0.sum = led _ c.follow.ensures c.in-Some.is in
     continues _ _ _ _ _ _ _ _ _ _ _ c.requires.0 goes leads-on
 
-pub returns-in-Breaks : goal.returns-in-Breaks
+pub returns-in_default : goal.returns-in_default
 unfolding plain set_of
-returns-in-Breaks c =
+returns-in_default c =
     -- nothing refuses the rest
     let goes : Passed c.args.job.now (plain c.args.header) c.args.line (lines c.args.header.units c.args.set.pins) c.args.old.now c.args.first (length c.args.table.now) (length c.args.entries.now) = passed _ _ _ c.requires.0.plan.opens _ _ _ _ _ (rw (units_are _ _ c.requires.0.plan.opens) at c.requires.1) in
-    no (sym (broke c.follow.ensures c.in-Breaks.is) ∙ goes.clean)
+    no (sym (broke c.follow.ensures c.in_default.is) ∙ goes.clean)
 
-pub returns-in-Leads : goal.returns-in-Leads
+pub returns : goal.returns
 unfolding plain set_of
-returns-in-Leads c =
-    let leads-on : let a = c.args in Led (job_in a.job.now) (lines a.header.units a.set.pins) a.first a.old.now c.in-Leads.at c.in-Leads.sum = led _ _ c.follow.ensures c.in-Leads.is in
+returns c =
+    let leads-on : let a = c.args in Led (job_in a.job.now) (lines a.header.units a.set.pins) a.first a.old.now c.in-Some.field-0.at c.in-Some.field-0.sum = led _ c.follow.ensures c.in-Some.is in
     c.plan_rest.ensures ∙ over_in _ _ _ _ _ _ _ _ _ _ leads-on

@@ -1,20 +1,20 @@
 -- `commands::carry_out` meets its contract.
 use Rattle.commands.proofs.Following.{carry_refused, carry_took}
 use Rattle.commands.specs.Answers.{command_is}
-use mathlib.Core.Path.{ap}
+use mathlib.Core.Path.{ap, refl}
 use Rattle.commands.proofs.carry_out.Goals as goal
 
-pub returns-in-Refused : goal.returns-in-Refused
+pub returns-in-Err : goal.returns-in-Err
 unfolding command_is
-returns-in-Refused c =
-    carry_refused _ _ _ c.read_command.result c.read_command.ensures _ (ap command_is c.in-Refused.is)
+returns-in-Err c =
+    carry_refused _ _ _ c.read_command.result c.read_command.ensures _ (ap command_is c.in-Err.is)
 
-pub returns-in-Pin : goal.returns-in-Pin
+pub returns-in-Ok-Pin : goal.returns-in-Ok-Pin
 unfolding command_is
-returns-in-Pin c =
-    carry_took _ _ _ c.read_command.result c.read_command.ensures _ 8 (ap command_is c.in-Pin.is) c.pin-made.result c.pin-made.ensures
+returns-in-Ok-Pin c =
+    carry_took _ _ _ c.read_command.result c.read_command.ensures _ 8 (rw (c.in-Ok-Pin.is, c.in-Ok-Pin.field-0-is) refl) c.pin-made.result c.pin-made.ensures
 
-pub returns-in-Lift : goal.returns-in-Lift
+pub returns-in-Ok-Lift : goal.returns-in-Ok-Lift
 unfolding command_is
-returns-in-Lift c =
-    carry_took _ _ _ c.read_command.result c.read_command.ensures _ 6 (ap command_is c.in-Lift.is) c.lift-made.result c.lift-made.ensures
+returns-in-Ok-Lift c =
+    carry_took _ _ _ c.read_command.result c.read_command.ensures _ 6 (rw (c.in-Ok-Lift.is, c.in-Ok-Lift.field-0-is) refl) c.lift-made.result c.lift-made.ensures

@@ -8,14 +8,14 @@ use Rattle.commands.proofs.take_commands.Goals as goal
 pub follow-requires : goal.follow-requires
 unfolding door_of
 follow-requires c =
-    omega (arith, job_within _ c.open-opened.result c.open-opened.ensures _ c.in-Took.is)
+    omega (arith, job_within _ c.open-answer.result c.open-answer.ensures _ c.in-Ok.is)
 
-pub returns-in-Refused : goal.returns-in-Refused
+pub returns-in-Err : goal.returns-in-Err
 unfolding door_of
-returns-in-Refused c =
-    no_job _ c.open-opened.result c.open-opened.ensures _ c.in-Refused.is
+returns-in-Err c =
+    no_job _ c.open-answer.result c.open-answer.ensures _ c.in-Err.is
 
-pub returns-in-Took : goal.returns-in-Took
+pub returns-in-Ok : goal.returns-in-Ok
 unfolding door_of
-returns-in-Took c =
-    c.follow.ensures ∙ then_commands _ c.open-opened.result c.open-opened.ensures _ c.in-Took.is
+returns-in-Ok c =
+    c.follow.ensures ∙ then_commands _ c.open-answer.result c.open-answer.ensures _ c.in-Ok.is

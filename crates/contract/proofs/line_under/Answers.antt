@@ -1,23 +1,29 @@
 -- `contract::line_under` meets its contract: the rates are copied, and the buckets read are the contract's.
-use Prim.Native.Nat.{◌-◌}
-use mathlib.Core.Path.{◌≡◌, refl}
+use mathlib.Core.Path.{sym, ap, ◌∙◌}
 use native.Mathlib.Omega.{arith}
-use lib.ListN.{length}
-use Rattle.contract.proofs.Lines.{copied_none, counted, line_made}
+use lib.Seq.{length-take-le}
+use Rattle.format.specs.JobBytes.{bucket_of}
+use Rattle.contract.proofs.Lines.{rates_first, counted, line_made}
 use Rattle.contract.proofs.line_under.Goals as goal
 
-pub loop-rate-init : goal.loop-rate-init
-loop-rate-init c = (omega arith, (counted _ _ _ _ c.requires).few, copied_none _ _ refl)
+pub slice_bounds-list-end : goal.slice_bounds-list-end
+slice_bounds-list-end c = (counted _ _ _ _ c.requires).few
 
-pub bucket_at-first-requires : goal.bucket_at-first-requires
-bucket_at-first-requires c = let t = counted _ _ _ _ c.requires in
+pub slice_bounds-copy_from_slice-end : goal.slice_bounds-copy_from_slice-end
+slice_bounds-copy_from_slice-end c = sym (length-take-le _ _ (counted _ _ _ _ c.requires).few)
+
+pub copy_from_slice-requires : goal.copy_from_slice-requires
+copy_from_slice-requires c = length-take-le _ _ (counted _ _ _ _ c.requires).few
+
+pub bucket_at-requires : goal.bucket_at-requires
+bucket_at-requires c = let t = counted _ _ _ _ c.requires in
     (omega (arith, t.sizes_count), omega (arith, t.drains_count))
 
-pub second_of-second-requires : goal.second_of-second-requires
-second_of-second-requires c = let t = counted _ _ _ _ c.requires in
-    (t.sizes_count, t.drains_count)
+pub second_of-requires : goal.second_of-requires
+second_of-requires c = let t = counted _ _ _ _ c.requires in
+    rw c.is_some.ensures (t.sizes_count, t.drains_count)
 
 pub returns : goal.returns
 returns c =
-    let e : c.loop-rate.rate ≡ length c.args.rates.now = omega arith in
-    line_made c.args.header _ _ _ c.loop-rate.list c.bucket_at-first.result c.second_of-second.result c.requires c.bucket_at-first.ensures c.second_of-second.ensures (rw e at c.loop-rate.invariant.2)
+    let l = rates_first _ _ _ c.copy_from_slice.ensures.after (counted _ _ _ _ c.requires).few in
+    line_made _ _ _ _ _ _ _ c.requires (c.of.ensures ∙ ap bucket_of c.bucket_at.ensures) c.second_of.ensures l.0 l.1

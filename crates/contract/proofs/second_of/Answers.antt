@@ -2,7 +2,9 @@
 use mathlib.Core.Path.{◌∙◌, ap}
 use native.Mathlib.Omega.{arith}
 use Rattle.base.specs.If.{one_if}
-use Rattle.format.specs.JobBytes.{Policed}
+use mathlib.Core.List.{[], ◌∷◌, map}
+use Rattle.model.specs.Job.{Bucket}
+use Rattle.format.specs.JobBytes.{bucket_of}
 use Rattle.contract.proofs.Buckets.{two_long, second_is, no_second}
 use Rattle.contract.proofs.second_of.Goals as goal
 
@@ -11,9 +13,11 @@ bucket_at-requires c =
     (omega (arith, two_long _ _ c.if-two.true c.requires.0), omega (arith, two_long _ _ c.if-two.true c.requires.1))
 
 pub returns-then-two : goal.returns-then-two
+unfolding one_if
 returns-then-two c =
-    ap (λ (k : Policed). one_if c.args.two k) c.bucket_at.ensures ∙ second_is _ _ _ _ c.requires.0 c.requires.1
+    let e = second_is _ [] _ _ c.requires.0 c.requires.1 in
+    ap (λ (b : Bucket). b ∷ []) (c.of.ensures ∙ ap bucket_of c.bucket_at.ensures) ∙ ap (map bucket_of) (rw c.if-two.true at e)
 
 pub returns : goal.returns
 returns c =
-    no_second _ _ _ _ c.requires.0 c.requires.1 c.if-two.false _
+    ap (map bucket_of) (no_second _ _ _ _ c.requires.0 c.requires.1 c.if-two.false)

@@ -1,5 +1,5 @@
 -- `decoder::lessen_combined` meets its contract.
-use Prim.Native.Nat.{◌-◌, ◌≤◌}
+use Prim.Native.Nat.{◌≤◌}
 use lib.ListN.{get_or}
 use Rattle.decoder.specs.Answers.{combine}
 use Rattle.block.specs.Blocks.{Lessened}

@@ -1,5 +1,4 @@
 -- `decoder::list_sizes` meets its contract.
-use Prim.Native.Nat.{◌-◌}
 use Rattle.decoder.proofs.Offers.{listed_none}
 use borrow.Author.Rules.{rules}
 use Rattle.decoder.proofs.list_sizes.Goals as goal

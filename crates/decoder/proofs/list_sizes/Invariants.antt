@@ -1,5 +1,5 @@
 -- `decoder::list_sizes` meets its contract.
-use Prim.Native.Nat.{◌-◌, ◌≤◌}
+use Prim.Native.Nat.{◌≤◌}
 use Rattle.decoder.specs.Near.{Listed}
 use Rattle.decoder.proofs.list_sizes.Given as goal
 

@@ -1,5 +1,5 @@
 -- `decoder::near_words` meets its contract.
-use Prim.Native.Nat.{◌+◌, ◌-◌, ◌≤◌}
+use Prim.Native.Nat.{◌+◌, ◌≤◌}
 use lib.ListN.{get_or}
 use Rattle.block.specs.Blocks.{Made}
 use Rattle.decoder.specs.Near.{near}

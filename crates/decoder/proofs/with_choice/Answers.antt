@@ -11,4 +11,4 @@ returns-then-at-ge-BLOCK c = large_priced _ _ _ _ c.if-not-free.false c.if-at-ge
 
 pub returns : goal.returns
 returns c =
-    open_priced _ _ c.args.size _ _ c.if-not-free.false (omega (arith, c.if-at-ge-BLOCK.false, c.requires)) c.lesser.ensures
+    open_priced _ _ c.args.size _ _ c.if-not-free.false (omega (arith, c.if-at-ge-BLOCK.false, c.requires)) c.min.ensures

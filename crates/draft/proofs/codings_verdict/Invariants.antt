@@ -3,7 +3,7 @@ use Rattle.format.specs.Limits.{broken}
 use Rattle.format.specs.JobBytes.{coding_limits}
 use Rattle.format.proofs.Left.{codings_left}
 use Rattle.writing.specs.Lists.{codings_from}
-use Prim.Native.Nat.{◌-◌, ◌≤◌}
+use Prim.Native.Nat.{◌≤◌}
 use mathlib.Core.Path.{◌≡◌}
 use lib.ListN.{length}
 use Rattle.draft.proofs.codings_verdict.Given as goal

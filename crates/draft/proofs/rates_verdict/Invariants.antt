@@ -2,10 +2,10 @@
 use Rattle.format.specs.Limits.{broken}
 use Rattle.format.specs.JobBytes.{rate_limits}
 use Rattle.format.proofs.Left.{rates_left}
-use Prim.Native.Nat.{◌-◌, ◌≤◌}
+use Prim.Native.Nat.{◌≤◌}
 use mathlib.Core.Path.{◌≡◌}
 use lib.ListN.{length}
 use Rattle.draft.proofs.rates_verdict.Given as goal
 
-abbrev pub invariant-loop-i : goal.invariant-loop-i
-invariant-loop-i l = (l.i ≤ length l.rates) × (l.low ≤ 4096) × (broken (rate_limits 0 l.rates) ≡ rates_left l.rates l.low l.i)
+abbrev pub invariant-loop-rate : goal.invariant-loop-rate
+invariant-loop-rate l = (l.rate-index ≤ length l.rates) × (l.low ≤ 4096) × (broken (rate_limits 0 l.rates) ≡ rates_left l.rates l.low l.rate-index)

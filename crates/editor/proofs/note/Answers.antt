@@ -1,17 +1,21 @@
 -- `editor::note` meets its contract.
 use mathlib.Core.Path.{refl, ap}
-use Rattle.pins.specs.Answers.{number, handed}
+use Rattle.header.proofs.Told.{handed_as}
+use Rattle.header.specs.Refusals.{code}
+use Rattle.header.specs.Answers.{verdict}
+use Rattle.pins.specs.Answers.{handed}
+use Rattle.exporting.specs.Exports.{filled}
 use Rattle.exporting.specs.Sets.{after_call}
 use Rattle.editor.proofs.note.Goals as goal
 
 pub put_set-requires : goal.put_set-requires
-unfolding handed number
-put_set-requires c = c.requires (ap number c.in-Done.is)
+unfolding handed
+put_set-requires c = c.requires (ap verdict c.in_ok-made.was)
 
-pub returns-in-Refused : goal.returns-in-Refused
-unfolding handed number after_call
-returns-in-Refused c = rw c.in-Refused.is refl
+pub returns-in_err-made : goal.returns-in_err-made
+unfolding handed after_call
+returns-in_err-made c = handed_as (λ x. filled (code x) c.args.set.now) _ _ c.from_residual.ensures (rw c.in_err-made.was refl)
 
-pub returns-in-Done : goal.returns-in-Done
-unfolding handed number after_call
-returns-in-Done c = rw (c.in-Done.is, ← c.put_set.ensures) refl
+pub returns : goal.returns
+unfolding handed after_call
+returns c = rw (c.in_ok-made.was, ← c.put_set.ensures) refl

@@ -1,12 +1,12 @@
 -- `enlarge::line_with` meets its contract: by what it computes to.
 use mathlib.Core.Path.{refl}
-use Rattle.interval.specs.Answers.{second_of, line_of}
+use Rattle.interval.specs.Answers.{line_of}
 use Rattle.line.specs.Answers.{line_is}
 use Rattle.enlarging.specs.Larger.{with_bucket, with_size}
 use Rattle.enlarge.proofs.line_with.Goals as goal
 
 pub returns : goal.returns
-unfolding line_is line_of second_of with_size with_bucket
+unfolding line_is line_of with_size with_bucket
 returns c =
     let f = c.requires.0 in
     record {

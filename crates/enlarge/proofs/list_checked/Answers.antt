@@ -1,6 +1,6 @@
 -- `enlarge::list_checked` meets its contract.
 use Rattle.enlarge.proofs.Answering.{over_fits, all_11, all_12, lists, all_done}
-use Rattle.enlarge.specs.Answers.{answered, listed}
+use Rattle.enlarge.specs.Answers.{listed}
 use Rattle.header.specs.Answers.{plain}
 use Rattle.pinset.specs.Answers.{set_of}
 use native.Mathlib.Omega.{arith}
@@ -13,12 +13,12 @@ words_over-requires c =
     over_fits _ _ _ c.requires _ c.line_in-line.ensures _ c.line_with.ensures
 
 pub returns-then-table-words_over : goal.returns-then-table-words_over
-unfolding plain listed answered
+unfolding plain listed
 returns-then-table-words_over c =
     all_11 _ _ _ c.requires _ c.line_in-line.ensures _ c.line_with.ensures _ _ (omega (arith, c.words_over.ensures, c.if-table-words_over.true))
 
 pub returns-then-totals-sizes : goal.returns-then-totals-sizes
-unfolding plain listed answered
+unfolding plain listed
 returns-then-totals-sizes c =
     all_12 _ _ _ c.requires _ c.line_in-line.ensures _ c.line_with.ensures _ _ (omega (arith, c.words_over.ensures, c.if-table-words_over.false)) (omega (arith, c.if-totals-sizes.true))
 
@@ -28,6 +28,6 @@ list_totals-requires c =
     lists _ _ _ c.requires _ c.line_in-line.ensures _ c.line_with.ensures _ _ (omega (arith, c.words_over.ensures, c.if-table-words_over.false)) (omega (arith, c.if-totals-sizes.false)) _ c.start-start.ensures _ (search rules)
 
 pub returns : goal.returns
-unfolding plain set_of listed answered
+unfolding plain set_of listed
 returns c =
     all_done _ _ _ c.requires _ c.line_in-line.ensures _ c.line_with.ensures _ _ (omega (arith, c.words_over.ensures, c.if-table-words_over.false)) (omega (arith, c.if-totals-sizes.false)) _ _ c.list_totals.ensures

@@ -1,6 +1,5 @@
 -- `enlarge::list_smaller` meets its contract: the totals of the sizes before are written, and the last of them is at hand, whichever turn the loop is at.
 use Rattle.enlarge.proofs.Listing.{places, going_none, going_limits, going_between, going_more, going_all}
-use Prim.Native.Nat.{◌-◌}
 use native.Mathlib.Omega.{arith}
 use Rattle.enlarge.proofs.list_smaller.Goals as goal
 

@@ -2,7 +2,7 @@
 use Rattle.enlarge.proofs.Listing.{Going}
 use Rattle.pinning.specs.PinSet.{lines}
 use Rattle.format.specs.JobBytes.{job_in}
-use Prim.Native.Nat.{◌≤◌, ◌-◌}
+use Prim.Native.Nat.{◌≤◌}
 use Rattle.enlarge.proofs.list_smaller.Given as goal
 
 abbrev pub invariant-loop-i : goal.invariant-loop-i

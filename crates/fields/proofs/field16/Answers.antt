@@ -1,15 +1,8 @@
--- `fields::field16` meets its contract, by where the bytes end.
-use mathlib.Core.Path.{sym, ◌∙◌}
-use native.Mathlib.Omega.{arith}
-use Rattle.format.proofs.Places.{field_there}
-use Rattle.fields.proofs.Setting.{field_past}
+-- `fields::field16` meets its contract.
+use mathlib.Core.Path.{◌∙◌}
+use borrow.Author.Rules.{rules}
+use Rattle.fields.proofs.Setting.{two_read}
 use Rattle.fields.proofs.field16.Goals as goal
 
-pub returns-then-s-lt2 : goal.returns-then-s-lt2
-returns-then-s-lt2 c = sym (field_past _ _ _ (omega arith))
-
-pub returns-then-s-at : goal.returns-then-s-at
-returns-then-s-at c = sym (field_past _ _ _ (omega arith))
-
 pub returns : goal.returns
-returns c = c.u16_at.ensures ∙ sym (field_there _ _ _ (omega arith))
+returns c = c.from_le_bytes.ensures ∙ two_read c.field.result (search rules) ∙ c.field.ensures

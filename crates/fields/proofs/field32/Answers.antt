@@ -1,15 +1,8 @@
--- `fields::field32` meets its contract, by where the bytes end.
-use mathlib.Core.Path.{sym, ◌∙◌}
-use native.Mathlib.Omega.{arith}
-use Rattle.format.proofs.Places.{field_there}
-use Rattle.fields.proofs.Setting.{field_past}
+-- `fields::field32` meets its contract.
+use mathlib.Core.Path.{◌∙◌}
+use borrow.Author.Rules.{rules}
+use Rattle.fields.proofs.Setting.{four_read}
 use Rattle.fields.proofs.field32.Goals as goal
 
-pub returns-then-s-lt4 : goal.returns-then-s-lt4
-returns-then-s-lt4 c = sym (field_past _ _ _ (omega arith))
-
-pub returns-then-s-at : goal.returns-then-s-at
-returns-then-s-at c = sym (field_past _ _ _ (omega arith))
-
 pub returns : goal.returns
-returns c = c.u32_at.ensures ∙ sym (field_there _ _ _ (omega arith))
+returns c = c.from_le_bytes.ensures ∙ four_read c.field.result (search rules) ∙ c.field.ensures

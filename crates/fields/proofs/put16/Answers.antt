@@ -1,10 +1,7 @@
 -- `fields::put16` meets its contract.
-use Rattle.fields.proofs.Setting.{two_bytes}
-use Rattle.fields.specs.Written.{put_at}
-use native.Mathlib.Numerals.{add-one}
-use borrow.Author.Rules.{rules}
+use mathlib.Core.Path.{◌∙◌}
+use Rattle.fields.proofs.Setting.{two_written}
 use Rattle.fields.proofs.put16.Goals as goal
 
 pub returns : goal.returns
-unfolding put_at
-returns c = rw (two_bytes c.args.value (search rules), add-one c.args.at)
+returns c = c.put.ensures ∙ rw (c.to_le_bytes.ensures, two_written c.args.value)

@@ -1,5 +1,4 @@
 -- `former::put_entries` meets its contract.
-use Prim.Native.Nat.{◌-◌}
 use mathlib.Core.Path.{ap, ◌∙◌}
 use native.Mathlib.Omega.{arith}
 use Rattle.format.specs.Choices.{choice_under, choice_number}

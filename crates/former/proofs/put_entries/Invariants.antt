@@ -1,5 +1,4 @@
 -- `former::put_entries` meets its contract.
-use Prim.Native.Nat.{◌-◌}
 use Rattle.former.proofs.Turning.{Written}
 use Rattle.former.proofs.put_entries.Given as goal
 

@@ -2,7 +2,7 @@
 use Rattle.front.proofs.Following.{Going}
 use Rattle.pinning.specs.PinSet.{lines}
 use Rattle.format.specs.JobBytes.{job_in}
-use Prim.Native.Nat.{◌≤◌, ◌-◌}
+use Prim.Native.Nat.{◌≤◌}
 use Rattle.front.proofs.follow.Given as goal
 
 abbrev pub invariant-loop-place : goal.invariant-loop-place

@@ -13,7 +13,6 @@ pub loop-x-init : goal.loop-x-init
 loop-x-init c = (search rules, codings_start _)
 
 pub returns-then-not-coding_fits : goal.returns-then-not-coding_fits
-unfolding verdict
 returns-then-not-coding_fits c =
     let k = sym c.coding_fits.ensures ∙ c.if-not-coding_fits.true in
     sym (c.loop-x.invariant.1 ∙ codings_here _ _ (rw entries_count (omega arith)) _ _ (coding_there _ _ _ (omega arith) _ _ c.u16_at.ensures c.u32_at.ensures) k)
@@ -24,5 +23,4 @@ loop-x-preserved c =
     (search rules, c.loop-x.invariant.1 ∙ codings_step _ _ (rw entries_count (omega arith)) _ _ (coding_there _ _ _ (omega arith) _ _ c.u16_at.ensures c.u32_at.ensures) k)
 
 pub returns : goal.returns
-unfolding verdict
 returns c = sym (c.loop-x.invariant.1 ∙ codings_end _ _ (rw entries_count (omega arith)))

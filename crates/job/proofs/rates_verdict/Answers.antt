@@ -13,7 +13,6 @@ pub loop-i-init : goal.loop-i-init
 loop-i-init c = (search rules, search rules, rates_start _)
 
 pub returns-then-not-rate_fits : goal.returns-then-not-rate_fits
-unfolding verdict
 returns-then-not-rate_fits c = let k = sym c.rate_fits.ensures ∙ c.if-not-rate_fits.true in
     sym (c.loop-i.invariant.2 ∙ rates_here _ _ _ (rw rates_count (omega arith)) _ (rate_there _ c.args.rates c.loop-i.i (omega arith) _ c.u16_at-rate.ensures) k)
 
@@ -25,5 +24,4 @@ loop-i-preserved c = let k = sym c.rate_fits.ensures ∙ c.if-not-rate_fits.fals
     (search rules, omega (arith, of_kept _ k), c.loop-i.invariant.2 ∙ rates_step _ _ _ (rw rates_count (omega arith)) _ (rate_there _ c.args.rates c.loop-i.i (omega arith) _ c.u16_at-rate.ensures) k)
 
 pub returns : goal.returns
-unfolding verdict
 returns c = sym (c.loop-i.invariant.2 ∙ rates_end _ _ _ (rw rates_count (omega arith)))

@@ -1,4 +1,6 @@
 -- `job::read_units` meets its contract: the units that are left to read decide, whichever turn the loop is at.
+use Rattle.header.proofs.Told.{handed_as}
+use Rattle.job.specs.Answers.{reading}
 use Prim.Native.Nat.{◌-◌}
 use mathlib.Core.Path.{◌≡◌, sym, ◌∙◌}
 use native.Mathlib.Omega.{arith}
@@ -16,22 +18,21 @@ pub record_verdict-requires : goal.record_verdict-requires
 unfolding plain
 record_verdict-requires c = search rules
 
-pub returns-in-Refused : goal.returns-in-Refused
-unfolding plain reading
-returns-in-Refused c =
-    sym (c.loop.invariant.2 ∙ units_refused _ (plain c.args.header) _ _ (omega arith) _ c.record_verdict.ensures _ c.in-Refused.is)
+pub returns-in_err-record_verdict : goal.returns-in_err-record_verdict
+unfolding plain
+returns-in_err-record_verdict c = handed_as reading _ _ c.from_residual.ensures (sym (c.loop.invariant.2 ∙ units_refused _ (plain c.args.header) _ _ (omega arith) _ c.record_verdict.ensures _ c.in_err-record_verdict.was))
 
 pub loop-preserved : goal.loop-preserved
 unfolding plain
 loop-preserved c =
     let a = c.args in (
       search rules,
-      units_room a.job.now (plain a.header) c.loop.at c.loop.counter (omega arith) _ c.record_verdict.ensures c.in_default.is (omega arith),
-      c.loop.invariant.2 ∙ units_step _ (plain a.header) _ _ (omega arith) _ c.record_verdict.ensures c.in_default.is,
+      units_room a.job.now (plain a.header) c.loop.at c.loop.counter (omega arith) _ c.record_verdict.ensures c.in_ok-record_verdict.was (omega arith),
+      c.loop.invariant.2 ∙ units_step _ (plain a.header) _ _ (omega arith) _ c.record_verdict.ensures c.in_ok-record_verdict.was,
     )
 
 pub returns : goal.returns
-unfolding plain reading
+unfolding plain
 returns c =
     let a = c.args in
     let k : c.loop.counter ≡ a.header.units = omega arith in

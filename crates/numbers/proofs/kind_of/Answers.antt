@@ -1,9 +1,12 @@
 -- `numbers::kind_of` meets its contract.
-use Rattle.numbers.proofs.Laying.{two_is, one_is}
+use Rattle.format.specs.JobBytes.{header_kind}
+use Rattle.header.specs.Answers.{plain}
 use Rattle.numbers.proofs.kind_of.Goals as goal
 
-pub returns-then-header : goal.returns-then-header
-returns-then-header c = (two_is _ c.if-header.true).0
+pub returns-in-None : goal.returns-in-None
+unfolding plain header_kind
+returns-in-None c = rw c.in-None.is
 
-pub returns-else-header : goal.returns-else-header
-returns-else-header c = (one_is _ c.if-header.false).0
+pub returns-in-Some : goal.returns-in-Some
+unfolding plain header_kind
+returns-in-Some c = rw c.in-Some.is

@@ -1,5 +1,5 @@
 -- `numbers::put_pins` meets its contract: the pins before the place are copied, whichever turn the loop is at.
-use Prim.Native.Nat.{◌≤◌, ◌-◌}
+use Prim.Native.Nat.{◌≤◌}
 use Rattle.numbers.proofs.Copies.{Copied}
 use Rattle.numbers.proofs.put_pins.Given as goal
 

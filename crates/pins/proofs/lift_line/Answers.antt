@@ -2,7 +2,7 @@
 use Rattle.pins.proofs.Totals.{held}
 use Rattle.pins.proofs.Calls.{lift_seven, lift_ten, lift_taken, place_below, pinned_below}
 use Rattle.pinset.specs.Answers.{set_of}
-use Rattle.pins.specs.Answers.{number, handed}
+use Rattle.pins.specs.Answers.{handed}
 use Rattle.pinning.specs.Calls.{take_in}
 use Rattle.header.specs.Answers.{plain}
 use mathlib.Core.Path.{refl, sym, ◌∙◌}
@@ -35,7 +35,7 @@ without_pin-requires c =
     (held _ _ _ c.requires _ (sym c.outside.ensures ∙ c.if-outside.false) _ below _ c.coding_at-coding.ensures refl c.if-old.false)
 
 pub returns : goal.returns
-unfolding plain set_of handed number take_in
+unfolding plain set_of handed take_in
 returns c =
     let taken = lift_taken _ _ _ c.requires _ (sym c.outside.ensures ∙ c.if-outside.false) c.if-old.false in
     rw (c.without_pin.ensures, c.coding_at-coding.ensures) taken

@@ -10,17 +10,14 @@ use Rattle.pins.proofs.pin.Goals as goal
 pub pin_line-requires : goal.pin_line-requires
 unfolding set_of door_of
 pin_line-requires c =
-    let check = c.check in
-    ready _ _ _ _ _ (answer_took _ check.result _ _ check.ensures.answer c.in-Read.is) check.ensures.sized
+    ready _ _ _ _ _ (answer_took _ c.in-Ok.reading c.in-Ok.ensures.answer) c.in-Ok.ensures.sized
 
-pub returns-in-Refused : goal.returns-in-Refused
+pub returns-in-Err : goal.returns-in-Err
 unfolding door_of
-returns-in-Refused c =
-    let check = c.check in
-    c.refused.ensures ∙ call_refused _ _ _ _ (answer_refused _ check.result _ check.ensures.answer c.in-Refused.is)
+returns-in-Err c =
+    c.refused.ensures ∙ call_refused _ _ _ _ (answer_refused _ _ c.in-Err.ensures.answer)
 
-pub returns-in-Read : goal.returns-in-Read
+pub returns-in-Ok : goal.returns-in-Ok
 unfolding set_of door_of
-returns-in-Read c =
-    let check = c.check in
-    c.pin_line.ensures ∙ call_took _ _ _ _ _ (ready_took _ _ _ _ _ (answer_took _ check.result _ _ check.ensures.answer c.in-Read.is) check.ensures.sized)
+returns-in-Ok c =
+    c.pin_line.ensures ∙ call_took _ _ _ _ _ (ready_took _ _ _ _ _ (answer_took _ c.in-Ok.reading c.in-Ok.ensures.answer) c.in-Ok.ensures.sized)

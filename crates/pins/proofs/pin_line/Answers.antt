@@ -2,7 +2,7 @@
 use Rattle.pins.proofs.Totals.{room}
 use Rattle.pins.proofs.Calls.{pin_seven, pin_eight, pin_nine, pin_taken, place_below}
 use Rattle.pinset.specs.Answers.{set_of}
-use Rattle.pins.specs.Answers.{number, handed}
+use Rattle.pins.specs.Answers.{handed}
 use Rattle.pinning.specs.Calls.{take_in}
 use Rattle.header.specs.Answers.{plain}
 use mathlib.Core.Path.{sym, ◌∙◌}
@@ -39,7 +39,7 @@ with_pin-requires c =
     (room _ _ _ c.requires _ (sym c.outside.ensures ∙ c.if-outside.false) _ c.if-choices-choice.false _ c.coding_at-coding.ensures)
 
 pub returns : goal.returns
-unfolding plain set_of handed number take_in
+unfolding plain set_of handed take_in
 returns c =
     let taken = pin_taken _ _ _ c.requires _ (sym c.outside.ensures ∙ c.if-outside.false) _ c.if-choices-choice.false c.if-old.false in
     rw (c.with_pin.ensures, c.coding_at-coding.ensures) taken

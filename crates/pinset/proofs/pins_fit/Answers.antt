@@ -1,10 +1,8 @@
 -- `pinset::pins_fit` meets its contract: the bytes before the place fit, whichever turn the loop is at.
 use mathlib.Core.Path.{sym, ◌∙◌}
 use Rattle.base.proofs.All.{all_none, all_more, all_stop}
-use Prim.Native.Nat.{◌-◌}
 use borrow.Author.Rules.{rules}
 use Rattle.pinning.specs.Check.{pins_fit}
-use mathlib.Core.Bool.{true}
 use Rattle.pinset.proofs.pins_fit.Goals as goal
 
 pub loop-place-init : goal.loop-place-init

@@ -1,6 +1,6 @@
 -- `pinset::pins_fit` meets its contract: the bytes before the place fit, whichever turn the loop is at.
 use mathlib.Core.Path.{◌≡◌}
-use Prim.Native.Nat.{◌≤◌, ◌-◌}
+use Prim.Native.Nat.{◌≤◌}
 use Rattle.header.specs.Answers.{plain}
 use Rattle.pinning.specs.Check.{pins_fit}
 use mathlib.Core.Bool.{true}

@@ -1,6 +1,5 @@
 -- `pinset::sum_lines` meets its contract: the sums are those of the units before the place, and small, whichever turn the loop is at.
 use Rattle.pinning.proofs.Loops.{lines_more}
-use Prim.Native.Nat.{◌-◌}
 use native.Mathlib.Omega.{arith}
 use borrow.Author.Rules.{rules}
 use Rattle.pinset.specs.Answers.{tallied}

@@ -1,6 +1,6 @@
 -- `pinset::sum_lines` meets its contract: the sums are those of the units before the place, and small, whichever turn the loop is at.
 use mathlib.Core.Path.{◌≡◌}
-use Prim.Native.Nat.{◌≤◌, ◌-◌, ◌*◌}
+use Prim.Native.Nat.{◌≤◌, ◌*◌}
 use Rattle.pinning.specs.Check.{codings_in}
 use Rattle.pinset.specs.Answers.{tallied}
 use Rattle.header.specs.Answers.{plain}

@@ -7,5 +7,5 @@ use Rattle.plan.proofs.print_plan.Goals as goal
 pub print_intervals-requires : goal.print_intervals-requires
 unfolding plain
 print_intervals-requires c =
-    let d = answer_took _ c.read.result _ _ c.read.ensures c.in-Read.is in
+    let d = answer_took _ _ c.in-Ok.ensures in
     (few_intervals _ _ (opens_by _ _ _ d.job _ d.is d.header_is), c.requires)

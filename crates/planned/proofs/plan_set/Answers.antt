@@ -1,25 +1,25 @@
 -- `planned::plan_set` meets its contract: what refuses, the room for the values, the plan.
+use Rattle.header.proofs.Told.{handed_as}
+use Rattle.header.specs.Refusals.{code}
 use mathlib.Core.Path.{sym, ◌∙◌, ap}
 use native.Mathlib.Omega.{arith}
 use Rattle.header.specs.Answers.{verdict}
+use Rattle.exporting.specs.Sets.{set_planned}
 use Rattle.planned.proofs.Answering.{set_before, set_12, set_told, set_room}
 use Rattle.values.proofs.Buckets.{few_buckets}
 use Rattle.planned.proofs.plan_set.Goals as goal
 
-pub returns-in-Refused : goal.returns-in-Refused
-unfolding verdict
-returns-in-Refused c = set_before _ _ _ c.set_in-own.ensures _ _ _ _ _ _ (ap verdict (sym c.in-Refused.is) ∙ c.set_refusal.ensures)
+pub returns-in_err-set_refusal : goal.returns-in_err-set_refusal
+returns-in_err-set_refusal c = handed_as (λ x. set_planned (code x) c.args.table.now c.args.entries.now c.args.values.now) _ _ c.from_residual.ensures (set_before _ _ _ c.set_in-own.ensures _ _ _ _ _ _ c.in_err-set_refusal.ensures)
 
 pub overflow_add-buckets : goal.overflow_add-buckets
 overflow_add-buckets c = record { fits = omega (arith, few_buckets c.args.job.now, c.buckets_in-buckets.ensures) }
 
 pub returns-then-values-buckets : goal.returns-then-values-buckets
-unfolding verdict
-returns-then-values-buckets c = set_12 _ _ _ c.set_in-own.ensures _ _ _ _ _ (ap verdict (sym c.in_default.is) ∙ c.set_refusal.ensures) (rw (← c.buckets_in-buckets.ensures) c.if-values-buckets.true)
+returns-then-values-buckets c = set_12 _ _ _ c.set_in-own.ensures _ _ _ _ _ c.in_ok-set_refusal.ensures (rw (← c.buckets_in-buckets.ensures) c.if-values-buckets.true)
 
 pub tell-requires : goal.tell-requires
 tell-requires c = set_room _ _ _ _ _ _ _ _ _ c.plan-found.ensures _ (rw (← c.buckets_in-buckets.ensures) c.if-values-buckets.false)
 
 pub returns : goal.returns
-unfolding verdict
-returns c = set_told _ _ _ c.set_in-own.ensures _ _ _ _ _ (ap verdict (sym c.in_default.is) ∙ c.set_refusal.ensures) (rw (← c.buckets_in-buckets.ensures) c.if-values-buckets.false) c.plan-found.result _ _ (rw (← c.aim_named-aim.ensures, ← c.order_named-order.ensures) c.plan-found.ensures) _ _ c.tell.ensures
+returns c = set_told _ _ _ c.set_in-own.ensures _ _ _ _ _ c.in_ok-set_refusal.ensures (rw (← c.buckets_in-buckets.ensures) c.if-values-buckets.false) c.plan-found.result _ _ (rw (← c.aim_named-aim.ensures, ← c.order_named-order.ensures) c.plan-found.ensures) _ _ c.tell.ensures

@@ -14,7 +14,7 @@ unfolding plain
 words_over-requires c = over_fits _ _ _ _ _ _ [] [] (lines 0 []) total late c.requires
 
 pub returns-then-table-words_over : goal.returns-then-table-words_over
-unfolding planned answered
+unfolding planned
 returns-then-table-words_over c = from_11 _ _ _ _ _ _ _ _ _ _ _ c.requires (omega (arith, c.words_over.ensures, c.if-table-words_over.true))
 
 pub overflow_sub-intervals : goal.overflow_sub-intervals
@@ -22,7 +22,7 @@ unfolding plain
 overflow_sub-intervals c = omega (arith, c.intervals.ensures, c.requires.few)
 
 pub returns-then-entries-intervals : goal.returns-then-entries-intervals
-unfolding plain planned answered
+unfolding plain planned
 returns-then-entries-intervals c = from_12 _ _ _ _ _ _ _ _ _ _ _ c.requires (omega (arith, c.words_over.ensures, c.if-table-words_over.false)) (omega (arith, c.intervals.ensures, c.if-entries-intervals.true))
 
 pub search-requires : goal.search-requires

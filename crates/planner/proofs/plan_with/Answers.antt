@@ -7,7 +7,7 @@ use mathlib.Core.Path.{◌∙◌}
 use Rattle.planner.proofs.plan_with.Goals as goal
 
 pub returns-then-not-levels_fit : goal.returns-then-not-levels_fit
-unfolding planned answered
+unfolding planned
 returns-then-not-levels_fit c =
     with_20 _ _ _ c.requires _ c.levels_fit.result c.levels_fit.ensures _ _ _ _ c.if-not-levels_fit.true
 

@@ -17,7 +17,7 @@ word_at-requires c =
     asked _ _ _ _ _ _ c.requires.limits.from _ c.requires.limits.room (lines c.args.header.units c.args.pins.now) _ _ _ c.limit_for-limit.ensures _ c.fill_table.ensures
 
 pub returns-then-word_at : goal.returns-then-word_at
-unfolding planned answered plain combine
+unfolding planned plain combine
 returns-then-word_at c =
     search_13 _ _ _ _ _ _ c.requires.limits.from _ c.requires.limits.room (lines c.args.header.units c.args.pins.now) _ _ _ c.limit_for-limit.ensures _ c.fill_table.ensures _ _ c.word_at.result c.word_at.ensures c.if-word_at.true
 
@@ -34,6 +34,6 @@ read_off-requires c =
     }
 
 pub returns : goal.returns
-unfolding planned answered plain combine
+unfolding planned plain combine
 returns c =
     search_best _ _ _ _ _ _ c.requires.limits.from _ c.requires.limits.room (lines c.args.header.units c.args.pins.now) _ _ _ c.limit_for-limit.ensures _ c.fill_table.ensures _ _ c.word_at.result c.word_at.ensures c.if-word_at.false _ _ c.read_off.ensures

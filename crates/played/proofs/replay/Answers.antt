@@ -1,25 +1,25 @@
 -- `played::replay` meets its contract: what refuses, the room for the values, the replay.
+use Rattle.header.proofs.Told.{handed_as}
+use Rattle.header.specs.Refusals.{code}
 use mathlib.Core.Path.{sym, ◌∙◌, ap}
 use native.Mathlib.Omega.{arith}
 use Rattle.header.specs.Answers.{verdict}
+use Rattle.exporting.specs.Exports.{replayed}
 use Rattle.played.proofs.Answering.{replay_before, replay_12, replay_told, replay_room}
 use Rattle.values.proofs.Buckets.{few_buckets}
 use Rattle.played.proofs.replay.Goals as goal
 
-pub returns-in-Refused : goal.returns-in-Refused
-unfolding verdict
-returns-in-Refused c = replay_before _ _ _ _ _ _ (ap verdict (sym c.in-Refused.is) ∙ c.replay_refusal.ensures)
+pub returns-in_err-replay_refusal : goal.returns-in_err-replay_refusal
+returns-in_err-replay_refusal c = handed_as (λ x. replayed (code x) c.args.levels.now c.args.values.now) _ _ c.from_residual.ensures (replay_before _ _ _ _ _ _ c.in_err-replay_refusal.ensures)
 
 pub overflow_add-buckets : goal.overflow_add-buckets
 overflow_add-buckets c = record { fits = omega (arith, few_buckets c.args.job.now, c.buckets_in-buckets.ensures) }
 
 pub returns-then-values-buckets : goal.returns-then-values-buckets
-unfolding verdict
-returns-then-values-buckets c = replay_12 _ _ _ _ _ (ap verdict (sym c.in_default.is) ∙ c.replay_refusal.ensures) (rw (← c.buckets_in-buckets.ensures) c.if-values-buckets.true)
+returns-then-values-buckets c = replay_12 _ _ _ _ _ c.in_ok-replay_refusal.ensures (rw (← c.buckets_in-buckets.ensures) c.if-values-buckets.true)
 
 pub tell-requires : goal.tell-requires
 tell-requires c = rw c.buckets_in-buckets.ensures (replay_room _ _ _ _ _ _ c.replay_after-outcome.ensures _ (rw (← c.buckets_in-buckets.ensures) c.if-values-buckets.false))
 
 pub returns : goal.returns
-unfolding verdict
-returns c = replay_told _ _ _ _ _ (ap verdict (sym c.in_default.is) ∙ c.replay_refusal.ensures) (rw (← c.buckets_in-buckets.ensures) c.if-values-buckets.false) c.replay_after-outcome.result _ c.replay_after-outcome.ensures _ _ (rw c.buckets_in-buckets.ensures at c.tell.ensures)
+returns c = replay_told _ _ _ _ _ c.in_ok-replay_refusal.ensures (rw (← c.buckets_in-buckets.ensures) c.if-values-buckets.false) c.replay_after-outcome.result _ c.replay_after-outcome.ensures _ _ (rw c.buckets_in-buckets.ensures at c.tell.ensures)

@@ -1,4 +1,5 @@
 -- `played::set_refusal` meets its contract.
+use Rattle.header.proofs.Told.{handed_on}
 use mathlib.Core.Path.{sym, ◌∙◌}
 use native.Mathlib.Omega.{arith}
 use Rattle.header.specs.Answers.{plain, verdict, door_of}
@@ -9,27 +10,27 @@ use Rattle.played.proofs.Answering.{not_read, opens, by_plan, by_levels, not_ref
 use Rattle.played.proofs.set_refusal.Goals as goal
 
 pub returns-then-not-shaped : goal.returns-then-not-shaped
-unfolding verdict door_of set_of
+unfolding door_of set_of
 returns-then-not-shaped c = let check = c.check in
-    by_plan _ _ _ _ _ _ (answer_took _ check.result _ _ check.ensures.answer c.in-Read.is) check.ensures.sized (sym c.shaped.ensures ∙ c.if-not-shaped.true)
+    by_plan _ _ _ _ _ _ (answer_took _ _ c.in_ok-header.ensures.answer) check.ensures.sized (sym c.shaped.ensures ∙ c.if-not-shaped.true)
 
 pub overflow_mul-levels_each : goal.overflow_mul-levels_each
 unfolding plain door_of set_of
 overflow_mul-levels_each c = let check = c.check in
-    let o = opens _ _ c.args.entries.now c.args.levels _ _ (answer_took _ check.result _ _ check.ensures.answer c.in-Read.is) check.ensures.sized in
+    let o = opens _ _ c.args.entries.now c.args.levels _ _ (answer_took _ _ c.in_ok-header.ensures.answer) check.ensures.sized in
     record { fits = omega (arith, few_levels _ _ o c.levels_each.result c.intervals.result c.levels_each.ensures c.intervals.ensures) }
 
 pub returns-then-levels-levels_each : goal.returns-then-levels-levels_each
-unfolding verdict plain door_of set_of
+unfolding plain door_of set_of
 returns-then-levels-levels_each c = let check = c.check in
-    by_levels _ _ _ _ _ _ (answer_took _ check.result _ _ check.ensures.answer c.in-Read.is) check.ensures.sized (sym c.shaped.ensures ∙ c.if-not-shaped.false) _ _ c.levels_each.ensures c.intervals.ensures c.if-levels-levels_each.true
+    by_levels _ _ _ _ _ _ (answer_took _ _ c.in_ok-header.ensures.answer) check.ensures.sized (sym c.shaped.ensures ∙ c.if-not-shaped.false) _ _ c.levels_each.ensures c.intervals.ensures c.if-levels-levels_each.true
 
-pub returns-in-Refused : goal.returns-in-Refused
-unfolding verdict door_of set_of
-returns-in-Refused c = let check = c.check in
-    not_read _ _ _ _ _ (answer_refused _ check.result _ check.ensures.answer c.in-Refused.is)
+pub returns-in_err-header : goal.returns-in_err-header
+unfolding door_of set_of
+returns-in_err-header c = handed_on _ _ c.from_residual.ensures (let check = c.check in
+    not_read _ _ _ _ _ (answer_refused _ _ c.in_err-header.ensures.answer))
 
-pub returns-else-levels-levels_each : goal.returns-else-levels-levels_each
-unfolding verdict plain door_of set_of
-returns-else-levels-levels_each c = let check = c.check in
-    not_refused _ _ _ _ _ _ (answer_took _ check.result _ _ check.ensures.answer c.in-Read.is) check.ensures.sized (sym c.shaped.ensures ∙ c.if-not-shaped.false) _ _ c.levels_each.ensures c.intervals.ensures c.if-levels-levels_each.false
+pub returns : goal.returns
+unfolding plain door_of set_of
+returns c = let check = c.check in
+    not_refused _ _ _ _ _ _ (answer_took _ _ c.in_ok-header.ensures.answer) check.ensures.sized (sym c.shaped.ensures ∙ c.if-not-shaped.false) _ _ c.levels_each.ensures c.intervals.ensures c.if-levels-levels_each.false

@@ -1,14 +1,12 @@
 -- `playlist::levels_for` meets its contract.
-use Rattle.header.specs.Answers.{plain, policed_of}
-use Rattle.planner.specs.Answers.{levels_of_buckets}
+use mathlib.Core.Path.{refl}
 use Rattle.playlist.specs.Answers.{starts_at}
-use Rattle.playlist.proofs.Levels.{fills}
 use Rattle.playlist.proofs.levels_for.Goals as goal
 
-pub returns-then-standing : goal.returns-then-standing
+pub returns-in-Some : goal.returns-in-Some
 unfolding starts_at
-returns-then-standing c = rw c.if-standing.true
+returns-in-Some c = rw c.in-Some.is refl
 
-pub returns : goal.returns
-unfolding starts_at levels_of_buckets plain policed_of
-returns c = rw c.if-standing.false (fills (policed_of c.args.header.first) (policed_of c.args.header.second) c.args.header.two)
+pub returns-in-None : goal.returns-in-None
+unfolding starts_at
+returns-in-None c = rw c.in-None.is c.start.ensures

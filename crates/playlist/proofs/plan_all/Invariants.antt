@@ -1,5 +1,5 @@
 -- `playlist::plan_all` meets its contract: each programme has its turn, up to the first that is refused.
-use Prim.Native.Nat.{◌-◌, ◌≤◌}
+use Prim.Native.Nat.{◌≤◌}
 use mathlib.Core.Path.{◌≡◌}
 use lib.ListN.{length}
 use Rattle.playlist.proofs.Running.{Running}

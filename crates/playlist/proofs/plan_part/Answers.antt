@@ -1,31 +1,33 @@
 -- `playlist::plan_part` meets its contract.
-use mathlib.Core.Path.{◌∙◌}
+use Rattle.header.proofs.Told.{handed_as}
+use mathlib.Core.Path.{sym, ◌∙◌}
 use Rattle.header.specs.Answers.{door_of}
 use Rattle.job.proofs.Answers.{answer_took, answer_refused}
+use Rattle.playlist.specs.Answers.{turned}
 use Rattle.playlist.proofs.Parts.{part_unread, part_left, part_others, opened, part_opened}
 use Rattle.playlist.proofs.plan_part.Goals as goal
+
+pub returns-in_err-header : goal.returns-in_err-header
+unfolding door_of
+returns-in_err-header c =
+    handed_as (λ x. turned x c.args.standing c.args.table.now c.args.entries.now c.args.totals.now) _ _ c.from_residual.ensures (part_unread _ c.args.standing _ _ _ _ (answer_refused _ _ c.in_err-header.ensures))
 
 pub returns-then-taken-job : goal.returns-then-taken-job
 unfolding door_of
 returns-then-taken-job c =
-    part_left _ c.args.standing _ _ _ _ _ (answer_took _ c.read.result _ _ c.read.ensures c.in-Read.is) c.if-taken-job.true
+    part_left _ c.args.standing _ _ _ _ _ (answer_took _ _ c.in_ok-header.ensures) c.if-taken-job.true
 
-pub returns-then-standing-header : goal.returns-then-standing-header
+pub returns-then-not-alike : goal.returns-then-not-alike
 unfolding door_of
-returns-then-standing-header c =
-    part_others _ c.args.standing _ _ _ c.in-Read.header _ (answer_took _ c.read.result _ _ c.read.ensures c.in-Read.is) c.if-taken-job.false c.if-standing-header.true
+returns-then-not-alike c =
+    part_others _ c.args.standing _ _ _ _ _ (answer_took _ _ c.in_ok-header.ensures) c.if-taken-job.false (sym c.alike.ensures ∙ c.if-not-alike.true)
 
 pub plan_opened-requires : goal.plan_opened-requires
 unfolding door_of
 plan_opened-requires c =
-    (opened _ c.args.standing c.args.table.now c.args.entries.now c.args.totals.now c.in-Read.header _ (answer_took _ c.read.result _ _ c.read.ensures c.in-Read.is) c.if-taken-job.false c.if-standing-header.false, c.requires)
+    (opened _ c.args.standing c.args.table.now c.args.entries.now c.args.totals.now _ _ (answer_took _ _ c.in_ok-header.ensures) c.if-taken-job.false (sym c.alike.ensures ∙ c.if-not-alike.false), c.requires)
 
-pub returns-in-Refused : goal.returns-in-Refused
+pub returns : goal.returns
 unfolding door_of
-returns-in-Refused c =
-    part_unread _ c.args.standing _ _ _ _ (answer_refused _ c.read.result _ c.read.ensures c.in-Refused.is)
-
-pub returns-else-standing-header : goal.returns-else-standing-header
-unfolding door_of
-returns-else-standing-header c =
-    c.plan_opened.ensures ∙ part_opened _ c.args.standing _ _ _ c.in-Read.header _ (answer_took _ c.read.result _ _ c.read.ensures c.in-Read.is) c.if-taken-job.false c.if-standing-header.false
+returns c =
+    c.plan_opened.ensures ∙ part_opened _ c.args.standing _ _ _ _ _ (answer_took _ _ c.in_ok-header.ensures) c.if-taken-job.false (sym c.alike.ensures ∙ c.if-not-alike.false)

@@ -2,8 +2,8 @@
 use Rattle.reader.proofs.Fields.{two_fields, one_fields}
 use Rattle.reader.proofs.field_count.Goals as goal
 
-pub returns-then-header : goal.returns-then-header
-returns-then-header c = two_fields _ c.if-header.true
+pub returns-in-None : goal.returns-in-None
+returns-in-None c = one_fields _ c.in-None.is
 
-pub returns-else-header : goal.returns-else-header
-returns-else-header c = one_fields _ c.if-header.false
+pub returns-in-Some : goal.returns-in-Some
+returns-in-Some c = two_fields _ _ c.in-Some.is

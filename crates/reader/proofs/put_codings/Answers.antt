@@ -1,5 +1,4 @@
 -- `reader::put_codings` meets its contract: the codings before are written, whichever turn the loop is at.
-use Prim.Native.Nat.{◌-◌}
 use mathlib.Core.Path.{◌∙◌}
 use native.Mathlib.Omega.{arith}
 use lib.ListN.{length-set}

@@ -2,7 +2,6 @@
 use mathlib.Core.List.{[], ◌∷◌}
 use native.Mathlib.Omega.{arith}
 use lib.ListN.{length-set}
-use Rattle.base.specs.If.{one_if}
 use Rattle.base.proofs.Lent.{stored}
 use Rattle.format.specs.JobBytes.{bucket_values, nine_values, header_values}
 use Rattle.header.specs.Answers.{policed_of, plain}
@@ -37,18 +36,18 @@ pub bounds-fields-8 : goal.bounds-fields-8
 bounds-fields-8 c = simp length-set (omega (arith, nine_room c.args.header _ c.requires))
 
 pub bounds-fields-9 : goal.bounds-fields-9
-bounds-fields-9 c = simp length-set (omega (arith, twelve_room c.args.header _ c.if-header.true c.requires))
+bounds-fields-9 c = simp length-set (omega (arith, twelve_room c.args.header _ _ c.in-Some.is c.requires))
 
 pub bounds-fields-10 : goal.bounds-fields-10
-bounds-fields-10 c = simp length-set (omega (arith, twelve_room c.args.header _ c.if-header.true c.requires))
+bounds-fields-10 c = simp length-set (omega (arith, twelve_room c.args.header _ _ c.in-Some.is c.requires))
 
 pub bounds-fields-11 : goal.bounds-fields-11
-bounds-fields-11 c = simp length-set (omega (arith, twelve_room c.args.header _ c.if-header.true c.requires))
+bounds-fields-11 c = simp length-set (omega (arith, twelve_room c.args.header _ _ c.in-Some.is c.requires))
 
-pub returns-then-header : goal.returns-then-header
-unfolding plain policed_of header_values nine_values bucket_values one_if
-returns-then-header c = rw c.if-header.true (stored (_ ∷ _ ∷ _ ∷ _ ∷ _ ∷ _ ∷ _ ∷ _ ∷ _ ∷ _ ∷ _ ∷ _ ∷ []) _ (twelve_room c.args.header _ c.if-header.true c.requires))
+pub returns-in-Some : goal.returns-in-Some
+unfolding plain policed_of header_values nine_values bucket_values
+returns-in-Some c = rw c.in-Some.is (stored (_ ∷ _ ∷ _ ∷ _ ∷ _ ∷ _ ∷ _ ∷ _ ∷ _ ∷ _ ∷ _ ∷ _ ∷ []) _ (twelve_room c.args.header _ _ c.in-Some.is c.requires))
 
-pub returns-else-header : goal.returns-else-header
-unfolding plain policed_of header_values nine_values bucket_values one_if
-returns-else-header c = rw c.if-header.false (stored (_ ∷ _ ∷ _ ∷ _ ∷ _ ∷ _ ∷ _ ∷ _ ∷ _ ∷ []) _ (nine_room c.args.header _ c.requires))
+pub returns-in_default : goal.returns-in_default
+unfolding plain policed_of header_values nine_values bucket_values
+returns-in_default c = rw c.in_default.is (stored (_ ∷ _ ∷ _ ∷ _ ∷ _ ∷ _ ∷ _ ∷ _ ∷ _ ∷ []) _ (nine_room c.args.header _ c.requires))

@@ -1,5 +1,4 @@
 -- `reader::put_rates` meets its contract: the rates before are written, whichever turn the loop is at.
-use Prim.Native.Nat.{◌-◌}
 use native.Mathlib.Omega.{arith}
 use lib.ListN.{length-set}
 use Rattle.format.proofs.Opened.{rates_are}

@@ -1,5 +1,5 @@
 -- `reader::put_rates` meets its contract: the rates before are written, whichever turn the loop is at.
-use Prim.Native.Nat.{◌≤◌, ◌-◌}
+use Prim.Native.Nat.{◌≤◌}
 use mathlib.Core.Path.{◌≡◌}
 use lib.ListN.{length}
 use Rattle.format.specs.JobBytes.{job_in}

@@ -3,7 +3,6 @@ use Rattle.records.proofs.Setting.{codings_start, codings_step, codings_end}
 use Rattle.fields.proofs.Setting.{put_size}
 use Rattle.writing.specs.Lists.{codings_from}
 use Rattle.writing.proofs.Lists.{codings_count, coding_in}
-use Prim.Native.Nat.{◌-◌}
 use mathlib.Core.Path.{sym, ◌∙◌}
 use native.Mathlib.Omega.{arith}
 use Rattle.records.proofs.put_codings.Goals as goal

@@ -1,7 +1,7 @@
 -- `records::put_codings` meets its contract: what is left to write decides, whichever turn the loop is at.
 use Rattle.records.proofs.Setting.{codings_left}
 use Rattle.writing.specs.Lists.{codings_from}
-use Prim.Native.Nat.{◌+◌, ◌-◌, ◌*◌, ◌≤◌}
+use Prim.Native.Nat.{◌+◌, ◌*◌, ◌≤◌}
 use mathlib.Core.Path.{◌≡◌}
 use lib.ListN.{length}
 use Rattle.records.proofs.put_codings.Given as goal

@@ -5,7 +5,7 @@ use Rattle.writing.proofs.Lists.{codings_count}
 use Rattle.format.specs.Places.{unit_size}
 use Rattle.header.specs.Answers.{plain}
 use Rattle.fields.specs.Written.{put_at}
-use Prim.Native.Nat.{◌+◌, ◌-◌, ◌≤◌}
+use Prim.Native.Nat.{◌+◌, ◌≤◌}
 use mathlib.Core.Path.{sym, ap, ◌∙◌}
 use native.Mathlib.Omega.{arith}
 use lib.ListN.{length}

@@ -1,12 +1,12 @@
 -- `replay::levels_each` meets its contract: with two buckets 3, with one 2.
-use Rattle.base.specs.If.{one_if}
+use mathlib.Core.Path.{refl}
 use Rattle.header.specs.Answers.{plain}
 use Rattle.replay.proofs.levels_each.Goals as goal
 
-pub returns-then-header : goal.returns-then-header
-unfolding one_if plain
-returns-then-header c = rw c.if-header.true
+pub returns-in-None : goal.returns-in-None
+unfolding plain
+returns-in-None c = rw c.in-None.is refl
 
-pub returns-else-header : goal.returns-else-header
-unfolding one_if plain
-returns-else-header c = rw c.if-header.false
+pub returns-in-Some : goal.returns-in-Some
+unfolding plain
+returns-in-Some c = rw c.in-Some.is refl

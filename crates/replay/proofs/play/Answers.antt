@@ -2,11 +2,11 @@
 use Rattle.replay.proofs.Replaying.{buckets_of_job, outcome_told, going_start, next_count, going_on, going_stop, going_end}
 use Rattle.replay.proofs.Levels.{bucket_count, room_for_one}
 use Rattle.format.proofs.Opened.{job_limits, few_intervals, intervals_are, start_is}
-use Rattle.replay.specs.Answers.{answered, ended}
+use Rattle.replay.specs.Answers.{replayed, ended}
 use Rattle.interval.specs.Answers.{outcome_is, start_of}
 use Rattle.header.specs.Answers.{plain}
 use mathlib.Core.Path.{sym, ◌∙◌, ap}
-use Prim.Native.Nat.{suc, ◌<◌, ◌-◌}
+use Prim.Native.Nat.{suc, ◌<◌}
 use native.Mathlib.Numerals.{add-one}
 use native.Mathlib.Omega.{arith}
 use borrow.Author.Rules.{rules}
@@ -22,16 +22,16 @@ unfolding plain
 overflow_cast-interval c =
     record { fits = omega (arith, c.intervals-total.ensures, few_intervals _ _ c.requires.plan.opens) }
 
-pub returns-in-Violates : goal.returns-in-Violates
-unfolding plain ended answered outcome_is
-returns-in-Violates c =
-    let o = outcome_told _ _ c.requires.plan.opens _ c.of-buffers.ensures _ _ _ _ c.loop-place.at c.interval_at-x.ensures _ _ c.step.ensures c.in-Violates.is in
+pub returns-in-Err : goal.returns-in-Err
+unfolding plain ended replayed outcome_is
+returns-in-Err c =
+    let o = outcome_told _ _ c.requires.plan.opens _ c.of-buffers.ensures _ _ _ _ c.loop-place.at c.interval_at-x.ensures _ _ c.step.ensures c.in-Err.is in
     going_stop _ _ _ _ _ c.loop-place.place c.loop-place.at c.loop-place.sum _ c.loop-place.invariant.1 (omega (arith, c.intervals-total.ensures, intervals_are _ _ c.requires.plan.opens)) _ (add-one c.loop-place.place) _ o
 
 pub put_levels-requires : goal.put_levels-requires
 unfolding plain outcome_is
 put_levels-requires c =
-    let o = outcome_told _ _ c.requires.plan.opens _ c.of-buffers.ensures _ _ _ _ c.loop-place.at c.interval_at-x.ensures _ _ c.step.ensures c.in-Reaches.is in
+    let o = outcome_told _ _ c.requires.plan.opens _ c.of-buffers.ensures _ _ _ _ c.loop-place.at c.interval_at-x.ensures _ _ c.step.ensures c.in-Ok.is in
     let g = c.loop-place.invariant.1 in
     (next_count _ _ _ _ _ c.loop-place.place c.loop-place.at c.loop-place.sum _ g (omega (arith, c.intervals-total.ensures, intervals_are _ _ c.requires.plan.opens)) _ o, omega (arith, g.size, room_for_one _ _ _ _ _ c.levels_each-each.ensures c.intervals-total.ensures c.loop-place.place (omega arith) c.requires.room))
 
@@ -47,13 +47,13 @@ with_interval-sum-requires c =
 pub loop-place-preserved : goal.loop-place-preserved
 unfolding plain outcome_is
 loop-place-preserved c =
-    let o = outcome_told _ _ c.requires.plan.opens _ c.of-buffers.ensures _ _ _ _ c.loop-place.at c.interval_at-x.ensures _ _ c.step.ensures c.in-Reaches.is in (
+    let o = outcome_told _ _ c.requires.plan.opens _ c.of-buffers.ensures _ _ _ _ c.loop-place.at c.interval_at-x.ensures _ _ c.step.ensures c.in-Ok.is in (
       omega arith,
       rw c.put_levels.ensures
           (going_on _ _ _ _ _ c.loop-place.place c.loop-place.at c.loop-place.sum _ c.loop-place.invariant.1 (omega (arith, c.intervals-total.ensures, intervals_are _ _ c.requires.plan.opens)) _ o _ _ _ (buckets_of_job _ _ c.requires.plan.opens _ c.of-buffers.ensures) c.interval_at-x.ensures c.with_interval-sum.ensures (job_limits _ _ c.requires.plan.opens).drains (room_for_one _ _ _ _ _ c.levels_each-each.ensures c.intervals-total.ensures c.loop-place.place (omega arith) c.requires.room)),
     )
 
 pub returns : goal.returns
-unfolding plain ended answered
+unfolding plain ended replayed
 returns c =
     going_end _ _ _ _ _ c.loop-place.place c.loop-place.at c.loop-place.sum _ c.loop-place.invariant.1 (omega (arith, c.intervals-total.ensures, intervals_are _ _ c.requires.plan.opens))

@@ -2,7 +2,7 @@
 use Rattle.replay.proofs.Replaying.{Going}
 use Rattle.pinning.specs.PinSet.{lines}
 use Rattle.format.specs.JobBytes.{job_in}
-use Prim.Native.Nat.{◌≤◌, ◌-◌}
+use Prim.Native.Nat.{◌≤◌}
 use Rattle.replay.proofs.play.Given as goal
 
 abbrev pub invariant-loop-place : goal.invariant-loop-place

@@ -6,10 +6,10 @@ pub bounds-levels-next : goal.bounds-levels-next
 bounds-levels-next c = second_fits c.args.levels.now _ _ c.args.l c.requires.0 c.requires.1 _
 
 pub bounds-levels-last : goal.bounds-levels-last
-bounds-levels-last c = third_fits c.args.levels.now _ _ c.args.l c.requires.0 c.requires.1 c.if-l.true _ _
+bounds-levels-last c = third_fits c.args.levels.now _ _ c.args.l c.requires.0 c.requires.1 _ c.in-Some.is _ _
 
-pub returns-then-l : goal.returns-then-l
-returns-then-l c = three_stored c.args.levels.now _ _ c.args.l c.requires.0 c.requires.1 c.if-l.true
+pub returns-in-Some : goal.returns-in-Some
+returns-in-Some c = three_stored c.args.levels.now _ _ c.args.l c.requires.0 c.requires.1 _ c.in-Some.is
 
-pub returns-else-l : goal.returns-else-l
-returns-else-l c = two_stored c.args.levels.now _ _ c.args.l c.requires.0 c.requires.1 c.if-l.false
+pub returns-in_default : goal.returns-in_default
+returns-in_default c = two_stored c.args.levels.now _ _ c.args.l c.requires.0 c.requires.1 c.in_default.is

@@ -2,7 +2,7 @@
 use Rattle.replay.proofs.Answering.{replay_14, replay_12, replay_played}
 use Rattle.course.proofs.Entries.{shaped_plan}
 use Rattle.replay.proofs.Levels.{few_levels, room_for_all}
-use Rattle.replay.specs.Answers.{answered, ended}
+use Rattle.replay.specs.Answers.{ended}
 use Rattle.pinset.specs.Answers.{set_of}
 use Rattle.header.specs.Answers.{plain}
 use mathlib.Core.Path.{sym, ◌∙◌}
@@ -10,7 +10,7 @@ use native.Mathlib.Omega.{arith}
 use Rattle.replay.proofs.replay_checked.Goals as goal
 
 pub returns-then-not-shaped : goal.returns-then-not-shaped
-unfolding ended answered
+unfolding ended
 returns-then-not-shaped c = replay_14 _ _ _ c.requires _ _ (sym c.shaped.ensures ∙ c.if-not-shaped.true)
 
 pub overflow_mul-each : goal.overflow_mul-each
@@ -19,7 +19,7 @@ overflow_mul-each c =
     record { fits = omega (arith, few_levels _ _ c.requires.opens _ _ c.levels_each-each.ensures c.intervals.ensures) }
 
 pub returns-then-levels-each : goal.returns-then-levels-each
-unfolding plain ended answered
+unfolding plain ended
 returns-then-levels-each c =
     replay_12 _ _ _ c.requires _ _ (sym c.shaped.ensures ∙ c.if-not-shaped.false) _ _ c.levels_each-each.ensures c.intervals.ensures c.if-levels-each.true
 

@@ -7,7 +7,7 @@ use Rattle.format.specs.JobBytes.{job_in}
 use Rattle.model.specs.Levels.{sent_after, effective_buffer}
 use Rattle.base.specs.Lists.{gathered}
 use mathlib.Core.Path.{◌≡◌, sym, ap, ◌∙◌}
-use Prim.Native.Nat.{◌+◌, ◌-◌}
+use Prim.Native.Nat.{◌+◌}
 use native.Mathlib.Omega.{arith}
 use borrow.Author.Rules.{rules}
 use Rattle.report.proofs.first_sum.Goals as goal

@@ -2,9 +2,8 @@
 use Rattle.replaying.specs.Entries.{plan_of}
 use Rattle.format.specs.JobBytes.{job_in}
 use Rattle.model.specs.Levels.{sent_after}
-use Rattle.base.specs.Lists.{sum}
 use mathlib.Core.Path.{◌≡◌}
-use Prim.Native.Nat.{◌≤◌, ◌-◌}
+use Prim.Native.Nat.{◌≤◌}
 use Rattle.report.proofs.first_sum.Given as goal
 
 abbrev pub invariant-loop-place : goal.invariant-loop-place

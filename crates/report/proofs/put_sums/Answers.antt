@@ -6,7 +6,7 @@ use Rattle.header.specs.Answers.{plain}
 use Rattle.base.specs.Lists.{build}
 use lib.ListN.{length-set}
 use mathlib.Core.Path.{◌≡◌, refl, ◌∙◌}
-use Prim.Native.Nat.{◌+◌, ◌-◌}
+use Prim.Native.Nat.{◌+◌}
 use native.Mathlib.Omega.{arith}
 use borrow.Author.Rules.{rules}
 use Rattle.report.proofs.put_sums.Goals as goal

@@ -1,7 +1,7 @@
 -- `sender::lessen` meets its contract.
 use Rattle.block.specs.Blocks.{Lessened}
 use lib.ListN.{get_or}
-use Prim.Native.Nat.{◌≤◌, ◌-◌}
+use Prim.Native.Nat.{◌≤◌}
 use Rattle.sender.proofs.lessen.Given as goal
 
 abbrev pub invariant-loop-i : goal.invariant-loop-i

@@ -1,7 +1,6 @@
 -- `sender::lessen_first` meets its contract.
 use Rattle.block.specs.Blocks.{Lessened}
-use Prim.Native.Nat.{◌≤◌, ◌-◌}
 use Rattle.sender.proofs.lessen_first.Given as goal
 
-abbrev pub invariant-loop-i : goal.invariant-loop-i
-invariant-loop-i l = (l.i ≤ l.count) × Lessened 0 l.i (λ k. l.word) l.initial.block l.block
+abbrev pub invariant-loop-lessened : goal.invariant-loop-lessened
+invariant-loop-lessened l = Lessened 0 l.lessened-index (λ k. l.word) l.initial.lessened-items l.lessened-items

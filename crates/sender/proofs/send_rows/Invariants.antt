@@ -5,7 +5,7 @@ use Rattle.planning.specs.Passes.{least_below, arrived, word_if}
 use Rattle.model.specs.Table.{layer_words, state_at, word_in}
 use mathlib.Core.Path.{◌≡◌}
 use lib.ListN.{length, get_or, take}
-use Prim.Native.Nat.{◌≤◌, ◌-◌, ◌*◌}
+use Prim.Native.Nat.{◌≤◌, ◌*◌}
 use Rattle.sender.proofs.send_rows.Given as goal
 
 abbrev pub invariant-loop-level : goal.invariant-loop-level

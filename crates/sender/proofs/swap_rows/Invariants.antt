@@ -1,5 +1,5 @@
 -- `sender::swap_rows` meets its contract.
-use Prim.Native.Nat.{◌-◌, ◌≤◌}
+use Prim.Native.Nat.{◌≤◌}
 use mathlib.Core.Path.{◌≡◌}
 use lib.ListN.{length}
 use Rattle.sender.specs.Swaps.{LevelsSwapped}

@@ -4,4 +4,4 @@ use Rattle.sender.proofs.with_levels.Goals as goal
 
 pub returns : goal.returns
 returns c =
-    levels_made c.args.drain c.args.words.now c.args.sent c.requires.1 _ _ _ _ _ _ _ _ c.beyond-low.ensures c.beyond-high.ensures c.smaller.ensures c.smaller-from.ensures c.beyond.ensures c.lessen_first.ensures c.lessen.ensures
+    levels_made c.args.drain c.args.words.now c.args.sent c.requires.1 _ _ _ _ _ _ _ _ c.saturating_sub-low.ensures c.saturating_sub-high.ensures c.min.ensures c.min-from.ensures c.saturating_sub.ensures c.lessen_first.ensures c.lessen.ensures

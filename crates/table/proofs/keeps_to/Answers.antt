@@ -3,10 +3,10 @@ use Rattle.trellis.specs.Limit.{keeps_to}
 use Rattle.table.specs.Answers.{limit_of}
 use Rattle.table.proofs.keeps_to.Goals as goal
 
-pub returns-in-Free : goal.returns-in-Free
-unfolding keeps_to limit_of
-returns-in-Free c = rw c.in-Free.is
+pub returns-in-None : goal.returns-in-None
+unfolding keeps_to
+returns-in-None c = rw c.in-None.is
 
-pub returns-in-UpTo : goal.returns-in-UpTo
-unfolding keeps_to limit_of
-returns-in-UpTo c = rw c.in-UpTo.is
+pub returns-in-Some : goal.returns-in-Some
+unfolding keeps_to
+returns-in-Some c = rw c.in-Some.is

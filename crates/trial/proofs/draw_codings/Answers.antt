@@ -3,7 +3,7 @@ use Rattle.trial.proofs.Drawing.{two_more, size_next, distortion_next}
 use Rattle.trials.specs.Draws.{after}
 use Rattle.base.specs.Lists.{build}
 use Rattle.base.proofs.Builds.{build_more}
-use Rattle.std.proofs.Common.{◌-◌, refl, arith, length-set}
+use Rattle.std.proofs.Common.{refl, arith, length-set}
 use Rattle.trial.proofs.draw_codings.Goals as goal
 
 pub loop-x-init : goal.loop-x-init

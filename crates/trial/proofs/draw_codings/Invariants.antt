@@ -1,7 +1,7 @@
 -- `trial::draw_codings` meets its contract: so many sizes and distortions are drawn, and the state has come as far.
 use Rattle.trials.specs.Draws.{after, size_drawn, distortion_drawn}
 use Rattle.base.specs.Lists.{build}
-use Rattle.std.proofs.Common.{◌≡◌, ◌-◌, ◌*◌, ◌≤◌, ◌++◌, length, drop}
+use Rattle.std.proofs.Common.{◌≡◌, ◌*◌, ◌≤◌, ◌++◌, length, drop}
 use Rattle.trial.proofs.draw_codings.Given as goal
 
 abbrev pub invariant-loop-x : goal.invariant-loop-x

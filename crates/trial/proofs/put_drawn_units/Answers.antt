@@ -8,7 +8,7 @@ use Rattle.format.specs.JobBytes.{unit_bytes}
 use Rattle.format.specs.Places.{unit_size}
 use Rattle.header.specs.Answers.{plain}
 use Rattle.records.proofs.Records.{units_start, units_step, units_end, room}
-use Rattle.std.proofs.Common.{◌≡◌, ◌+◌, ◌-◌, ◌*◌, ◌≤◌, List, length, sym, refl, ap, ◌∙◌, suc-mul, arith}
+use Rattle.std.proofs.Common.{◌≡◌, ◌+◌, ◌*◌, ◌≤◌, List, length, sym, refl, ap, ◌∙◌, suc-mul, arith}
 use Rattle.trial.proofs.put_drawn_units.Goals as goal
 
 pub loop-init : goal.loop-init

@@ -4,4 +4,4 @@ use Rattle.upload.proofs.upload_archive.Goals as goal
 
 pub returns : goal.returns
 unfolding door_of
-returns c = c.«open».ensures
+returns c = rw c.code.ensures c.«open».ensures

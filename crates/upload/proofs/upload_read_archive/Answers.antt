@@ -4,4 +4,4 @@ use Rattle.upload.proofs.upload_read_archive.Goals as goal
 
 pub returns : goal.returns
 unfolding door_of
-returns c = c.read_back.ensures
+returns c = rw c.code.ensures c.read_back.ensures

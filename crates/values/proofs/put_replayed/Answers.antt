@@ -2,7 +2,6 @@
 use mathlib.Core.List.{[], ◌∷◌}
 use native.Mathlib.Omega.{arith}
 use lib.ListN.{length-set}
-use Rattle.base.specs.If.{one_if}
 use Rattle.base.proofs.Lent.{stored}
 use Rattle.interval.specs.Answers.{totals_of}
 use Rattle.values.specs.Lists.{totals_list, totals_values}
@@ -22,12 +21,12 @@ pub bounds-values-5 : goal.bounds-values-5
 bounds-values-5 c = simp length-set (omega (arith, four_room_behind _ c.requires))
 
 pub bounds-values-6 : goal.bounds-values-6
-bounds-values-6 c = simp length-set (omega (arith, five_room_behind c.args.totals c.if-totals.true c.requires))
+bounds-values-6 c = simp length-set (omega (arith, five_room_behind c.args.totals _ c.in-Some.is c.requires))
 
-pub returns-then-totals : goal.returns-then-totals
-unfolding totals_values totals_list totals_of one_if
-returns-then-totals c = rw c.if-totals.true (stored (_ ∷ _ ∷ _ ∷ _ ∷ _ ∷ _ ∷ _ ∷ []) _ (five_room_behind c.args.totals c.if-totals.true c.requires))
+pub returns-in-Some : goal.returns-in-Some
+unfolding totals_values totals_list totals_of
+returns-in-Some c = rw c.in-Some.is (stored (_ ∷ _ ∷ _ ∷ _ ∷ _ ∷ _ ∷ _ ∷ []) _ (five_room_behind c.args.totals _ c.in-Some.is c.requires))
 
-pub returns-else-totals : goal.returns-else-totals
-unfolding totals_values totals_list totals_of one_if
-returns-else-totals c = rw c.if-totals.false (stored (_ ∷ _ ∷ _ ∷ _ ∷ _ ∷ _ ∷ []) _ (four_room_behind c.args.totals c.requires))
+pub returns-in_default : goal.returns-in_default
+unfolding totals_values totals_list totals_of
+returns-in_default c = rw c.in_default.is (stored (_ ∷ _ ∷ _ ∷ _ ∷ _ ∷ _ ∷ []) _ (four_room_behind c.args.totals c.requires))

@@ -5,7 +5,7 @@ use Rattle.header.proofs.Fields.{no_second, second_made, two_room}
 use Rattle.header.proofs.Bucket.second_in.Goals as goal
 
 pub returns-then-not-two : goal.returns-then-not-two
-returns-then-not-two c = no_second c.args.body.now _ _ c.if-not-two.true
+returns-then-not-two c = no_second c.args.body.now _ c.if-not-two.true
 
 pub u16_at-requires : goal.u16_at-requires
 u16_at-requires c = omega (arith, two_room _ _ c.if-not-two.false c.requires)

@@ -1,9 +1,12 @@
 -- `header::Header::record_size` meets its contract.
-use Rattle.header.proofs.Fields.{one_size, two_size}
+use mathlib.Core.Path.{refl}
+use Rattle.header.specs.Answers.{plain}
 use Rattle.header.proofs.Header.record_size.Goals as goal
 
-pub returns-then-self : goal.returns-then-self
-returns-then-self c = two_size _ c.if-self.true
+pub returns-in-None : goal.returns-in-None
+unfolding plain
+returns-in-None c = rw c.in-None.is refl
 
-pub returns-else-self : goal.returns-else-self
-returns-else-self c = one_size _ c.if-self.false
+pub returns-in-Some : goal.returns-in-Some
+unfolding plain
+returns-in-Some c = rw c.in-Some.is refl

@@ -1,0 +1,15 @@
+-- `planner::BucketLevels::start` meets its contract.
+use mathlib.Core.Path.{refl, ◌≡◌}
+use Rattle.std.proofs.Common.{rules}
+use Rattle.std.specs.Option.{option_map}
+use Rattle.format.specs.JobBytes as header
+use Rattle.header.specs.Answers.{policed_of, plain}
+use Rattle.interval.proofs.Steps.{read_each}
+use Rattle.planner.specs.Answers.{levels_of_buckets}
+use Rattle.planner.proofs.BucketLevels.start.Goals as goal
+
+pub returns : goal.returns
+unfolding levels_of_buckets plain policed_of
+returns c =
+    let k : c.map.result ≡ option_map (λ b. b.fill) c.args.header.second = search rules in
+    rw (k, read_each (λ (b : header.Policed). b.fill) (λ b. b.fill) c.args.header.first c.args.header.second (λ b. refl)) refl
