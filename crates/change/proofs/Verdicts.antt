@@ -18,14 +18,14 @@ use Rattle.line.specs.declared.Line as code
 use Rattle.table.specs.Answers.{job_on}
 use Rattle.replaying.specs.Entries.{shaped}
 use Rattle.replay.proofs.Levels.{bucket_count}
-use Rattle.contract.specs.Answers.{contract, LineUnder}
+use Rattle.contract.specs.Answers.{LineUnder}
 use Rattle.changing.specs.NewContract.{Contract, policed_under, contract_limits, line_under, under}
 use Rattle.changing.specs.Calls.{rest_tests, change_tests}
 
 -- a contract that is offered has a size and a drain for each bucket
-pub counts : (n : ℕ) (rates sizes drains : List ℕ) → each_kept (contract_limits n (contract rates sizes drains)) ≡ true → (length sizes ≡ n) × (length drains ≡ n)
+pub counts : (n : ℕ) (c : Contract) → each_kept (contract_limits n c) ≡ true → (length c.sizes ≡ n) × (length c.drains ≡ n)
 unfolding contract_limits
-counts n rates sizes drains e = let k = all_fit _ e in (omega (arith, k.0), omega (arith, k.1.0))
+counts n c e = let k = all_fit _ e in (omega (arith, k.0), omega (arith, k.1.0))
 
 policed_count : (ss ds : List ℕ) → length ss ≡ length ds → length {A = Policed} (zip_with (λ s d. record { size = s; drain = d; fill = 0 }) ss ds) ≡ length ss
 unfolding zip_with
@@ -33,9 +33,9 @@ policed_count [] ds e = refl
 policed_count (s ∷ ss) [] e = absurd (omega arith)
 policed_count (s ∷ ss) (d ∷ ds) e = ap suc (policed_count ss ds (omega arith))
 
-pub buckets_under : (n : ℕ) (rates sizes drains : List ℕ) → length sizes ≡ n → length drains ≡ n → length (map bucket_of (policed_under (contract rates sizes drains))) ≡ n
+pub buckets_under : (n : ℕ) (c : Contract) → length c.sizes ≡ n → length c.drains ≡ n → length (map bucket_of (policed_under c)) ≡ n
 unfolding policed_under
-buckets_under n rates sizes drains e f = length-map (policed_under (contract rates sizes drains)) bucket_of ∙ policed_count sizes drains (e ∙ sym f) ∙ e
+buckets_under n c e f = length-map (policed_under c) bucket_of ∙ policed_count c.sizes c.drains (e ∙ sym f) ∙ e
 
 module _ (b : List ℕ) (h : Header) (o : Opens b h) (m : PinMap) (old : List ℕ) (s : ℕ) (c : Contract) (table entries : ℕ) where
   abbrev J : Job

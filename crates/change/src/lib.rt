@@ -18,11 +18,12 @@ ghost use Rattle.table.specs.Answers.{job_on};
 ghost use Rattle.best.specs.Answers.{order_is};
 ghost use Rattle.planning.specs.Calls.{search_in};
 ghost use Rattle.planner.specs.Answers.{planned};
-ghost use Rattle.contract.specs.Answers.{contract};
+ghost use Rattle.contract.specs.Answers.{contract_is};
 ghost use Rattle.changing.specs.Calls.{none_over, rest_tests, change_tests, behind, change_in, change_call};
 ghost use Rattle.change.specs.Answers.{Adds, Continues, Follows, Passes, changed_for};
 
 use best::Order;
+use contract::Contract;
 use front::Front;
 use header::{Choice, Door, Header, Refusal};
 use interval::{Buffers, Levels, Totals};
@@ -143,29 +144,27 @@ pub fn change_verdict(
     set: PinSet,
     old: &[u8],
     first: usize,
-    rates: &[u16],
-    sizes: &[u16],
-    drains: &[u16],
+    contract: Contract<'_>,
     table: usize,
     entries: usize,
 ) -> Result<(), Refusal>
     requires { Ready job.now (plain header) (set_of set) }
-    ensures { verdict result ≡ refusal (change_tests (job_in job.now) (lines header.units (set_of set).pins) old.now first (contract rates.now sizes.now drains.now) table entries) }
+    ensures { verdict result ≡ refusal (change_tests (job_in job.now) (lines header.units (set_of set).pins) old.now first (contract_is contract.entry) table entries) }
 {
     if !entry::shaped(header, old) {
         return Err(Refusal::Plan);
     }
     let two = header.second.is_some();
-    if !contract::offered(two, rates, sizes, drains) {
+    if !contract.offered(two) {
         return Err(Refusal::Header);
     }
-    if !contract::draining(two, sizes, drains) {
+    if !contract.draining(two) {
         return Err(Refusal::NeverDrains);
     }
-    if !contract::rising(rates) {
+    if !contract.rising() {
         return Err(Refusal::Rates);
     }
-    let line = contract::line_under(header, rates, sizes, drains);
+    let line = contract.line_under(header);
     rest_verdict(job, header, line, set, old, first, table, entries)
 }
 
@@ -200,15 +199,13 @@ fn change_checked(
     set: PinSet,
     old: &[u8],
     first: usize,
-    rates: &[u16],
-    sizes: &[u16],
-    drains: &[u16],
+    contract: Contract<'_>,
     order: Order,
     table: &mut [u32],
     entries: &mut [u8],
 ) -> Result<Totals, Refusal>
     requires { Ready job.now (plain header) (set_of set) }
-    ensures { planned result table.new entries.new ≡ changed_for job.now (set_of set) old.now first (contract rates.now sizes.now drains.now) (order_is order) table.old entries.old }
+    ensures { planned result table.new entries.new ≡ changed_for job.now (set_of set) old.now first (contract_is contract.entry) (order_is order) table.old entries.old }
 {
     change_verdict(
         job,
@@ -216,13 +213,11 @@ fn change_checked(
         set,
         old,
         first,
-        rates,
-        sizes,
-        drains,
+        contract,
         table.len(),
         entries.len(),
     )?;
-    let line = contract::line_under(header, rates, sizes, drains);
+    let line = contract.line_under(header);
     change_over(order, job, header, line, set, old, first, table, entries)
 }
 
@@ -232,17 +227,15 @@ pub fn change(
     set: PinSet,
     old: &[u8],
     first: usize,
-    rates: &[u16],
-    sizes: &[u16],
-    drains: &[u16],
+    contract: Contract<'_>,
     order: Order,
     table: &mut [u32],
     entries: &mut [u8],
 ) -> Result<Totals, Refusal>
-    ensures { planned result table.new entries.new ≡ change_call job.now (set_of set) old.now first (contract rates.now sizes.now drains.now) (order_is order) table.old entries.old }
+    ensures { planned result table.new entries.new ≡ change_call job.now (set_of set) old.now first (contract_is contract.entry) (order_is order) table.old entries.old }
 {
     let header = pinset::check(job, set, Door::Opening)?.header;
     change_checked(
-        job, header, set, old, first, rates, sizes, drains, order, table, entries,
+        job, header, set, old, first, contract, order, table, entries,
     )
 }

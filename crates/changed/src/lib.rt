@@ -6,10 +6,11 @@ ghost use Rattle.std.specs.Prelude.{◌≡◌};
 ghost use Rattle.header.specs.Refusals.{code};
 ghost use Rattle.header.specs.Answers.{verdict};
 ghost use Rattle.pinset.specs.Answers.{set_of};
-ghost use Rattle.contract.specs.Answers.{contract};
+ghost use Rattle.contract.specs.Answers.{contract_is};
 ghost use Rattle.exporting.specs.Sets.{set_planned};
 ghost use Rattle.exporting.specs.Changes.{set_change_refusal, change_export};
 
+use contract::Contract;
 use header::{Door, Refusal};
 use pinset::PinSet;
 use planned::PLAN_VALUES;
@@ -24,19 +25,15 @@ fn set_refusal(
     order: u32,
     old: &[u8],
     first: usize,
-    rates: &[u16],
-    sizes: &[u16],
-    drains: &[u16],
+    contract: Contract<'_>,
     table: usize,
     entries: usize,
 ) -> Result<(), Refusal>
-    ensures { verdict result ≡ set_change_refusal job.now (set_of set) order old.now first (contract rates.now sizes.now drains.now) table entries }
+    ensures { verdict result ≡ set_change_refusal job.now (set_of set) order old.now first (contract_is contract.entry) table entries }
 {
     let header = pinset::check(job, set, Door::Opening)?.header;
     session::named_verdict(TOTAL, order)?;
-    change::change_verdict(
-        job, header, set, old, first, rates, sizes, drains, table, entries,
-    )
+    change::change_verdict(job, header, set, old, first, contract, table, entries)
 }
 
 // Plans the rest of a programme afresh, behind the first `first` entries of the old plan, under a contract of rates, sizes and drains and with the pins of a set as numbers, in the order that a number names; 13 writes the table alone. Values: distortion, source size and channel size of the whole plan, then the unused drain of each bucket.
@@ -45,15 +42,13 @@ pub fn change(
     set: &[u32],
     old: &[u8],
     first: u32,
-    rates: &[u16],
-    sizes: &[u16],
-    drains: &[u16],
+    contract: Contract<'_>,
     order: u32,
     table: &mut [u32],
     entries: &mut [u8],
     values: &mut [u64],
 ) -> Result<(), Refusal>
-    ensures { set_planned (code result) table.new entries.new values.new ≡ change_export job.now set.now old.now first (contract rates.now sizes.now drains.now) order table.old entries.old values.old }
+    ensures { set_planned (code result) table.new entries.new values.new ≡ change_export job.now set.now old.now first (contract_is contract.entry) order table.old entries.old values.old }
 {
     let own = numbers::set_in(set);
     let kept = first as usize;
@@ -63,9 +58,7 @@ pub fn change(
         order,
         old,
         kept,
-        rates,
-        sizes,
-        drains,
+        contract,
         table.len(),
         entries.len(),
     )?;
@@ -74,8 +67,6 @@ pub fn change(
         return Err(Refusal::List);
     }
     let order = session::order_named(order);
-    let found = change::change(
-        job, own, old, kept, rates, sizes, drains, order, table, entries,
-    );
+    let found = change::change(job, own, old, kept, contract, order, table, entries);
     planned::tell(found, values)
 }

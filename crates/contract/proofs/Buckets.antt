@@ -108,16 +108,16 @@ if_same : (t : Bool) → t ≡ (if t then true else false)
 if_same true = refl
 if_same false = refl
 
-module _ (two : Bool) (sizes drains : List ℕ) (m : length sizes ≡ 1 + extra two) (n : length drains ≡ 1 + extra two) where
-  pub first_idle : kept (limit 17 1 4095 (get_or drains 0 0)) ≡ false → false ≡ each_kept (drain_limits opening (policed_under (contract [] sizes drains)))
+module _ (two : Bool) (rates sizes drains : List ℕ) (m : length sizes ≡ 1 + extra two) (n : length drains ≡ 1 + extra two) where
+  pub first_idle : kept (limit 17 1 4095 (get_or drains 0 0)) ≡ false → false ≡ each_kept (drain_limits opening (policed_under (contract rates sizes drains)))
   unfolding each_kept
-  first_idle e = rw (buckets_are two [] sizes drains m n, e)
+  first_idle e = rw (buckets_are two rates sizes drains m n, e)
 
   module _ (e : kept (limit 17 1 4095 (get_or drains 0 0)) ≡ true) where
-    pub one_drains : two ≡ false → true ≡ each_kept (drain_limits opening (policed_under (contract [] sizes drains)))
+    pub one_drains : two ≡ false → true ≡ each_kept (drain_limits opening (policed_under (contract rates sizes drains)))
     unfolding each_kept one_if
-    one_drains q = rw (buckets_are two [] sizes drains m n, q, e)
+    one_drains q = rw (buckets_are two rates sizes drains m n, q, e)
 
-    pub two_drain : two ≡ true → (r : Bool) → r ≡ kept (limit 17 1 4095 (get_or drains 1 0)) → r ≡ each_kept (drain_limits opening (policed_under (contract [] sizes drains)))
+    pub two_drain : two ≡ true → (r : Bool) → r ≡ kept (limit 17 1 4095 (get_or drains 1 0)) → r ≡ each_kept (drain_limits opening (policed_under (contract rates sizes drains)))
     unfolding each_kept one_if
-    two_drain q r f = rw (buckets_are two [] sizes drains m n, q, e) (f ∙ if_same (kept (limit 17 1 4095 (get_or drains 1 0))))
+    two_drain q r f = rw (buckets_are two rates sizes drains m n, q, e) (f ∙ if_same (kept (limit 17 1 4095 (get_or drains 1 0))))

@@ -43,7 +43,7 @@ header_buckets h = go h.second
     go (Some k) = refl
     go None = refl
 
-pub counted : (h : Header) (rates sizes drains : List ℕ) → Offered (plain h) rates sizes drains → Counted (is_some h.second) rates sizes drains
+pub counted : (h : Header) (rates sizes drains : List ℕ) → Offered (plain h) (contract rates sizes drains) → Counted (is_some h.second) rates sizes drains
 unfolding contract_limits
 counted h rates sizes drains o =
     let k = all_fit _ o.limits in
@@ -55,10 +55,10 @@ module _ (two : Bool) (rates sizes drains : List ℕ) (t : Counted two rates siz
   abbrev Under : List Policed
   Under = policed_under (contract rates sizes drains)
 
-  under_is : Under ≡ bucket_in sizes drains 0 ∷ drop 1 (policed_under (contract [] sizes drains))
+  under_is : Under ≡ bucket_in sizes drains 0 ∷ drop 1 (policed_under (contract rates sizes drains))
   under_is =
       buckets_are two rates sizes drains t.sizes_count t.drains_count
-      ∙ ap (λ (ks : List Policed). bucket_in sizes drains 0 ∷ ks) (second_is two [] sizes drains t.sizes_count t.drains_count)
+      ∙ ap (λ (ks : List Policed). bucket_in sizes drains 0 ∷ ks) (second_is two rates sizes drains t.sizes_count t.drains_count)
 
 second_in : (c : Policer) (ks : List Policed) (k : Policed) → bucket_is c ∷ [] ≡ map bucket_of ks → AllKept (bucket_limits largest_sizes (k ∷ ks)) → (c.size ≤ 63) × (c.drain ≤ 4095)
 unfolding bucket_of
@@ -67,7 +67,7 @@ second_in c (l ∷ ls) k e a =
     let m : bucket_is c ≡ bucket_of l = cc in
     (omega (arith, ap (λ (b : model.Bucket). b.size) m), omega (arith, ap (λ (b : model.Bucket). b.drain) m))
 
-pub line_made : (h : Header) (rates sizes drains list : List ℕ) (first : Policer) (second : std.Option Policer) → Offered (plain h) rates sizes drains → bucket_is first ≡ bucket_of (bucket_in sizes drains 0) → option_to_list (option_map bucket_is second) ≡ map bucket_of (drop 1 (policed_under (contract [] sizes drains))) → length list ≡ 16 → take (length rates) list ≡ rates → LineUnder (plain h) (contract rates sizes drains) (record {
+pub line_made : (h : Header) (rates sizes drains list : List ℕ) (first : Policer) (second : std.Option Policer) → Offered (plain h) (contract rates sizes drains) → bucket_is first ≡ bucket_of (bucket_in sizes drains 0) → option_to_list (option_map bucket_is second) ≡ map bucket_of (drop 1 (policed_under (contract rates sizes drains))) → length list ≡ 16 → take (length rates) list ≡ rates → LineUnder (plain h) (contract rates sizes drains) (record {
   buffers = record { decoder = h.decoder; first = first; second = second };
   count = length rates;
   rates = list;
@@ -77,7 +77,7 @@ line_made h rates sizes drains list first second o p q n r =
     let t = counted h rates sizes drains o in
     let k = all_fit _ o.limits in
     let e = under_is _ rates sizes drains t in
-    let a : AllKept (bucket_limits largest_sizes (bucket_in sizes drains 0 ∷ drop 1 (policed_under (contract [] sizes drains)))) = subst (λ (ps : List Policed). AllKept (bucket_limits largest_sizes ps)) e k.1.1.1 in
+    let a : AllKept (bucket_limits largest_sizes (bucket_in sizes drains 0 ∷ drop 1 (policed_under (contract rates sizes drains)))) = subst (λ (ps : List Policed). AllKept (bucket_limits largest_sizes ps)) e k.1.1.1 in
     record {
       is =
           ap₂ (λ (b : model.Bucket) (bs : List model.Bucket). record { decoder = h.decoder; buckets = b ∷ bs; rates = take (length rates) list }) p q

@@ -52,9 +52,8 @@ fn see(job: &[u8], set: PinSet, made: Handed, unit: u16, table: &mut [u32]) -> S
     requires { Made job.now (set_of set) unit (handed made) }
     ensures { SeesFor job.now (set_of set) unit (handed made) table.old (seen result table.new) }
 {
-    let answer = made.answer;
     let new = made.set;
-    match answer {
+    match made.answer {
         Err(refusal) => Seen {
             answer: Err(refusal),
             set: new,

@@ -1,5 +1,4 @@
 -- Laws that belong to no one function.
-pub mod Product
 pub mod Drawing
 pub mod Refusing
 pub mod Answering

@@ -28,18 +28,11 @@ const MOST_RATES: usize = Header::MAX_RATES as usize;
 
 const MOST_CHOICES: usize = Header::MAX_CHOICES as usize;
 
-// The product of two numbers, wrapping at 32 bits.
-fn wrapping_mul(x: u32, y: u32) -> u32
-    ensures { result ≡ (x * y) % 4294967296 }
-{
-    ((x as u64) * (y as u64) % 4294967296) as u32
-}
-
 // The state after a draw.
 fn next_state(state: u32) -> u32
     ensures { result ≡ next state }
 {
-    std::num::wrapping_add_u32(wrapping_mul(state, TIMES), MORE)
+    state.wrapping_mul(TIMES).wrapping_add(MORE)
 }
 
 // The draw that led to a state: its upper half, since the lower bits of such a state repeat soon.

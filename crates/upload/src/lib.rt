@@ -14,6 +14,7 @@ ghost use Rattle.exporting.specs.Playlists.{playlisted, playlist_export};
 ghost use Rattle.exporting.specs.Sets.{set_export, call_export, seen, see_export, set_planned, set_plan_export, set_replay_export};
 ghost use Rattle.exporting.specs.Exports.{opened, open_export, called, calls_export, planned, plan_export, replayed, replay_export, filled, report_export, turn_export, written, write_export, trial_export};
 
+use contract::Contract;
 use header::Door;
 
 // Opens a job. Values: how many bytes it took, N, T, and how many words its table has.
@@ -179,8 +180,13 @@ pub fn upload_change(
 ) -> u32
     ensures { set_planned result table.new entries.new values.new ≡ change_export job.now set.now old.now first (contract rates.now sizes.now drains.now) order table.old entries.old values.old }
 {
+    let contract = Contract {
+        rates,
+        sizes,
+        drains,
+    };
     values::code(changed::change(
-        job, set, old, first, rates, sizes, drains, order, table, entries, values,
+        job, set, old, first, contract, order, table, entries, values,
     ))
 }
 

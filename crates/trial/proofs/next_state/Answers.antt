@@ -5,4 +5,4 @@ use Rattle.trial.proofs.next_state.Goals as goal
 
 pub returns : goal.returns
 unfolding next
-returns c = omega (arith, c.wrapping_add_u32.ensures, c.wrapping_mul.ensures)
+returns c = omega arith

@@ -1,4 +1,4 @@
--- `contract::rising` meets its contract: no limit is broken exactly where each is kept.
+-- `contract::Contract::rising` meets its contract: no limit is broken exactly where each is kept.
 use mathlib.Core.Path.{◌≡◌, sym, ◌∙◌}
 use mathlib.Core.List.{List}
 use Rattle.std.specs.Prelude.{Ok, Err, is_ok}
@@ -6,7 +6,7 @@ use Rattle.format.specs.Limits.{Limit, each_kept, broken}
 use Rattle.format.proofs.Limits.{not_some, none_broken, all_kept, fit_all, not_all}
 use Rattle.header.specs.Answers.{verdict}
 use Rattle.header.proofs.Told.{Verdict}
-use Rattle.contract.proofs.rising.Goals as goal
+use Rattle.contract.proofs.Contract.rising.Goals as goal
 
 tells : (v : Verdict) (ls : List Limit) → verdict v ≡ broken ls → is_ok v ≡ each_kept ls
 tells (Ok u) ls b = fit_all ls (all_kept ls (sym b))

@@ -1,18 +1,18 @@
--- `contract::offered` meets its contract: each test that fails breaks a limit, and where none of the counts does the buckets decide.
+-- `contract::Contract::offered` meets its contract: each test that fails breaks a limit, and where none of the counts does the buckets decide.
 use mathlib.Core.Path.{sym, ◌∙◌}
 use native.Mathlib.Omega.{arith}
 use Rattle.format.proofs.Limits.{not_all}
 use Rattle.changing.specs.NewContract.{contract_limits}
 use Rattle.contract.proofs.Buckets.{two_long, first_out, one_in, two_in}
-use Rattle.contract.proofs.offered.Goals as goal
+use Rattle.contract.proofs.Contract.offered.Goals as goal
 
-pub returns-then-sizes-buckets : goal.returns-then-sizes-buckets
+pub returns-then-self-buckets : goal.returns-then-self-buckets
 unfolding contract_limits
-returns-then-sizes-buckets c = not_all _ (λ o. c.if-sizes-buckets.true (omega (arith, o.0)))
+returns-then-self-buckets c = not_all _ (λ o. c.if-self-buckets.true (omega (arith, o.0)))
 
-pub returns-then-drains-buckets : goal.returns-then-drains-buckets
+pub returns-then-self-buckets-2 : goal.returns-then-self-buckets-2
 unfolding contract_limits
-returns-then-drains-buckets c = not_all _ (λ o. c.if-drains-buckets.true (omega (arith, o.1.0)))
+returns-then-self-buckets-2 c = not_all _ (λ o. c.if-self-buckets-2.true (omega (arith, o.1.0)))
 
 pub returns-in_default : goal.returns-in_default
 unfolding contract_limits

@@ -1,10 +1,10 @@
--- `contract::line_under` meets its contract: the rates are copied, and the buckets read are the contract's.
+-- `contract::Contract::line_under` meets its contract: the rates are copied, and the buckets read are the contract's.
 use mathlib.Core.Path.{sym, ap, ◌∙◌}
 use native.Mathlib.Omega.{arith}
 use lib.Seq.{length-take-le}
 use Rattle.format.specs.JobBytes.{bucket_of}
 use Rattle.contract.proofs.Lines.{rates_first, counted, line_made}
-use Rattle.contract.proofs.line_under.Goals as goal
+use Rattle.contract.proofs.Contract.line_under.Goals as goal
 
 pub slice_bounds-list-end : goal.slice_bounds-list-end
 slice_bounds-list-end c = (counted _ _ _ _ c.requires).few
@@ -19,11 +19,11 @@ pub bucket_at-requires : goal.bucket_at-requires
 bucket_at-requires c = let t = counted _ _ _ _ c.requires in
     (omega (arith, t.sizes_count), omega (arith, t.drains_count))
 
-pub second_of-requires : goal.second_of-requires
-second_of-requires c = let t = counted _ _ _ _ c.requires in
+pub second-requires : goal.second-requires
+second-requires c = let t = counted _ _ _ _ c.requires in
     rw c.is_some.ensures (t.sizes_count, t.drains_count)
 
 pub returns : goal.returns
 returns c =
     let l = rates_first _ _ _ c.copy_from_slice.ensures.after (counted _ _ _ _ c.requires).few in
-    line_made _ _ _ _ _ _ _ c.requires (c.of.ensures ∙ ap bucket_of c.bucket_at.ensures) c.second_of.ensures l.0 l.1
+    line_made _ _ _ _ _ _ _ c.requires (c.of.ensures ∙ ap bucket_of c.bucket_at.ensures) c.second.ensures l.0 l.1

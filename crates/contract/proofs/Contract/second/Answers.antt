@@ -1,4 +1,4 @@
--- `contract::second_of` meets its contract: the bucket in the second place, or none.
+-- `contract::Contract::second` meets its contract: the bucket in the second place, or none.
 use mathlib.Core.Path.{◌∙◌, ap}
 use native.Mathlib.Omega.{arith}
 use Rattle.base.specs.If.{one_if}
@@ -6,7 +6,7 @@ use mathlib.Core.List.{[], ◌∷◌, map}
 use Rattle.model.specs.Job.{Bucket}
 use Rattle.format.specs.JobBytes.{bucket_of}
 use Rattle.contract.proofs.Buckets.{two_long, second_is, no_second}
-use Rattle.contract.proofs.second_of.Goals as goal
+use Rattle.contract.proofs.Contract.second.Goals as goal
 
 pub bucket_at-requires : goal.bucket_at-requires
 bucket_at-requires c =
@@ -15,7 +15,7 @@ bucket_at-requires c =
 pub returns-then-two : goal.returns-then-two
 unfolding one_if
 returns-then-two c =
-    let e = second_is _ [] _ _ c.requires.0 c.requires.1 in
+    let e = second_is _ c.args.self.rates.now _ _ c.requires.0 c.requires.1 in
     ap (λ (b : Bucket). b ∷ []) (c.of.ensures ∙ ap bucket_of c.bucket_at.ensures) ∙ ap (map bucket_of) (rw c.if-two.true at e)
 
 pub returns : goal.returns
