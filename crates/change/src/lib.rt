@@ -2,7 +2,7 @@
 
 #![tactic(auto)]
 
-ghost use Rattle.std.specs.Prelude.{◌≡◌, [], ◌*◌, length, take, drop};
+ghost use Rattle.std.specs.Prelude.{◌≡◌, [], ◌*◌, ◌≤◌, ◌++◌, length, take, drop};
 ghost use Rattle.std.specs.Option.{option_to_list};
 ghost use Rattle.model.specs.Step.{overfull};
 ghost use Rattle.model.specs.Replay.{plus_each, plus};
@@ -66,6 +66,17 @@ fn carried_fits(buffers: Buffers, at: Levels) -> bool
     }
 }
 
+// The first bytes of the old entries, in front of the list's others.
+fn put_first(entries: &mut [u8], old: &[u8], count: usize)
+    requires { (count ≤ length old.now) × (count ≤ length entries.old) }
+    ensures { entries.new ≡ take count old.now ++ drop count entries.old }
+{
+    // kept as an index loop: by copy_from_slice the archive needs memmove from outside, and it is to need memcpy and memset alone
+    for i in 0..count {
+        entries[i] = old[i];
+    }
+}
+
 // Plans the rest, behind the first `first` entries, whose totals are known. These entries are copied when the rest has a plan.
 fn plan_rest(
     order: Order,
@@ -96,7 +107,7 @@ fn plan_rest(
         table,
         &mut entries[start..],
     )?;
-    entries[..start].copy_from_slice(&old[..start]);
+    put_first(entries, old, start);
     Ok(both_totals(before, rest))
 }
 

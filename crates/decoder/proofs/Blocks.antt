@@ -1,5 +1,5 @@
--- Blocks of words where the first pass makes them, from the last to the first.
-use Prim.Native.Nat.{ℕ, zero, suc, ◌*◌, ◌<◌, ◌≤◌, min}
+-- Blocks of words where the first pass makes them: no number becomes larger, and the blocks are made from the last to the first.
+use Prim.Native.Nat.{ℕ, zero, suc, ◌+◌, ◌-◌, ◌*◌, ◌<◌, ◌≤◌, min}
 use mathlib.Core.Path.{◌≡◌, refl, ◌∙◌}
 use mathlib.Core.List.{List}
 use native.Mathlib.Decide.{dec_lt}
@@ -9,7 +9,16 @@ use lib.ListN.{get_or}
 use Rattle.model.specs.Table.{mark}
 use Rattle.planning.specs.Passes.{least_below}
 use Rattle.planning.proofs.Passes.{least_marked}
-use Rattle.block.specs.Blocks.{Made}
+use Rattle.block.specs.Blocks.{Lessened, Made}
+
+-- no number becomes larger
+pub lessened_low : (from n : ℕ) (f : ℕ → ℕ) (old new : List ℕ) → Lessened from n f old new → (i : ℕ) → get_or new i 0 ≤ get_or old i 0
+lessened_low from n f old new a i = go (dec_lt i from) (dec_lt i (from + n))
+  where
+    go : Dec (i < from) → Dec (i < from + n) → get_or new i 0 ≤ get_or old i 0
+    go (yes p) q = omega (arith, a.before i p)
+    go (no p) (yes q) = let e : from + (i - from) ≡ i = omega arith in omega (arith, rw e at (a.here (i - from) (omega arith)))
+    go (no p) (no q) = omega (arith, a.after i (omega arith))
 
 -- more words before those
 pub made_ahead : (low mid high : ℕ) (f g : ℕ → ℕ) (old new last : List ℕ) → low ≤ mid → mid ≤ high → Made mid high f old new → Made low mid g new last → ((i : ℕ) → low ≤ i → i < mid → g i ≡ f i) → Made low high f old last

@@ -19,6 +19,7 @@ use Rattle.planning.specs.Prices.{price_open, price_at}
 use Rattle.block.specs.Blocks.{Lessened, Lowered, LeastOf}
 use Rattle.decoder.specs.Near.{closed, NearWords, Neared}
 use Rattle.block.proofs.Blocks.{part_at, part_size}
+use Rattle.decoder.proofs.Blocks.{lessened_low}
 use Rattle.decoder.proofs.Near.{closed_min, closed_marked, combined_closed}
 
 -- a size: the words so many rows before those of the block
@@ -35,7 +36,7 @@ module _ (measure : Measure) (count width start : ℕ) (words : List ℕ) (size 
   size_neared : (old new : List ℕ) → Lessened (back - start) (length read) (λ i. combine measure price (get_or read i 0)) old new → Neared count (λ i. row_offer (combine measure) width words (start + i) (price_open size price)) old new
   unfolding price_open row_offer
   size_neared old new a =
-      record { size = a.size; each = λ i h. rw (le-ltb bound price fits) (go i h (dec_lt (start + i) back)) }
+      record { size = a.size; low = λ i h. lessened_low (back - start) (length read) _ old new a i; each = λ i h. rw (le-ltb bound price fits) (go i h (dec_lt (start + i) back)) }
     where
       go : (i : ℕ) → i < count → Dec (start + i < back) → closed (get_or new i 0) ≡ min (closed (get_or old i 0)) (if ltb (start + i) back then mark else charged (combine measure) price (get_or words (start + i - back) 0))
       go i h (yes b) = rw (lt-ltb (start + i) back b, a.before i (omega arith)) (omega (arith, closed_marked (get_or old i 0)))

@@ -107,14 +107,14 @@ near_part from n words h a = record { each = λ i k. let b : i < n = omega (arit
 pub nearest_none : (n : ℕ) (f : ℕ → ℕ → ℕ) (old new : List ℕ) → length old ≡ 256 → n ≤ 256 → Made 0 n (λ i. far) old new → NearestOf n 0 f new
 unfolding least_below closed
 nearest_none n f old new h few a = record {
-  numbers = record { size = a.size ∙ h; few = few };
+  numbers = record { size = a.size ∙ h; few = few; low = record { each = λ i k. omega (arith, a.here i (omega arith) k) } };
   each = λ i k. rw (a.here i (omega arith) k) refl;
 }
 
 pub nearest_more : (n m : ℕ) (f : ℕ → ℕ → ℕ) (old new : List ℕ) → NearestOf n m f old → Neared n (λ i. f i m) old new → NearestOf n (m + 1) f new
 unfolding least_below
 nearest_more n m f old new a b = record {
-  numbers = record { size = b.size ∙ a.numbers.size; few = a.numbers.few };
+  numbers = record { size = b.size ∙ a.numbers.size; few = a.numbers.few; low = record { each = λ i k. omega (arith, b.low i k, a.numbers.low.each i k) } };
   each = λ i k. b.each i k ∙ rw (add-one m, a.each i k);
 }
 

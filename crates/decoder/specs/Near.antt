@@ -22,6 +22,7 @@ pub record Upto (n top : ℕ) (numbers : List ℕ) : Type 0 where
 pub record Numbers (n : ℕ) (block : List ℕ) : Type 0 where
   pub size : length block ≡ 256
   pub few : n ≤ 256
+  pub low : Upto n far block
 
 -- words that are read as distortions, and far
 pub record NearWords (words : List ℕ) : Type 0 where
@@ -30,6 +31,7 @@ pub record NearWords (words : List ℕ) : Type 0 where
 -- the first n numbers are lessened, so that what each stands for is lessened to what is offered to its place
 pub record Neared (n : ℕ) (f : ℕ → ℕ) (old new : List ℕ) : Type 0 where
   pub size : length new ≡ length old
+  pub low : (i : ℕ) → i < n → get_or new i 0 ≤ get_or old i 0
   pub each : (i : ℕ) → i < n → closed (get_or new i 0) ≡ min (closed (get_or old i 0)) (f i)
 
 -- a block of such numbers, each of the first n of which stands for the least of what m offer to its place

@@ -86,7 +86,7 @@ fn close_words(block: &mut [u32; 256], count: usize)
 // A distortion and what follows it.
 fn combined(distortion: u32, number: u32, measure: Measure) -> u32
     requires { (distortion ≤ bound) × (number ≤ far) }
-    ensures { result ≡ combine measure distortion number }
+    ensures { (result ≡ combine measure distortion number) × (result ≤ 2147483647) }
 {
     match measure {
         Measure::Sum => distortion + number,

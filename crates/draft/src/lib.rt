@@ -2,7 +2,8 @@
 
 #![tactic(auto)]
 
-ghost use Rattle.std.specs.Prelude.{◌≡◌, length};
+ghost use Rattle.std.specs.Prelude.{◌≡◌, ◌≤◌, length, drop, if◌then◌else◌};
+ghost use Rattle.std.proofs.Math.Option.{some};
 ghost use Rattle.format.specs.Limits.{broken};
 ghost use Rattle.format.specs.JobBytes.{rate_limits, coding_limits};
 ghost use Rattle.format.specs.Places.{job_size};
@@ -48,15 +49,33 @@ pub fn rates_verdict(rates: &[u16]) -> Result<(), Refusal>
     Ok(())
 }
 
+// How many codings are tested before a refusal can end it.
+const BLOCK: usize = 64;
+
+// Whether the codings in these places are within their limits: all are looked at, so that the machine does several at a time.
+fn block_fits(sizes: &[u16], distortions: &[u32], from: usize, to: usize) -> bool
+    requires { (length sizes.now ≡ length distortions.now) × (from ≤ to) × (to ≤ length sizes.now) }
+    ensures { broken (coding_limits (drop from (codings_from sizes.now distortions.now))) ≡ (if result then broken (coding_limits (drop to (codings_from sizes.now distortions.now))) else some 5) }
+{
+    let mut fit = true;
+    for x in from..to {
+        fit = fit & header::coding_fits(sizes[x], distortions[x]);
+    }
+    fit
+}
+
 // 5 where a size or a distortion is over its limit.
 fn codings_verdict(sizes: &[u16], distortions: &[u32]) -> Result<(), Refusal>
     requires { length sizes.now ≡ length distortions.now }
     ensures { verdict result ≡ broken (coding_limits (codings_from sizes.now distortions.now)) }
 {
-    for x in 0..sizes.len() {
-        if !header::coding_fits(sizes[x], distortions[x]) {
+    let mut at = 0;
+    while at < sizes.len() {
+        let to = at + BLOCK.min(sizes.len() - at);
+        if !block_fits(sizes, distortions, at, to) {
             return Err(Refusal::Codings);
         }
+        at = to;
     }
     Ok(())
 }

@@ -5,27 +5,18 @@ use mathlib.Core.List.{List, [], ◌∷◌, ◌++◌, append_assoc}
 use native.Mathlib.Omega.{arith}
 use native.Mathlib.Nat.{add-zero}
 use borrow.Author.Tests.{lt-leb}
-use lib.ListN.{length, take, drop, replicate, length-drop}
-use lib.Seq.{take_all, sets, length-sets, sets-eq}
+use lib.ListN.{length, take, drop, replicate}
+use lib.Seq.{sets, length-sets, sets-eq}
 use borrow.Rule.Slice.PartMut.{put_mid, Post-is}
 use Rattle.std.specs.Int.{w16, w32, from_le_bytes, to_le_bytes}
 use Rattle.format.specs.Fields.{number, bytes}
 use Rattle.format.specs.Places.{field_at}
-use Rattle.format.proofs.Places.{field_there}
-use Rattle.std.specs.List.{slice_range}
 use Rattle.fields.specs.Written.{put_at}
 
 -- a field that is not wholly there is 0
 pub field_past : (w : ℕ) (b : List ℕ) (at : ℕ) → length b < at + w → field_at w b at ≡ 0
 unfolding field_at
 field_past w b at h = rw (lt-leb (at + w) (length b) h)
-
--- one that is there stands at the front of what is left from its place on
-pub field_front : (w : ℕ) (b rest : List ℕ) (at : ℕ) → at ≤ length b → rest ≡ slice_range b at (length b) → w ≤ length rest → number (take w rest) ≡ field_at w b at
-field_front w b rest at h e f =
-    let d : rest ≡ drop at b = e ∙ take_all (length b - at) (drop at b) (rw length-drop (omega arith)) in
-    let n : length rest ≡ length b - at = ap length d ∙ length-drop at b in
-    ap (λ l. number (take w l)) d ∙ sym (field_there w b at (omega arith))
 
 -- what is written behind what is written
 put_more : (l : List ℕ) (at : ℕ) (vs ws : List ℕ) → sets l at (vs ++ ws) ≡ sets (sets l at vs) (at + length vs) ws

@@ -27,13 +27,11 @@ pub fn u32_at(s: &[u8], at: usize) -> u32
 fn field<const N: usize>(s: &[u8], at: usize) -> [u8; N]
     ensures { number result ≡ field_at N s.now at }
 {
-    let Some(rest) = s.get(at..) else {
-        return [0; N];
-    };
-    match rest.first_chunk() {
-        Some(field) => *field,
-        None => [0; N],
+    let mut field = [0; N];
+    if N <= s.len() && at <= s.len() - N {
+        field.copy_from_slice(&s[at..at + N]);
     }
+    field
 }
 
 // The field of two bytes at a place, 0 where the bytes end before it does.

@@ -1,5 +1,5 @@
 -- The refusals by their numbers in documents 01 and 02.
-use Rattle.std.specs.Prelude.{ℕ, ◌≡◌, Result, Ok, Err}
+use Rattle.std.specs.Prelude.{ℕ, ◌≡◌, List, decimal, Result, Ok, Err}
 use Rattle.header.specs.declared.refusal.Refusal.{Refusal}
 use Rattle.header.specs.declared.refusal.Refusal.TheVariants as r
 
@@ -35,3 +35,7 @@ Numbered r n = n ≡ number r
 abbrev pub code : {A : Type 0} → Result A Refusal → ℕ
 code (Ok a) = 0
 code (Err r) = number r
+
+-- what is printed of a refusal: its number's digits
+abbrev pub printed : Refusal → List ℕ
+printed r = decimal (number r)

@@ -1,6 +1,7 @@
 // What calls are refused for, each by its number in documents 01 and 02.
 
-ghost use Rattle.header.specs.Refusals.{Numbered};
+ghost use Rattle.std.specs.Prelude.{Some};
+ghost use Rattle.header.specs.Refusals.{Numbered, printed};
 
 use std::fmt;
 
@@ -93,6 +94,8 @@ impl From<Refusal> for u32 {
 
 // Its number.
 impl fmt::Display for Refusal {
+    ghost output = { λ refusal. Some (printed refusal) };
+
     fn fmt<W: fmt::Write>(&self, f: &mut fmt::Formatter<W>) -> fmt::Result {
         write!(f, "{}", u8::from(*self))
     }

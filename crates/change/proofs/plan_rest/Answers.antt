@@ -11,9 +11,9 @@ use Rattle.table.specs.Answers.{job_on}
 use Rattle.best.specs.Answers.{order_is}
 use Rattle.interval.specs.Answers.{levels_of}
 use Rattle.model.specs.Best.{total}
-use lib.ListN.{drop}
+use lib.ListN.{take, drop}
 use mathlib.Core.List.{List, ◌++◌}
-use mathlib.Core.Path.{ap, ap₂, ◌∙◌}
+use mathlib.Core.Path.{ap, ◌∙◌}
 use Prim.Native.Nat.{ℕ, ◌*◌}
 use Rattle.change.proofs.plan_rest.Goals as goal
 
@@ -35,4 +35,4 @@ pub returns : goal.returns
 unfolding aim_is
 returns c =
     let a = c.args in
-    rest_best _ _ _ _ _ _ a.entries.now _ _ (3 * a.first) c.requires.space _ _ _ _ _ (c.in_ok-rest.ensures ∙ ap (search_in (job_on a.job.now a.line) (lines a.header.units a.pins.now) total (order_is a.order) a.first (levels_of a.at) a.table.now) (part_all a.entries.now (3 * a.first))) c.both_totals.ensures (ap₂ (λ (w l : List ℕ). w ++ drop (3 * a.first) l) c.copy_from_slice.ensures.after (put_back a.entries.now _ (3 * a.first) c.requires.space))
+    rest_best _ _ _ _ _ _ a.entries.now _ _ (3 * a.first) c.requires.space _ _ _ _ _ (c.in_ok-rest.ensures ∙ ap (search_in (job_on a.job.now a.line) (lines a.header.units a.pins.now) total (order_is a.order) a.first (levels_of a.at) a.table.now) (part_all a.entries.now (3 * a.first))) c.both_totals.ensures (c.put_first.ensures ∙ ap (λ (l : List ℕ). take (3 * a.first) a.old.now ++ drop (3 * a.first) l) (put_back a.entries.now _ (3 * a.first) c.requires.space))

@@ -1,22 +1,20 @@
 -- `fields::field` meets its contract, by where the bytes end.
-use mathlib.Core.Path.{ap, ◌∙◌}
+use Prim.Native.Nat.{◌+◌, ◌-◌}
+use mathlib.Core.Path.{◌≡◌, sym, ap, ◌∙◌}
 use native.Mathlib.Omega.{arith}
 use Rattle.format.specs.Fields.{number}
-use Rattle.fields.proofs.Setting.{field_front, zeros_past}
+use Rattle.format.proofs.Places.{field_there}
+use Rattle.fields.proofs.Setting.{zeros_past}
 use Rattle.fields.proofs.field.Goals as goal
+use Rattle.fields.proofs.field.Goals.{else-s-via-then-s+else-at-s, else-s-via-else-s}
 
--- first, as it is what a field cut short would break
-pub returns-in-None : goal.returns-in-None
-returns-in-None g c =
-    let k = c.in-None.ensures.cases in
-    let (h, _, e, n) = c.in-Some.ensures.lookup.0 in
-    zeros_past _ _ _ (omega arith)
+pub returns-then-at-s : goal.returns-then-at-s
+returns-then-at-s g c =
+    let w : c.args.at + g.row.N - c.args.at ≡ g.row.N = omega arith in
+    ap number c.copy_from_slice.ensures.after ∙ rw w (sym (field_there _ _ _ (omega (arith, c.if-s.true, c.if-at-s.true))))
 
-pub returns-in-Some-first_chunk : goal.returns-in-Some-first_chunk
-returns-in-Some-first_chunk g c =
-    let k = c.in-Some-first_chunk.ensures.cases in
-    let (h, _, e, _) = c.in-Some.ensures.lookup.0 in
-    ap number k.same ∙ field_front _ _ _ _ h e k.enough
-
-pub returns-in_default : goal.returns-in_default
-returns-in_default g c = zeros_past _ _ _ (grind (arith, c.in_default.ensures.lookup.0))
+pub returns-else-s : goal.returns-else-s
+returns-else-s g c = elim c.else-s.branch [
+  | else-s-via-then-s+else-at-s w ↦ zeros_past _ _ _ (omega (arith, w.if-s.true, w.if-at-s.false))
+  | else-s-via-else-s w ↦ zeros_past _ _ _ (omega (arith, w.if-s.false))
+]
