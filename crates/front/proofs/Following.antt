@@ -17,17 +17,11 @@ use Rattle.changing.specs.Calls.{remaining, front, carried, is_clean}
 use Rattle.interval.specs.declared.Interval.{Interval}
 use Rattle.interval.specs.declared.Levels.{Levels}
 use Rattle.interval.specs.declared.Totals.{Totals}
-use Rattle.interval.specs.Answers.{levels_of, outcome_is, totals_of, added, no_totals}
+use Rattle.interval.specs.Answers.{levels_of, totals_of, added, no_totals}
 use Rattle.interval.proofs.Adding.{Added, added_start, added_on, added_end}
 use Rattle.course.specs.Answers.{IsInterval}
 use Rattle.front.specs.Answers.{FrontOf, leads, breaks}
-use Rattle.std.specs.Prelude.{Some, None, Result, Ok, Err}
-use Rattle.std.specs.Result.{result_ok}
-
--- an answer whose value is this one
-pub step_reached : {E : Type 0} (r : Result Levels E) (next : Levels) → result_ok r ≡ Some next → r ≡ Ok next
-step_reached (Ok l) next e = cc
-step_reached (Err w) next e = absurd (cc)
+use Rattle.std.specs.Prelude.{Some, None}
 
 -- the first entries of a plan are fewer entries from the same place on
 first_entries : (f : ℕ → Entry) (i n c : ℕ) → c ≤ n → take c (entries_from f i n) ≡ entries_from f i c
@@ -75,14 +69,9 @@ module _ (j : Job) (m : PinMap) (count : ℕ) (entries : List ℕ) where
           })
 
       -- an interval with a violation ends it
-      going_stop : (w : v.Violation) → outcome j m (suc i) (levels_of at) (entry_at entries i) ≡ violates w → FrontOf j m count entries None
+      pub going_stop : (w : v.Violation) → outcome j m (suc i) (levels_of at) (entry_at entries i) ≡ violates w → FrontOf j m count entries None
       unfolding replay go_on is_clean
       going_stop w o = breaks (ap is_clean g.ends ∙ rw (left_more i more, o))
-
-      pub step_stopped : (r : Result Levels _) → result_ok r ≡ None → outcome j m (suc i) (levels_of at) (entry_at entries i) ≡ outcome_is r → FrontOf j m count entries None
-      unfolding outcome_is
-      step_stopped (Ok l) e o = absurd (cc)
-      step_stopped (Err w) e o = going_stop _ o
 
     -- all are done
     pub going_end : i ≡ count → FrontOf j m count entries (Some (record { at = at; sum = sum }))

@@ -33,7 +33,9 @@ pub fn follow(
     let mut sum = Totals::none(buffers);
     for place in 0..count {
         let x = course::interval_at(job, header, pins, entries, place);
-        let next = interval::step(buffers, at, x).ok()?;
+        let Ok(next) = interval::step(buffers, at, x) else {
+            return None;
+        };
         sum = interval::with_interval(sum, buffers, at, x);
         at = next;
     }

@@ -1,4 +1,5 @@
 -- `calls::answer_number` meets its contract.
+use native.Mathlib.Omega.{arith}
 use Rattle.calling.specs.Sessions.{answer_number}
 use Rattle.calls.proofs.answer_number.Goals as goal
 
@@ -8,4 +9,4 @@ returns-in-Ok c = rw c.in-Ok.is
 
 pub returns-in-Err : goal.returns-in-Err
 unfolding answer_number
-returns-in-Err c = rw c.in-Err.is c.from.ensures
+returns-in-Err c = rw c.in-Err.is (grind arith)

@@ -1,5 +1,5 @@
 -- `enlarge::line_with` meets its contract: by what it computes to.
-use mathlib.Core.Path.{refl}
+use native.Mathlib.Omega.{arith}
 use Rattle.interval.specs.Answers.{line_of}
 use Rattle.line.specs.Answers.{line_is}
 use Rattle.enlarging.specs.Larger.{with_bucket, with_size}
@@ -10,9 +10,9 @@ unfolding line_is line_of with_size with_bucket
 returns c =
     let f = c.requires.0 in
     record {
-      is = refl;
+      is = grind arith;
       fits = record {
-        buffers = record { decoder = f.buffers.decoder; bucket = c.requires.1; drain = f.buffers.drain; second = f.buffers.second };
+        buffers = record { decoder = f.buffers.decoder; bucket = c.requires.1; drain = f.buffers.drain; second = λ b e. grind (arith, f.buffers.second) };
         rates = f.rates;
         rate = f.rate;
         size = f.size;

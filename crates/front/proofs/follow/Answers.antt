@@ -1,10 +1,10 @@
 -- `front::follow` meets its contract: each interval goes on or ends it.
-use Rattle.front.proofs.Following.{step_reached, going_start, going_on, step_stopped, going_end}
+use Rattle.front.proofs.Following.{going_start, going_on, going_stop, going_end}
 use Rattle.replay.proofs.Replaying.{buckets_of_job, outcome_told}
 use Rattle.format.proofs.Opened.{job_limits, few_intervals, intervals_are, start_is}
 use Rattle.interval.specs.Answers.{outcome_is, start_of}
 use Rattle.header.specs.Answers.{plain}
-use mathlib.Core.Path.{refl, sym, ◌∙◌}
+use mathlib.Core.Path.{sym, ◌∙◌}
 use Prim.Native.Nat.{◌<◌}
 use native.Mathlib.Omega.{arith}
 use borrow.Author.Rules.{rules}
@@ -21,10 +21,11 @@ unfolding plain
 interval_at-x-requires c =
     (c.requires.plan, omega (arith, c.requires.few), c.requires.pins_size)
 
-pub returns-in_err-next : goal.returns-in_err-next
-returns-in_err-next c =
-    let o = outcome_told _ _ c.requires.plan.opens _ c.of-buffers.ensures _ _ _ _ c.loop-place.at c.interval_at-x.ensures _ _ c.step.ensures refl in
-    rw c.from_residual.ensures (step_stopped _ _ _ _ c.loop-place.place c.loop-place.at c.loop-place.sum c.loop-place.invariant.1 (omega arith) _ (sym c.ok.ensures.value ∙ c.in_err-next.was) o)
+pub returns-in_default : goal.returns-in_default
+unfolding outcome_is
+returns-in_default c =
+    let o = outcome_told _ _ c.requires.plan.opens _ c.of-buffers.ensures _ _ _ _ c.loop-place.at c.interval_at-x.ensures _ _ c.step.ensures c.in_default.is in
+    going_stop _ _ _ _ c.loop-place.place c.loop-place.at c.loop-place.sum c.loop-place.invariant.1 (omega arith) _ o
 
 pub with_interval-sum-requires : goal.with_interval-sum-requires
 with_interval-sum-requires c =
@@ -37,7 +38,7 @@ with_interval-sum-requires c =
 pub loop-place-preserved : goal.loop-place-preserved
 unfolding outcome_is
 loop-place-preserved c =
-    let o = outcome_told _ _ c.requires.plan.opens _ c.of-buffers.ensures _ _ _ _ c.loop-place.at c.interval_at-x.ensures _ _ c.step.ensures (step_reached _ _ (sym c.ok.ensures.value ∙ c.in_ok-next.was)) in
+    let o = outcome_told _ _ c.requires.plan.opens _ c.of-buffers.ensures _ _ _ _ c.loop-place.at c.interval_at-x.ensures _ _ c.step.ensures c.in-Ok.is in
     (omega arith, going_on _ _ _ _ c.loop-place.place c.loop-place.at c.loop-place.sum c.loop-place.invariant.1 (omega arith) _ o _ _ _ (buckets_of_job _ _ c.requires.plan.opens _ c.of-buffers.ensures) c.interval_at-x.ensures c.with_interval-sum.ensures (job_limits _ _ c.requires.plan.opens).drains)
 
 pub returns : goal.returns

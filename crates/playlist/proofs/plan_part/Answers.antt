@@ -1,6 +1,7 @@
 -- `playlist::plan_part` meets its contract.
 use Rattle.header.proofs.Told.{handed_as}
 use mathlib.Core.Path.{sym, ◌∙◌}
+use native.Mathlib.Omega.{arith}
 use Rattle.header.specs.Answers.{door_of}
 use Rattle.job.proofs.Answers.{answer_took, answer_refused}
 use Rattle.playlist.specs.Answers.{turned}
@@ -30,4 +31,4 @@ plan_opened-requires c =
 pub returns : goal.returns
 unfolding door_of
 returns c =
-    c.plan_opened.ensures ∙ part_opened _ c.args.standing _ _ _ _ _ (answer_took _ _ c.in_ok-header.ensures) c.if-taken-job.false (sym c.alike.ensures ∙ c.if-not-alike.false)
+    grind (arith, c.plan_opened.ensures ∙ part_opened _ c.args.standing _ _ _ _ _ (answer_took _ _ c.in_ok-header.ensures) c.if-taken-job.false (sym c.alike.ensures ∙ c.if-not-alike.false))
