@@ -1,4 +1,4 @@
--- `enlarge::line_with` meets its contract: by what it computes to.
+-- `enlarge::line_with` meets its contract: the first bucket has the size, and all else is the line's.
 use native.Mathlib.Omega.{arith}
 use Rattle.interval.specs.Answers.{line_of}
 use Rattle.line.specs.Answers.{line_is}
